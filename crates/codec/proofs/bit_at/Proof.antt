@@ -1,0 +1,21 @@
+-- `codec::bit_at` meets its contract. Assumes nothing.
+use Rattle.codec.specs.Answers.{bit-past, bit-short, bit-set, bit-unset}
+use mathlib.Core.Path.{sym}
+use borrow.Author.Needs.{needs}
+use Rattle.codec.proofs.bit_at.Statement.{statement}
+use Rattle.codec.proofs.bit_at.Tie as tie
+
+returns : tie.Need-returns
+returns c = sym (bit-past _ _ _ _ _ (c .before .before .num .ensures .0) (c .before .num2 .ensures .0) (c .if1 .taken))
+
+returns-2 : tie.Need-returns-2
+returns-2 c = sym (bit-short _ _ _ _ _ (c .before .before .before .num .ensures .0) (c .before .before .num2 .ensures .0) (c .before .if1 .left) (c .if2 .taken))
+
+returns-3 : tie.Need-returns-3
+returns-3 c = sym (bit-set _ _ _ _ _ (c .before .before .before .before .before .num .ensures .0) (c .before .before .before .before .num2 .ensures .0) (c .before .before .before .if1 .left) (c .before .before .if2 .left) _ (c .before .byte-at .ensures .0) (c .if3 .taken))
+
+returns-4 : tie.Need-returns-4
+returns-4 c = sym (bit-unset _ _ _ _ _ (c .before .before .before .before .before .num .ensures .0) (c .before .before .before .before .num2 .ensures .0) (c .before .before .before .if1 .left) (c .before .before .if2 .left) _ (c .before .byte-at .ensures .0) (c .if3 .left))
+
+pub bit-at-spec : {M : Type 1} → statement M
+bit-at-spec = tie.close (tie.spec (λ c κs. search needs) (λ c. search needs) (λ c. search needs) (λ c κs. search needs) returns returns-2 (λ c. search needs) (λ c. search needs) (λ c κs. search needs) (λ c. search needs) returns-3 returns-4)

@@ -1,0 +1,14 @@
+pub mod Spec
+pub mod Plan
+pub mod Layout
+pub mod Envelope
+pub mod Data
+pub mod Job
+pub mod Sections
+pub mod Decoding
+pub mod Words
+pub mod Refusal
+pub mod Passed
+pub mod Ends
+pub mod Fields
+pub mod Ask

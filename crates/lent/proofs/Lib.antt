@@ -1,0 +1,2 @@
+-- The laws of storing, for the crates above.
+pub mod Laws

@@ -1,0 +1,13 @@
+pub mod Alls
+pub mod Sums
+pub mod Scan
+pub mod Hanging
+pub mod Anchors
+pub mod Findings
+pub mod NestLaws
+pub mod FoundLaws
+pub mod ArrayLaws
+pub mod FindingLaws
+pub mod Sizes
+pub mod Missing
+pub mod Example

@@ -1,0 +1,21 @@
+-- The laws of joining and of reading, for the crates above.
+pub mod Edges
+pub mod Texts
+pub mod Strokes
+pub mod Pending
+pub mod Groups
+pub mod Rows
+pub mod Sorting
+pub mod Repeats
+pub mod Runs
+pub mod Elements
+pub mod Numbered
+pub mod Cuts
+pub mod OneReading
+pub mod Ambiguous
+pub mod AtPlaces
+pub mod FromParts
+pub mod Sorted
+pub mod Placed
+pub mod Steps
+pub mod Examples

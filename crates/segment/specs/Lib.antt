@@ -1,0 +1,9 @@
+pub mod Joining
+pub mod Parts
+pub mod Pen
+pub mod Calls
+pub mod Grammar
+pub mod Reading
+pub mod Places
+pub mod ByPlace
+pub mod ReadParts

@@ -1,0 +1,11 @@
+pub mod Wide
+pub mod Floor
+pub mod Calendar
+pub mod Held
+pub mod Reason
+pub mod DateText
+pub mod Clock
+pub mod Number
+pub mod Digits
+pub mod Pad
+pub mod Spelling

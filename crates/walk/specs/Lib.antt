@@ -1,0 +1,7 @@
+pub mod Instances
+pub mod Contexts
+pub mod Tour
+pub mod Census
+pub mod Complete
+pub mod Stops
+pub mod Check
