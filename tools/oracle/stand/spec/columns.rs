@@ -1,0 +1,1 @@
+//! Stands in: reading the spec, which is left out.
