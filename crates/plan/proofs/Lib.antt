@@ -1,0 +1,4 @@
+pub mod Storing
+pub mod Reading
+pub mod Asking
+pub mod Filled

@@ -1,0 +1,27 @@
+use Prim.Native.Nat.{_-_, _≤_}
+use native.Mathlib.Omega.{arith}
+use Rattle.plan.proofs.Filled.{Segments, segments-none, segments-more}
+use borrow.Author.Needs.{needs}
+use Rattle.plan.proofs.index.all_segments_into.Statement.{statement}
+use Rattle.plan.proofs.index.all_segments_into.Tie as tie
+
+abbrev Inv-loop : tie.InvT-loop
+Inv-loop job index₀ n end l₀ index l = Segments job end l index₀ index × (l ≤ n)
+
+abbrev μ-loop : tie.MeasureT-loop
+μ-loop job index₀ n end l₀ index l = n - l
+
+loop-holds : tie.Need-loop-holds Inv-loop μ-loop
+loop-holds c = (segments-none _ _ _, omega arith)
+
+loop-again : tie.Need-loop-again Inv-loop μ-loop
+loop-again c = (segments-more _ _ _ _ _ _ (omega arith) (c .before .before .before .before .before .loop .inv .0) (c .before .before .segments-into .ensures .0) (c .before .before .segments-into .ensures .1), omega arith)
+
+same-length : tie.Need-same-length Inv-loop μ-loop
+same-length c = c .before .loop .inv .0 .kept .long
+
+returns : tie.Need-returns Inv-loop μ-loop
+returns c = (c .before .loop .inv .0 .kept, λ l m. c .before .loop .inv .0 .stored l (omega arith))
+
+pub all-segments-into-spec : {M : Type 1} → statement M
+all-segments-into-spec = tie.close (tie.spec Inv-loop μ-loop loop-holds (λ c κs. search needs) (λ c. search needs) (λ c. search needs) loop-again same-length returns)

@@ -1,0 +1,27 @@
+-- The items of the lists that the index has places of, each with its codec.
+use Prim.Native.Nat.{ℕ}
+use mathlib.Core.Bool.{Bool}
+use mathlib.Core.List.{List}
+use mathlib.Core.Option.{Option}
+use Rattle.codec.specs.Codec.{Codec, listC}
+use Rattle.codec.specs.Forms.{numC, optC, flagC}
+use Rattle.format.specs.Plan.{LoopPlan as LoopPlanIn, loopPlanC, SegmentPlan as SegmentPlanIn, segmentPlanC}
+use Rattle.format.specs.Layout.{Item, itemC}
+use Rattle.plan.specs.declared.index.Part.{Part}
+use Rattle.plan.specs.declared.index.Part.the-variants.{LoopPlan, SegmentPlan, Order, Forced, Columns, Depth}
+
+abbrev pub PartOf : Part → Type 0
+PartOf LoopPlan = LoopPlanIn
+PartOf SegmentPlan = SegmentPlanIn
+PartOf Order = List Item
+PartOf Forced = List Bool
+PartOf Columns = List ℕ
+PartOf Depth = Option ℕ
+
+abbrev pub partC : (p : Part) → Codec (PartOf p)
+partC LoopPlan = loopPlanC
+partC SegmentPlan = segmentPlanC
+partC Order = listC itemC
+partC Forced = listC flagC
+partC Columns = listC numC
+partC Depth = optC numC

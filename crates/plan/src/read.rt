@@ -1,0 +1,144 @@
+// What stands at a place, read there: each answer is that of whatever structure stands there.
+ghost use mathlib.Core.Path.{_≡_};
+ghost use Prim.Native.Nat.{ℕ, _+_, _≤_, _<_};
+ghost use lib.ListN.{length};
+ghost use Rattle.codec.specs.Codec.{listC};
+ghost use Rattle.codec.specs.Skip.{Is};
+ghost use Rattle.format.specs.Plan.{Instances as InstancesIn, instancesC, Source as SourceIn, sourceC, Value as ValueIn, valueC, ElementPlan as ElementPlanIn, elementPlanC, SegmentPlan as SegmentPlanIn, segmentPlanC};
+ghost use Rattle.format.specs.Layout.{Item as ItemIn, itemC};
+ghost use Rattle.plan.specs.Answers.{instancesOf, sourceOf, itemOf, ElementRead, ValueRead};
+ghost use Rattle.plan.specs.Region.{innerCount};
+use crate::answers::ElementPlan;
+use crate::answers::Instances;
+use crate::answers::Item;
+use crate::answers::Source;
+use crate::answers::ValueSource;
+use spec::ids::LoopId;
+use spec::ids::Number;
+use spec::ids::Stretch;
+use spec::ids::TableId;
+
+pub fn instances_at(job: &[u8], at: usize) -> Instances
+    requires { ⌜ at < 4294967296 ⌝ }
+    ensures { λ r. ⌜ ((e : ℕ) (v : InstancesIn) → Is instancesC (now (job .entry)) e at v → instancesOf r ≡ v) ⌝ }
+{
+    let t = codec::byte_at(job, at);
+    let n = codec::num(job, at + 1);
+    if t == 0 {
+        return Instances::Absent;
+    }
+    if t == 1 {
+        return Instances::Envelope;
+    }
+    if t == 2 {
+        return Instances::Rows(TableId(n as u32));
+    }
+    if t == 3 {
+        return Instances::Inside(TableId(n as u32));
+    }
+    if t == 4 {
+        return Instances::Groups(TableId(n as u32));
+    }
+    Instances::Implied
+}
+
+pub fn source_at(job: &[u8], at: usize) -> Source
+    requires { ⌜ at < 4294967304 ⌝ }
+    ensures { λ r. ⌜ ((e : ℕ) (v : SourceIn) → Is sourceC (now (job .entry)) e at v → sourceOf r ≡ v) ⌝ }
+{
+    let t = codec::byte_at(job, at);
+    let n = codec::num(job, at + 1);
+    if t == 0 {
+        return Source::Envelope;
+    }
+    if t == 1 {
+        return Source::Row(TableId(n as u32));
+    }
+    Source::Repeat(TableId(n as u32))
+}
+
+// The place of the elements of the planned segment that stands at a place.
+pub fn elements_at(job: &[u8], at: usize) -> usize
+    requires { ⌜ at < 4294967296 ⌝ }
+    ensures { λ r. ⌜ ((e : ℕ) (v : SegmentPlanIn) → Is segmentPlanC (now (job .entry)) e at v → Is (listC elementPlanC) (now (job .entry)) e r (v .elements)) × (r < 4294967305) ⌝ }
+{
+    let t = codec::byte_at(job, at + 4);
+    if t == 0 {
+        return at + 5;
+    }
+    at + 9
+}
+
+// The value that stands at a place, as that of an element and component.
+pub fn value_at(job: &[u8], element: u32, component: Number, at: usize) -> ElementPlan
+    requires { ⌜ at < 4294967312 ⌝ }
+    ensures { λ r. ⌜ (r .element ≡ element) × (r .component ≡ component) × ((e : ℕ) (v : ValueIn) → e ≤ length (now (job .entry)) → Is valueC (now (job .entry)) e at v → ValueRead (now (job .entry)) e at v r) ⌝ }
+{
+    let t = codec::byte_at(job, at);
+    let n = codec::num(job, at + 1);
+    if t == 0 {
+        return ElementPlan {
+            element: element,
+            component: component,
+            value: ValueSource::Column(n as u32),
+            next: at + 5,
+        };
+    }
+    if t == 1 {
+        return ElementPlan {
+            element: element,
+            component: component,
+            value: ValueSource::Group(n as u32),
+            next: at + 5,
+        };
+    }
+    ElementPlan {
+        element: element,
+        component: component,
+        value: ValueSource::Code(Stretch {
+            start: at + 5,
+            len: n,
+        }),
+        next: at + 5 + n,
+    }
+}
+
+// The planned element that stands at a place, and the place behind it.
+pub fn element_at(job: &[u8], at: usize) -> ElementPlan
+    requires { ⌜ at < 4294967296 ⌝ }
+    ensures { λ r. ⌜ ((e : ℕ) (v : ElementPlanIn) → e ≤ length (now (job .entry)) → Is elementPlanC (now (job .entry)) e at v → ElementRead (now (job .entry)) e at v r) ⌝ }
+{
+    let element = codec::num(job, at) as u32;
+    let mark = codec::byte_at(job, at + 4);
+    if mark == 0 {
+        return value_at(job, element, Number::None, at + 5);
+    }
+    let component = codec::num(job, at + 5) as u32;
+    value_at(job, element, Number::Is(component), at + 9)
+}
+
+pub fn item_at(job: &[u8], at: usize) -> Item
+    requires { ⌜ at < 1099511627776 ⌝ }
+    ensures { λ r. ⌜ ((e : ℕ) (v : ItemIn) → Is itemC (now (job .entry)) e at v → itemOf r ≡ v) ⌝ }
+{
+    let t = codec::byte_at(job, at);
+    let n = codec::num(job, at + 1);
+    if t == 0 {
+        return Item::Segment(n as u32);
+    }
+    Item::Loop(LoopId(n as u32))
+}
+
+// How many items the list of loop l has, among the lists whose numbers in the index begin at k.
+pub fn inner_count(job: &[u8], index: &[u32], k: usize, l: u32) -> u32
+    requires { ⌜ k < 4294967296 ⌝ }
+    ensures { λ r. ⌜ r ≡ innerCount (now (job .entry)) (now (index .entry)) k l ⌝ }
+{
+    let list = codec::place(index, k);
+    let n = codec::num(job, list);
+    if n <= l as usize {
+        return 0;
+    }
+    let p = codec::place(index, k + 1 + l as usize);
+    codec::num(job, p) as u32
+}

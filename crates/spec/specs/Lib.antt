@@ -1,0 +1,12 @@
+pub mod Answers
+pub mod Cursor
+pub mod EnvelopeIndex
+pub mod Filled
+pub mod Filling
+pub mod Found
+pub mod Index
+pub mod Kept
+pub mod Reads
+pub mod Rows
+pub mod Segments
+pub mod VersionIs
