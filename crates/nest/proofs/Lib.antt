@@ -11,3 +11,8 @@ pub mod FindingLaws
 pub mod Sizes
 pub mod Missing
 pub mod Example
+pub mod Bridge
+pub mod Ways
+pub mod Reports
+pub mod Claiming
+pub mod Placing

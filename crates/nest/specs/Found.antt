@@ -5,7 +5,7 @@ use mathlib.Core.List.{List}
 use mathlib.Core.Option.{Option, none, some}
 use lib.ListN.{getD}
 use lib.Dec.{eqb}
-use Rattle.nest.specs.declared.RowId.{RowId}
+use Rattle.spec.specs.declared.ids.RowId.{RowId}
 use Rattle.nest.specs.declared.Found.{Found}
 use Rattle.nest.specs.declared.Found.the-variants.{Row, Nothing}
 

@@ -5,3 +5,5 @@ pub mod Finding
 pub mod NestFindings
 pub mod Found
 pub mod OfJob
+pub mod Ready
+pub mod Claims

@@ -6,12 +6,14 @@ ghost use lib.ListN.{length};
 ghost use lib.Seq.{sets};
 ghost use Rattle.nest.specs.Lists.{keep, first, upTo};
 ghost use Rattle.nest.specs.Found.{foundBy, rowAbove, heldAt, hookedAt};
+use spec::ids::LoopId;
+use spec::ids::RowId;
+use spec::ids::TableId;
 
-pub struct LoopId(pub u32);
-
-pub struct TableId(pub u32);
-
-pub struct RowId(pub u32);
+pub mod duplicates;
+pub mod hang;
+pub mod keys;
+pub mod rows;
 
 // A row, if there is one.
 pub enum Found {

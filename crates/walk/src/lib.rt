@@ -4,8 +4,8 @@ ghost use Prim.Native.Nat.{ℕ, _+_, _≤_, _<_, min};
 ghost use Rattle.walk.specs.Census.{counted};
 ghost use Rattle.walk.specs.Contexts.{keptOutside, keptRow, keptPiece, rowBy, startBy, endBy};
 use nest::Found;
-use nest::RowId;
-use nest::TableId;
+use spec::ids::RowId;
+use spec::ids::TableId;
 
 // The rows an instance sits in: for each table a row plus one, or 0; and inside an instance given by a run of grouped rows the run, by its table and its
 // bounds, counted from the start of the parent's list.

@@ -1,0 +1,146 @@
+-- The ways through the search for a repeat row's anchor.
+use Prim.Native.Nat.{ℕ, zero, suc, _+_, _-_, _*_, _≤_, _<_}
+use mathlib.Core.Path.{_≡_, refl, sym, ap, ap₂, _∙_}
+use mathlib.Core.Bool.{Bool, true, false, cond}
+use mathlib.Core.List.{List, [], _∷_}
+use mathlib.Core.Option.{Option, none, some}
+use native.Mathlib.Omega.{arith}
+use native.Mathlib.Nat.{suc-mul}
+use lib.ListN.{length, getD, List·getD-eq-default}
+use lib.Dec.{eqb, leb, ltb}
+use borrow.Author.Tests.{eq-eqb, ne-eqb, eqb-true, eqb-false, ltb-true, ltb-false, leb-false}
+use Rattle.codec.specs.Limits.{none-of, none-in}
+use Rattle.format.specs.Spec as S
+use Rattle.format.specs.Plan as P
+use Rattle.format.specs.Job.{Job}
+use Rattle.format.specs.Sections.{jobOf}
+use Rattle.format.specs.Refusal.{tangled, outsideTable, outside}
+use Rattle.format.specs.Passed.{Passed, few}
+use Rattle.format.specs.Ask as A
+use Rattle.column.specs.Cell.{referenceOf}
+use Rattle.column.specs.Answers.{intIs}
+use Rattle.column.specs.declared.OptInt.{OptInt}
+use Rattle.column.specs.declared.OptInt.the-variants.{Number, NoNumber}
+use Rattle.spec.specs.Answers.{numberOf}
+use Rattle.spec.specs.declared.ids.Number.{Number as Numbered}
+use Rattle.spec.specs.declared.ids.Number.the-variants as number
+use Rattle.spec.specs.declared.ids.LoopId.{LoopId}
+use Rattle.spec.specs.declared.ids.TableId.{TableId}
+use Rattle.plan.specs.Answers.{instancesOf}
+use Rattle.plan.specs.declared.answers.Instances.{Instances}
+use Rattle.plan.specs.declared.answers.Instances.the-variants.{Rows}
+use Rattle.nest.specs.declared.hang.Anchored.{Anchored}
+use Rattle.nest.specs.declared.hang.Anchored.the-variants.{Is, Nothing}
+use Rattle.nest.specs.Outline.{Outline, rowTable, kindOf, tableOf}
+use Rattle.nest.specs.Nest.{Anchor, depthOf, anchors, claimIn, claimOn}
+use Rattle.nest.specs.NestFindings.{lastTable}
+use Rattle.nest.specs.Claims.{claimBy, anchorTable}
+use Rattle.nest.specs.OfJob.{outlineOf, kindIn}
+use Rattle.nest.proofs.Anchors.{left, left-all, left-other, left-no-rows, left-anchor, left-down, left-end, claim-here, claim-next, claim-none}
+use Rattle.nest.proofs.Bridge.{kind-is, loops-is, loop-count-is, reference-is}
+use Rattle.nest.proofs.Ways.{refers, refers-not}
+
+abbrev mark : Option ℕ → ℕ
+mark none = 0
+mark (some u) = 1
+
+-- ---- the loops of a table have numbers below 32
+pub loop-small : (b : List ℕ) → Passed b → (t k n l : ℕ) → n ≡ length ((A.tableOf (jobOf b) t) .loops) → k < n → l ≡ getD ((A.tableOf (jobOf b) t) .loops) k 0 → l < 32
+unfolding A.tableOf tangled outsideTable outside
+loop-small b w t k n l c h e = go (ltb t (length (jobOf b .spec .tables))) refl
+  where
+    c′ : n ≡ length ((getD (jobOf b .spec .tables) t S.noTable) .loops)
+    c′ = c
+
+    e′ : l ≡ getD ((getD (jobOf b .spec .tables) t S.noTable) .loops) k 0
+    e′ = e
+
+    go : (u : Bool) → ltb t (length (jobOf b .spec .tables)) ≡ u → l < 32
+    go true q =
+        let x = none-in (outsideTable (length (jobOf b .spec .loops))) (jobOf b .spec .tables) (none-of _ _ (none-of _ _ (w .forest) .1) .0) t S.noTable (ltb-true _ _ q) in
+        let y : getD ((getD (jobOf b .spec .tables) t S.noTable) .loops) k 0 < length (jobOf b .spec .loops) = leb-false _ _ (none-in (outside (length (jobOf b .spec .loops))) _ x k 0 (rw (← c′) h)) in
+        let z = few (jobOf b) (w .limits) .loops in
+        omega (arith, y, z, e′)
+    go false q =
+        let z : length ((getD (jobOf b .spec .tables) t S.noTable) .loops) ≡ 0 = ap (λ (s : S.Table). length (s .loops)) (List·getD-eq-default (jobOf b .spec .tables) S.noTable {n = t} (ltb-false _ _ q)) in
+        absurd (omega (arith, z, c′))
+
+-- ---- an anchor
+pub rows-kind : (k : Instances) (t : TableId) → k ≡ Rows t → some (t .0) ≡ rowTable (kindIn (instancesOf k))
+rows-kind k t q = rw q
+
+module _ (j : Job) (l d n : ℕ) (e : n ≡ depthOf (outlineOf j) l) where
+  pub anchor-here : (x : Option ℕ) (k : P.Instances) → n ≡ d → k ≡ (A.planOf j l) .instances → x ≡ rowTable (kindIn k) → x ≡ anchorTable (outlineOf j) l d
+  anchor-here x k h q i = i ∙ rw (q, ← kind-is j l) (sym (rw (eq-eqb (depthOf (outlineOf j) l) d (sym e ∙ h)) refl))
+
+  pub anchor-elsewhere : (n ≡ d → ⊥) → none ≡ anchorTable (outlineOf j) l d
+  anchor-elsewhere h = sym (rw (ne-eqb (depthOf (outlineOf j) l) d (λ x. h (e ∙ x))) refl)
+
+-- ---- what is left to try: from depth d and place i on; last is the table of the last anchor tried
+pub record Trying (j : Job) (t r d i last : ℕ) : Type 0 where
+  pub claims : claimIn (outlineOf j) t r (anchors (outlineOf j) t) ≡ claimIn (outlineOf j) t r (left (outlineOf j) ((tableOf (outlineOf j) t) .loops) d i)
+  pub lasts : lastTable t (anchors (outlineOf j) t) ≡ lastTable last (left (outlineOf j) ((tableOf (outlineOf j) t) .loops) d i)
+
+module _ (j : Job) (t r : ℕ) where
+  pub trying-all : (d : ℕ) → d ≡ length (j .spec .loops) → Trying j t r d 0 t
+  trying-all d c =
+      let q : length (outlineOf j .loops) ≡ d = loop-count-is j ∙ sym c in
+      let a : anchors (outlineOf j) t ≡ left (outlineOf j) ((tableOf (outlineOf j) t) .loops) d 0 = rw (← q) (left-all (outlineOf j) t) in
+      record { claims = ap (claimIn (outlineOf j) t r) a; lasts = ap (lastTable t) a }
+
+  module _ (d i last n l : ℕ) (w : Trying j t r d i last) (c : n ≡ length ((A.tableOf j t) .loops)) (h : i < n) (e : l ≡ getD ((A.tableOf j t) .loops) i 0) where
+    here : i < length ((tableOf (outlineOf j) t) .loops)
+    here = rw (loops-is j t) (omega arith)
+
+    it : l ≡ getD ((tableOf (outlineOf j) t) .loops) i 0
+    it = rw (loops-is j t) e
+
+    module _ (u : ℕ) (a : anchorTable (outlineOf j) l d ≡ some u) where
+      at-depth : depthOf (outlineOf j) l ≡ d
+      at-depth = go (eqb (depthOf (outlineOf j) l) d) refl a
+        where
+          go : (b : Bool) → eqb (depthOf (outlineOf j) l) d ≡ b → cond {A = Option ℕ} b (rowTable (kindOf (outlineOf j) l)) none ≡ some u → depthOf (outlineOf j) l ≡ d
+          go true q x = eqb-true _ _ q
+          go false q x = let z : _≡_ {A = ℕ} 0 1 = ap mark x in absurd (omega arith)
+
+      with-rows : rowTable (kindOf (outlineOf j) l) ≡ some u
+      with-rows = sym (rw (eq-eqb (depthOf (outlineOf j) l) d at-depth) refl) ∙ a
+
+      next : left (outlineOf j) ((tableOf (outlineOf j) t) .loops) d i ≡ record { loop = l; table = u } ∷ left (outlineOf j) ((tableOf (outlineOf j) t) .loops) d (i + 1)
+      next = rw it (left-anchor (outlineOf j) ((tableOf (outlineOf j) t) .loops) d i u here (rw (← it) at-depth) (rw (← it) with-rows))
+
+      pub trying-here : (v : ℕ) → outlineOf j .reference t u r ≡ some v → Is (record { l = record { 0 = l }; table = record { 0 = u }; value = v }) ≡ claimBy (claimIn (outlineOf j) t r (anchors (outlineOf j) t)) (lastTable t (anchors (outlineOf j) t))
+      trying-here v q = rw (w .claims ∙ ap (claimIn (outlineOf j) t r) next ∙ claim-here (outlineOf j) t r v (record { loop = l; table = u }) _ q) refl
+
+      pub trying-null : outlineOf j .reference t u r ≡ none → Trying j t r d (i + 1) u
+      trying-null q = record {
+        claims = w .claims ∙ ap (claimIn (outlineOf j) t r) next ∙ claim-next (outlineOf j) t r (record { loop = l; table = u }) _ q;
+        lasts = w .lasts ∙ ap (lastTable last) next;
+      }
+
+    pub trying-other : anchorTable (outlineOf j) l d ≡ none → Trying j t r d (i + 1) last
+    trying-other a = go (eqb (depthOf (outlineOf j) l) d) refl a
+      where
+        done : left (outlineOf j) ((tableOf (outlineOf j) t) .loops) d i ≡ left (outlineOf j) ((tableOf (outlineOf j) t) .loops) d (i + 1) → Trying j t r d (i + 1) last
+        done q = record { claims = w .claims ∙ ap (claimIn (outlineOf j) t r) q; lasts = w .lasts ∙ ap (lastTable last) q }
+
+        go : (b : Bool) → eqb (depthOf (outlineOf j) l) d ≡ b → cond {A = Option ℕ} b (rowTable (kindOf (outlineOf j) l)) none ≡ none → Trying j t r d (i + 1) last
+        go true q x = done (left-no-rows (outlineOf j) ((tableOf (outlineOf j) t) .loops) d i here (rw (← it) x))
+        go false q x = done (left-other (outlineOf j) ((tableOf (outlineOf j) t) .loops) d i here (λ y. eqb-false (depthOf (outlineOf j) l) d q (ap (depthOf (outlineOf j)) it ∙ y)))
+
+  module _ (d i last n : ℕ) (w : Trying j t r d i last) (c : n ≡ length ((A.tableOf j t) .loops)) (h : n ≤ i) where
+    past : length ((tableOf (outlineOf j) t) .loops) ≤ i
+    past = rw (loops-is j t) (omega arith)
+
+    pub trying-down : 0 < d → Trying j t r (d - 1) 0 last
+    trying-down k = let q = left-down (outlineOf j) ((tableOf (outlineOf j) t) .loops) d i k past in record { claims = w .claims ∙ ap (claimIn (outlineOf j) t r) q; lasts = w .lasts ∙ ap (lastTable last) q }
+
+    pub trying-end : d ≡ 0 → Nothing (record { 0 = last }) ≡ claimBy (claimIn (outlineOf j) t r (anchors (outlineOf j) t)) (lastTable t (anchors (outlineOf j) t))
+    trying-end z =
+        let q : left (outlineOf j) ((tableOf (outlineOf j) t) .loops) d i ≡ [] = rw z (left-end (outlineOf j) _ i past) in
+        rw (w .claims ∙ ap (claimIn (outlineOf j) t r) q ∙ claim-none (outlineOf j) t r, w .lasts ∙ ap (lastTable last) q) refl
+
+-- the search goes on for so many steps at most
+pub less-down : (d n i : ℕ) → 0 < d → n ≤ i → (d - 1) * suc n + (n - 0) < d * suc n + (n - i)
+less-down zero n i h k = absurd (omega arith)
+less-down (suc d) n i h k = let s : suc d * suc n ≡ d * suc n + suc n = suc-mul d (suc n) in let e : suc d - 1 ≡ d = omega arith in rw e (omega (arith, s))

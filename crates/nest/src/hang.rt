@@ -1,0 +1,219 @@
+// Where a row hangs: on a row of its table's parent, or a repeat row on a row of the anchor that it goes by.
+ghost use mathlib.Core.Path.{_≡_};
+ghost use Prim.Native.Nat.{_<_};
+ghost use Rattle.spec.specs.Answers.{numberOf};
+ghost use Rattle.plan.specs.Answers.{instancesOf};
+ghost use mathlib.Core.Bool.{true, false};
+ghost use Rattle.nest.specs.Outline.{rowTable, repeated};
+ghost use Rattle.nest.specs.Nest.{depthOf, claimIn, anchors};
+ghost use Rattle.nest.specs.NestFindings.{lastTable};
+ghost use Rattle.nest.specs.OfJob.{kindIn};
+ghost use Rattle.nest.specs.Claims.{claimBy, anchorTable, Hung};
+ghost use Rattle.nest.specs.Ready.{Ready, outlineAt};
+use crate::Found;
+use crate::keys::first_row;
+use crate::keys::referred;
+use column::OptInt;
+use plan::answers::Instances;
+use spec::ids::LoopId;
+use spec::ids::Number;
+use spec::ids::RowId;
+use spec::ids::TableId;
+
+// An anchor loop, its table, and a row's reference to it.
+pub struct Claimed {
+    pub l: LoopId,
+    pub table: TableId,
+    pub value: u64,
+}
+
+// What a repeat row goes by; or the table of the last anchor that was tried.
+pub enum Anchored {
+    Is(Claimed),
+    Nothing(TableId),
+}
+
+// Where a row hangs: the row above plus one, or 0; the anchor loop; the table of the row above.
+pub struct Place {
+    pub above: u32,
+    pub l: LoopId,
+    pub table: TableId,
+}
+
+// How many loops stand above l.
+pub fn depth(job: &[u8], index: &[u32], l: LoopId) -> u32
+    requires { ⌜ Ready (now job) (now index) ⌝ }
+    ensures { λ r. ⌜ r ≡ depthOf (outlineAt (now (job .entry))) (l .0) ⌝ }
+{
+    let mut left = spec::loops::loop_count(job, index);
+    let mut at = l.0;
+    let mut d: u32 = 0;
+    while 0 < left {
+        let parent = spec::loops::loop_parent(job, index, LoopId(at));
+        match parent {
+            Number::Is(p) => {
+                at = p;
+                d = d + 1;
+                left = left - 1;
+            }
+            Number::None => {
+                return d;
+            }
+        }
+    }
+    d
+}
+
+// The table whose rows a `Rows` loop enters.
+pub fn row_table(kind: Instances) -> Number
+    ensures { λ r. ⌜ numberOf r ≡ rowTable (kindIn (instancesOf kind)) ⌝ }
+{
+    match kind {
+        Instances::Absent => Number::None,
+        Instances::Envelope => Number::None,
+        Instances::Rows(t) => Number::Is(t.0),
+        Instances::Inside(_) => Number::None,
+        Instances::Groups(_) => Number::None,
+        Instances::Implied => Number::None,
+    }
+}
+
+// The table whose rows loop l enters, if it stands at depth d.
+pub fn anchor(job: &[u8], index: &[u32], l: LoopId, d: u32) -> Number
+    requires { ⌜ Ready (now job) (now index) × (l .0 < 32) ⌝ }
+    ensures { λ r. ⌜ numberOf r ≡ anchorTable (outlineAt (now (job .entry))) (l .0) d ⌝ }
+{
+    let n = depth(job, index, l);
+    if n == d {
+        return row_table(plan::planned::instances(job, index, l));
+    }
+    Number::None
+}
+
+// The first anchor, the deepest first and equal depths in list order, whose reference row r of the repeat table t has.
+pub fn claim(job: &[u8], index: &[u32], t: TableId, r: RowId) -> Anchored
+    requires { ⌜ Ready (now job) (now index) ⌝ }
+    ensures { λ c. ⌜ c ≡ claimBy (claimIn (outlineAt (now (job .entry))) (t .0) (r .0) (anchors (outlineAt (now (job .entry))) (t .0))) (lastTable (t .0) (anchors (outlineAt (now (job .entry))) (t .0))) ⌝ }
+{
+    let n = spec::tables::table_loop_count(job, index, t);
+    let mut d = spec::loops::loop_count(job, index);
+    let mut i: u32 = 0;
+    let mut last = t.0;
+    loop {
+        if i < n {
+            let l = spec::tables::table_loop(job, index, t, i);
+            let above = anchor(job, index, l, d);
+            i = i + 1;
+            match above {
+                Number::Is(u) => {
+                    let value = tables::data::reference(job, index, t, u, r);
+                    match value {
+                        OptInt::Number(v) => {
+                            return Anchored::Is(Claimed {
+                                l: l,
+                                table: TableId(u),
+                                value: v,
+                            });
+                        }
+                        OptInt::NoNumber => {
+                            last = u;
+                        }
+                    }
+                }
+                Number::None => {}
+            }
+        } else {
+            if d == 0 {
+                return Anchored::Nothing(TableId(last));
+            }
+            d = d - 1;
+            i = 0;
+        }
+    }
+}
+
+// Where row r of the repeat table t hangs.
+pub fn repeat_place(job: &[u8], index: &[u32], t: TableId, r: RowId) -> Place
+    requires { ⌜ Ready (now job) (now index) × (repeated (outlineAt (now job)) (t .0) ≡ true) ⌝ }
+    ensures { λ p. ⌜ Hung (outlineAt (now (job .entry))) (t .0) (r .0) p ⌝ }
+{
+    let anchored = claim(job, index, t, r);
+    match anchored {
+        Anchored::Is(k) => {
+            let l = k.l;
+            let table = k.table;
+            let found = first_row(job, index, table, k.value);
+            match found {
+                Found::Row(p) => {
+                    return Place {
+                        above: p.0 + 1,
+                        l: l,
+                        table: table,
+                    };
+                }
+                Found::Nothing => {
+                    return Place {
+                        above: 0,
+                        l: LoopId(0),
+                        table: TableId(0),
+                    };
+                }
+            }
+        }
+        Anchored::Nothing(_) => {
+            return Place {
+                above: 0,
+                l: LoopId(0),
+                table: TableId(0),
+            };
+        }
+    }
+}
+
+// Where row r of another table t hangs.
+pub fn parent_place(job: &[u8], index: &[u32], t: TableId, r: RowId) -> Place
+    requires { ⌜ Ready (now job) (now index) × (repeated (outlineAt (now job)) (t .0) ≡ false) ⌝ }
+    ensures { λ p. ⌜ Hung (outlineAt (now (job .entry))) (t .0) (r .0) p ⌝ }
+{
+    let parent = spec::tables::table_parent(job, index, t);
+    match parent {
+        Number::Is(u) => {
+            let found = referred(job, index, t, r, TableId(u));
+            match found {
+                Found::Row(p) => {
+                    return Place {
+                        above: p.0 + 1,
+                        l: LoopId(0),
+                        table: TableId(u),
+                    };
+                }
+                Found::Nothing => {
+                    return Place {
+                        above: 0,
+                        l: LoopId(0),
+                        table: TableId(0),
+                    };
+                }
+            }
+        }
+        Number::None => {
+            return Place {
+                above: 0,
+                l: LoopId(0),
+                table: TableId(0),
+            };
+        }
+    }
+}
+
+// Where row r of table t hangs.
+pub fn place_of(job: &[u8], index: &[u32], t: TableId, r: RowId) -> Place
+    requires { ⌜ Ready (now job) (now index) ⌝ }
+    ensures { λ p. ⌜ Hung (outlineAt (now (job .entry))) (t .0) (r .0) p ⌝ }
+{
+    let again = spec::tables::repeats(job, index, t);
+    if again {
+        return repeat_place(job, index, t, r);
+    }
+    parent_place(job, index, t, r)
+}

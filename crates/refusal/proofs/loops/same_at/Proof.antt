@@ -1,0 +1,11 @@
+-- `refusal::loops::same_at` meets its contract. Assumes nothing.
+use Rattle.refusal.proofs.Tree.{same-says}
+use borrow.Author.Needs.{needs}
+use Rattle.refusal.proofs.loops.same_at.Statement.{statement}
+use Rattle.refusal.proofs.loops.same_at.Tie as tie
+
+returns : tie.Need-returns
+returns c = same-says _ _ _ _ _ (c .count-at .ensures .0)
+
+pub same-at-spec : {M : Type 1} → statement M
+same-at-spec = tie.close (tie.spec (λ c κs. search needs) returns)

@@ -1,0 +1,37 @@
+//! What is compared.
+
+/// A function of a job's bytes that both sides have.
+pub trait Subject: Sync {
+    /// Runs both sides: what they agree on, or in words how they differ.
+    fn run(&self, bytes: &[u8]) -> Result<Agreed, String>;
+}
+
+/// What both sides gave.
+#[derive(Debug, Clone, Default, PartialEq, Eq)]
+pub struct Agreed {
+    /// Document 01's number, 0 to 7.
+    pub answer: u8,
+    /// What else was seen, such as kinds of findings, for the summary.
+    pub seen: Vec<String>,
+}
+
+/// `check` beside `job::check`.
+pub struct Check<F>(pub F);
+
+impl Check<fn(&[u8]) -> u32> {
+    /// With the proved `check`.
+    pub fn proved() -> Self {
+        Check(native::check)
+    }
+}
+
+impl<F: Fn(&[u8]) -> u32 + Sync> Subject for Check<F> {
+    fn run(&self, bytes: &[u8]) -> Result<Agreed, String> {
+        let wanted = job::check(bytes).map_or_else(|refusal| refusal.number(), |_| 0);
+        let got = (self.0)(bytes);
+        if got != u32::from(wanted) {
+            return Err(format!("check gives {got}, document 01 read apart from it {wanted}"));
+        }
+        Ok(Agreed { answer: wanted, seen: Vec::new() })
+    }
+}
