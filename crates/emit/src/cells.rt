@@ -1,0 +1,106 @@
+// The text of a cell.
+use column::Cell;
+use segment::Value;
+use texts::Text;
+use texts::number;
+use texts::number::Wide;
+use texts::parse;
+use texts::render;
+use texts::render::Max;
+use texts::render::Refused;
+use texts::render::Said;
+ghost use mathlib.Core.Path.{_≡_};
+ghost use mathlib.Core.List.{List, []};
+ghost use Prim.Native.Nat.{ℕ, _+_, _*_, min};
+ghost use Rattle.column.specs.Cell.{orNull};
+ghost use Rattle.column.specs.Answers.{cellAt};
+ghost use Rattle.lent.specs.Fit.{stretch};
+ghost use Rattle.texts.specs.Held.{held};
+ghost use Rattle.texts.specs.Reason.{Outcome, reasonOf, Says, gives};
+ghost use Rattle.texts.specs.Wide.{signed64, signed128};
+ghost use Rattle.texts.specs.Floor.{signed32};
+ghost use Rattle.texts.specs.Number.{intText, decimalText};
+ghost use Rattle.texts.specs.DateText.{dateText};
+ghost use Rattle.texts.specs.Clock.{timeText};
+ghost use Rattle.emit.specs.Puts.{cellText};
+ghost use Rattle.emit.specs.Written.{Writes};
+
+// A text, and the reason why there is none, or 0.
+pub struct Written {
+    pub value: Value,
+    pub reason: u64,
+}
+
+fn reason_of(why: Refused) -> u64
+    ensures { λ r. ⌜ r ≡ reasonOf why ⌝ }
+{
+    match why {
+        Refused::Nothing => 0,
+        Refused::Year => 1,
+        Refused::Window => 2,
+        Refused::Day => 3,
+        Refused::Seconds => 4,
+    }
+}
+
+fn of_text(text: Text, reason: u64) -> Written
+    ensures { λ r. ⌜ ((job : List ℕ) (o : Outcome) → text ≡ held (o .text) → reason ≡ o .reason → Writes job r o) ⌝ }
+{
+    let bytes = text.bytes;
+    let value = segment::own(bytes, text.len);
+    Written { value, reason }
+}
+
+fn of_said(said: Said) -> Written
+    ensures { λ r. ⌜ ((job : List ℕ) (o : Outcome) → Says said o → Writes job r o) ⌝ }
+{
+    let text = said.text;
+    let refused = said.refused;
+    of_text(text, reason_of(refused))
+}
+
+fn of_stretch(start: usize, len: usize) -> Written
+    ensures { λ r. ⌜ ((job : List ℕ) → Writes job r (gives (stretch job start len))) ⌝ }
+{
+    let value = segment::held(start, len);
+    Written { value, reason: 0 }
+}
+
+fn of_int(bits: u64) -> Written
+    ensures { λ r. ⌜ ((job : List ℕ) → Writes job r (gives (intText (signed64 bits)))) ⌝ }
+{
+    of_text(number::int_text(number::from_bits64(bits)), 0)
+}
+
+fn of_decimal(lo: u64, hi: u64, scale: u8) -> Written
+    ensures { λ r. ⌜ ((job : List ℕ) → Writes job r (gives (decimalText (signed128 (lo + 18446744073709551616 * hi)) (min scale 38)))) ⌝ }
+{
+    of_text(number::decimal_text(Wide { lo, hi }, scale), 0)
+}
+
+fn of_days(bits: u32, max: Max) -> Written
+    ensures { λ r. ⌜ ((job : List ℕ) → Writes job r (dateText (signed32 bits) max)) ⌝ }
+{
+    of_said(render::date_text(parse::from_bits(bits), max))
+}
+
+fn of_seconds(bits: u32, max: Max) -> Written
+    ensures { λ r. ⌜ ((job : List ℕ) → Writes job r (timeText (signed32 bits) max)) ⌝ }
+{
+    of_said(render::time_text(parse::from_bits(bits), max))
+}
+
+// The text of a cell for an element with that max; no answer and null give an empty one.
+pub fn cell_value(cell: Cell, max: Max) -> Written
+    ensures { λ r. ⌜ ((job : List ℕ) → Writes job r (cellText (orNull (cellAt job cell)) max)) ⌝ }
+{
+    match cell {
+        Cell::None => of_stretch(0, 0),
+        Cell::Null => of_stretch(0, 0),
+        Cell::Bytes(start, len) => of_stretch(start, len),
+        Cell::Int(bits) => of_int(bits),
+        Cell::Wide(lo, hi, scale) => of_decimal(lo, hi, scale),
+        Cell::Days(bits) => of_days(bits, max),
+        Cell::Seconds(bits) => of_seconds(bits, max),
+    }
+}

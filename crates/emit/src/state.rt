@@ -1,0 +1,204 @@
+// What the walk knows of the steps before, and how a step moves it on.
+use spec::ids::LoopId;
+use spec::ids::RowId;
+use spec::ids::TableId;
+ghost use mathlib.Core.Path.{_≡_};
+ghost use mathlib.Core.List.{[], _∷_};
+ghost use mathlib.Core.Option.{none};
+ghost use Prim.Native.Nat.{_+_, _%_, _^_, _<_};
+ghost use lib.ListN.{getD, take};
+ghost use Rattle.lent.specs.Fit.{more, Stored};
+ghost use Rattle.nest.specs.Finding.{outOfOrder};
+ghost use Rattle.emit.specs.Fold.{higher, counterUp, taken};
+ghost use Rattle.emit.specs.Written.{wordsOf};
+ghost use Rattle.emit.specs.Did.{markOf, stateOf, entered, rowIn, tracedWord, Moved, Stopped, Finished};
+
+// A table's highest row entered, if one was.
+pub struct Mark {
+    pub seen: bool,
+    pub row: u32,
+}
+
+// The highest row of each table, the next control number of each loop, the trace entries so far and those before the segment that is
+// not finished yet; then how many bytes of the document and numbers of the other lists there are, stored or not.
+pub struct State {
+    pub high: [Mark; 16],
+    pub counter: [u64; 32],
+    pub entries: usize,
+    pub begun: usize,
+    pub bytes: usize,
+    pub segments: usize,
+    pub findings: usize,
+    pub stops: usize,
+}
+
+// What a segment comes from: the envelope, or a row of a table.
+pub enum From {
+    Envelope,
+    Row(TableId, RowId),
+}
+
+// ---- rows
+
+// The highest row of a table.
+pub fn highest(s: State, t: TableId) -> Mark
+    requires { ⌜ t .0 < 16 ⌝ }
+    ensures { λ m. ⌜ markOf m ≡ getD ((stateOf s) .high) (t .0) none ⌝ }
+{
+    let i = t.0 as usize;
+    s.high[i]
+}
+
+fn raised(m: Mark, r: RowId) -> Mark
+    ensures { λ n. ⌜ markOf n ≡ higher (markOf m) (r .0) ⌝ }
+{
+    if m.seen {
+        if r.0 <= m.row {
+            return m;
+        }
+    }
+    Mark {
+        seen: true,
+        row: r.0,
+    }
+}
+
+// A row of a table is entered.
+fn enter_row(s: State, t: TableId, r: RowId) -> State
+    requires { ⌜ t .0 < 16 ⌝ }
+    ensures { λ n. ⌜ Moved (entered (stateOf s) (t .0) (r .0)) s n ⌝ }
+{
+    let i = t.0 as usize;
+    let m = raised(s.high[i], r);
+    let mut n = s;
+    n.high[i] = m;
+    n
+}
+
+// A row is lower than the highest yet entered.
+pub fn note_order(
+    findings: &mut [u64],
+    at: usize,
+    t: TableId,
+    r: RowId,
+    above: u32,
+    reference: u64,
+    highest: u32,
+) -> usize
+    ensures { λ n. ⌜ Stored (now (findings .entry)) at (wordsOf (outOfOrder (t .0) (r .0) above reference highest ∷ [])) n (now (findings .exit)) ⌝ }
+{
+    let words = [
+        3,
+        t.0 as u64,
+        r.0 as u64,
+        above as u64,
+        reference,
+        highest as u64,
+        0,
+        0,
+        0,
+        0,
+    ];
+    lent::put_words(findings, at, words, 10)
+}
+
+// A stop: the row is entered, and listed.
+pub fn stop(stops: &mut [u64], s: State, l: LoopId, t: TableId, r: RowId) -> State
+    requires { ⌜ t .0 < 16 ⌝ }
+    ensures { λ n. ⌜ Stopped (l .0) (t .0) (r .0) s n (now (stops .entry)) (now (stops .exit)) ⌝ }
+{
+    let words = [l.0 as u64, t.0 as u64, r.0 as u64, 0, 0, 0, 0, 0, 0, 0];
+    let at = lent::put_words(stops, s.stops, words, 3);
+    let mut n = enter_row(s, t, r);
+    n.stops = at;
+    n
+}
+
+// ---- segments
+
+fn trace_words(entry: usize, from: From) -> [u64; 10]
+    ensures { λ n. ⌜ take 3 n ≡ tracedWord (record { entry = entry; row = rowIn from }) ⌝ }
+{
+    match from {
+        From::Envelope => [entry as u64, 0, 0, 0, 0, 0, 0, 0, 0, 0],
+        From::Row(t, r) => [
+            entry as u64,
+            t.0 as u64 + 1,
+            r.0 as u64,
+            0,
+            0,
+            0,
+            0,
+            0,
+            0,
+            0,
+        ],
+    }
+}
+
+// A segment is finished, with so many trace entries more; the document then has `bytes` bytes, the findings `findings` numbers.
+pub fn finish_segment(
+    segments: &mut [u64],
+    s: State,
+    from: From,
+    entries: usize,
+    bytes: usize,
+    findings: usize,
+) -> State
+    ensures { λ n. ⌜ Finished from entries bytes findings s n (now (segments .entry)) (now (segments .exit)) ⌝ }
+{
+    let words = trace_words(s.begun, from);
+    let at = lent::put_words(segments, s.segments, words, 3);
+    let count = lent::more(s.entries, entries);
+    let mut n = s;
+    n.segments = at;
+    n.entries = count;
+    n.begun = count;
+    n.bytes = bytes;
+    n.findings = findings;
+    n
+}
+
+// ---- control numbers
+
+// A loop's next number.
+pub fn number_of(s: State, l: LoopId) -> u64
+    requires { ⌜ l .0 < 32 ⌝ }
+    ensures { λ n. ⌜ n ≡ getD ((stateOf s) .counter) (l .0) 0 ⌝ }
+{
+    let i = l.0 as usize;
+    s.counter[i]
+}
+
+fn next(n: u64) -> u64
+    ensures { λ r. ⌜ r ≡ (n + 1) % 2 ^ 64 ⌝ }
+{
+    if n < 18446744073709551615 {
+        return n + 1;
+    }
+    0
+}
+
+// A loop's next number is taken; after the highest comes 0.
+pub fn take_number(s: State, l: LoopId) -> State
+    requires { ⌜ l .0 < 32 ⌝ }
+    ensures { λ n. ⌜ Moved (counterUp (l .0) (stateOf s)) s n ⌝ }
+{
+    let i = l.0 as usize;
+    let k = next(s.counter[i]);
+    let mut n = s;
+    n.counter[i] = k;
+    n
+}
+
+// The number that a loop took last.
+pub fn taken_number(s: State, l: LoopId) -> u64
+    requires { ⌜ l .0 < 32 ⌝ }
+    ensures { λ n. ⌜ n ≡ taken (l .0) (stateOf s) ⌝ }
+{
+    let k = number_of(s, l);
+    if k == 0 {
+        return 18446744073709551615;
+    }
+    k - 1
+}
