@@ -6,3 +6,4 @@ pub mod JoinLaws
 pub mod StepLaws
 pub mod TableLaws
 pub mod PutLaws
+pub mod Starred

@@ -16,3 +16,4 @@ pub mod Ways
 pub mod Reports
 pub mod Claiming
 pub mod Placing
+pub mod Lacking

@@ -116,6 +116,9 @@ module _ (j : Job) (t r : ℕ) (again : repeated (outlineOf j) t ≡ true) (a : 
   pub claimed-none : (u : TableId) → a ≡ anchored.Nothing u → claimIn (outlineOf j) t r (anchors (outlineOf j) t) ≡ none
   claimed-none u q = the-claim ∙ ap claimIs q
 
+  pub claimed-is : (k : Claimed) → a ≡ anchored.Is k → claimIn (outlineOf j) t r (anchors (outlineOf j) t) ≡ some (record { loop = k .l .0; table = k .table .0; value = k .value })
+  claimed-is k q = the-claim ∙ ap claimIs q
+
   pub hung-unclaimed : (u : TableId) → a ≡ anchored.Nothing u → Hung (outlineOf j) t r (record { above = 0; l = record { 0 = 0 }; table = record { 0 = 0 } })
   hung-unclaimed u q =
       let n = hook-none (outlineOf j) t r again (claimed-none u q) in
@@ -126,7 +129,7 @@ module _ (j : Job) (t r : ℕ) (again : repeated (outlineOf j) t ≡ true) (a : 
     the = record { loop = k .l .0; table = k .table .0; value = k .value }
 
     claimed : claimIn (outlineOf j) t r (anchors (outlineOf j) t) ≡ some the
-    claimed = the-claim ∙ ap claimIs q
+    claimed = claimed-is k q
 
     pub hung-hooked : (p : RowId) → f ≡ Row p → Hung (outlineOf j) t r (record { above = p .0 + 1; l = k .l; table = k .table })
     hung-hooked p z =

@@ -6,6 +6,13 @@ ghost use lib.ListN.{length};
 ghost use lib.Seq.{sets};
 ghost use Rattle.nest.specs.Lists.{keep, first, upTo};
 ghost use Rattle.nest.specs.Found.{foundBy, rowAbove, heldAt, hookedAt};
+ghost use Rattle.lent.specs.Fit.{Stored};
+ghost use Rattle.nest.specs.Nest.{nestArray};
+ghost use Rattle.nest.specs.NestFindings.{nestFindings};
+ghost use Rattle.nest.specs.Ready.{Ready, outlineAt, words};
+use crate::duplicates::all_duplicates;
+use crate::report::all_findings;
+use crate::rows::nest_rows;
 use spec::ids::LoopId;
 use spec::ids::RowId;
 use spec::ids::TableId;
@@ -13,6 +20,7 @@ use spec::ids::TableId;
 pub mod duplicates;
 pub mod hang;
 pub mod keys;
+pub mod report;
 pub mod rows;
 
 // A row, if there is one.
@@ -114,4 +122,14 @@ pub fn next_hooked(
         k += 1;
     }
     Found::Nothing
+}
+
+// Where each row hangs, three numbers a row, and what is found of the rows: duplicate keys first, then row by row.
+pub fn nest(job: &[u8], index: &[u32], nest: &mut [u32], findings: &mut [u64]) -> usize
+    requires { ⌜ Ready (now job) (now index) × (12288 ≤ length (now nest)) ⌝ }
+    ensures { λ n. ⌜ (now (nest .exit) ≡ sets (now (nest .entry)) 0 (nestArray (outlineAt (now (job .entry))))) × Stored (now (findings .entry)) 0 (words (nestFindings (outlineAt (now (job .entry))))) n (now (findings .exit)) ⌝ }
+{
+    nest_rows(job, index, nest);
+    let next = all_duplicates(job, index, findings, 0);
+    all_findings(job, index, findings, next)
 }

@@ -1,0 +1,257 @@
+// What is found of a row: contradictions with the row that it hangs on, or that it hangs on none.
+ghost use mathlib.Core.Path.{_≡_};
+ghost use mathlib.Core.Bool.{true, false};
+ghost use Rattle.lent.specs.Fit.{Stored};
+ghost use Rattle.nest.specs.Outline.{repeated};
+ghost use Rattle.nest.specs.Nest.{rowOf};
+ghost use lib.ListN.{length};
+ghost use Rattle.nest.specs.Lists.{each, upTo};
+ghost use Rattle.nest.specs.NestFindings.{contradictionAt, contradictions, missingAt, rowFindings, tableFindings};
+ghost use Rattle.nest.specs.Ready.{Ready, outlineAt, words};
+use crate::hang::Anchored;
+use crate::hang::claim;
+use crate::hang::place_of;
+use column::OptInt;
+use spec::ids::Number;
+use spec::ids::RowId;
+use spec::ids::TableId;
+
+// The finding of ancestor a, if row r of t and the row p of u that it hangs on refer to different rows of it.
+pub fn contradiction_at(
+    job: &[u8],
+    index: &[u32],
+    findings: &mut [u64],
+    at: usize,
+    t: TableId,
+    r: RowId,
+    u: TableId,
+    p: RowId,
+    a: u32,
+) -> usize
+    requires { ⌜ Ready (now job) (now index) ⌝ }
+    ensures { λ n. ⌜ Stored (now (findings .entry)) at (words (contradictionAt (outlineAt (now (job .entry))) (t .0) (r .0) (rowOf (u .0) (p .0)) a)) n (now (findings .exit)) ⌝ }
+{
+    let own = tables::data::reference(job, index, t, a, r);
+    let above = tables::data::reference(job, index, u, a, p);
+    match own {
+        OptInt::Number(v) => {
+            match above {
+                OptInt::Number(w) => {
+                    if v == w {
+                        return lent::more(at, 0);
+                    }
+                    return lent::put_words(
+                        findings,
+                        at,
+                        [
+                            2,
+                            t.0 as u64,
+                            r.0 as u64,
+                            a as u64,
+                            v,
+                            u.0 as u64,
+                            p.0 as u64,
+                            w,
+                            0,
+                            0,
+                        ],
+                        10,
+                    );
+                }
+                OptInt::NoNumber => {
+                    return lent::more(at, 0);
+                }
+            }
+        }
+        OptInt::NoNumber => {
+            return lent::more(at, 0);
+        }
+    }
+}
+
+// The contradictions of row r of t with the row p of u that it hangs on, over the ancestors of u.
+pub fn contradictions(
+    job: &[u8],
+    index: &[u32],
+    findings: &mut [u64],
+    at: usize,
+    t: TableId,
+    r: RowId,
+    u: TableId,
+    p: RowId,
+) -> usize
+    requires { ⌜ Ready (now job) (now index) ⌝ }
+    ensures { λ n. ⌜ Stored (now (findings .entry)) at (words (contradictions (outlineAt (now (job .entry))) (t .0) (r .0) (rowOf (u .0) (p .0)))) n (now (findings .exit)) ⌝ }
+{
+    let count = spec::tables::ancestor_count(job, index, u);
+    let mut next = lent::more(at, 0);
+    let mut k: u32 = 0;
+    while k < count {
+        let a = spec::tables::ancestor(job, index, u, k);
+        next = contradiction_at(job, index, findings, next, t, r, u, p, a);
+        k = k + 1;
+    }
+    next
+}
+
+// The finding of a repeat row that hangs on none.
+pub fn repeat_missing(
+    job: &[u8],
+    index: &[u32],
+    findings: &mut [u64],
+    at: usize,
+    t: TableId,
+    r: RowId,
+) -> usize
+    requires { ⌜ Ready (now job) (now index) × (repeated (outlineAt (now job)) (t .0) ≡ true) ⌝ }
+    ensures { λ n. ⌜ Stored (now (findings .entry)) at (words (missingAt (outlineAt (now (job .entry))) (t .0) (r .0))) n (now (findings .exit)) ⌝ }
+{
+    let anchored = claim(job, index, t, r);
+    match anchored {
+        Anchored::Is(k) => {
+            let table = k.table;
+            return lent::put_words(
+                findings,
+                at,
+                [
+                    1,
+                    t.0 as u64,
+                    r.0 as u64,
+                    table.0 as u64,
+                    1,
+                    k.value,
+                    0,
+                    0,
+                    0,
+                    0,
+                ],
+                10,
+            );
+        }
+        Anchored::Nothing(last) => {
+            return lent::put_words(
+                findings,
+                at,
+                [1, t.0 as u64, r.0 as u64, last.0 as u64, 0, 0, 0, 0, 0, 0],
+                10,
+            );
+        }
+    }
+}
+
+// The finding of a row of another table that hangs on none; a table without parent has none.
+pub fn parent_missing(
+    job: &[u8],
+    index: &[u32],
+    findings: &mut [u64],
+    at: usize,
+    t: TableId,
+    r: RowId,
+) -> usize
+    requires { ⌜ Ready (now job) (now index) × (repeated (outlineAt (now job)) (t .0) ≡ false) ⌝ }
+    ensures { λ n. ⌜ Stored (now (findings .entry)) at (words (missingAt (outlineAt (now (job .entry))) (t .0) (r .0))) n (now (findings .exit)) ⌝ }
+{
+    let parent = spec::tables::table_parent(job, index, t);
+    match parent {
+        Number::Is(u) => {
+            let value = tables::data::reference(job, index, t, u, r);
+            match value {
+                OptInt::Number(v) => {
+                    return lent::put_words(
+                        findings,
+                        at,
+                        [1, t.0 as u64, r.0 as u64, u as u64, 1, v, 0, 0, 0, 0],
+                        10,
+                    );
+                }
+                OptInt::NoNumber => {
+                    return lent::put_words(
+                        findings,
+                        at,
+                        [1, t.0 as u64, r.0 as u64, u as u64, 0, 0, 0, 0, 0, 0],
+                        10,
+                    );
+                }
+            }
+        }
+        Number::None => {
+            return lent::more(at, 0);
+        }
+    }
+}
+
+// The finding of a row that hangs on none.
+pub fn missing(
+    job: &[u8],
+    index: &[u32],
+    findings: &mut [u64],
+    at: usize,
+    t: TableId,
+    r: RowId,
+) -> usize
+    requires { ⌜ Ready (now job) (now index) ⌝ }
+    ensures { λ n. ⌜ Stored (now (findings .entry)) at (words (missingAt (outlineAt (now (job .entry))) (t .0) (r .0))) n (now (findings .exit)) ⌝ }
+{
+    let again = spec::tables::repeats(job, index, t);
+    if again {
+        return repeat_missing(job, index, findings, at, t, r);
+    }
+    parent_missing(job, index, findings, at, t, r)
+}
+
+// The findings of row r of t.
+pub fn row_findings(
+    job: &[u8],
+    index: &[u32],
+    findings: &mut [u64],
+    at: usize,
+    t: TableId,
+    r: RowId,
+) -> usize
+    requires { ⌜ Ready (now job) (now index) ⌝ }
+    ensures { λ n. ⌜ Stored (now (findings .entry)) at (words (rowFindings (outlineAt (now (job .entry))) (t .0) (r .0))) n (now (findings .exit)) ⌝ }
+{
+    let place = place_of(job, index, t, r);
+    let above = place.above;
+    let table = place.table;
+    if 0 < above {
+        return contradictions(job, index, findings, at, t, r, table, RowId(above - 1));
+    }
+    missing(job, index, findings, at, t, r)
+}
+
+// The findings of the rows of table t.
+pub fn table_findings(
+    job: &[u8],
+    index: &[u32],
+    findings: &mut [u64],
+    at: usize,
+    t: TableId,
+) -> usize
+    requires { ⌜ Ready (now job) (now index) ⌝ }
+    ensures { λ n. ⌜ Stored (now (findings .entry)) at (words (tableFindings (outlineAt (now (job .entry))) (t .0))) n (now (findings .exit)) ⌝ }
+{
+    let n = tables::data::row_count(job, index, t);
+    let mut next = lent::more(at, 0);
+    let mut r: u32 = 0;
+    while r < n {
+        next = row_findings(job, index, findings, next, t, RowId(r));
+        r = r + 1;
+    }
+    next
+}
+
+// The findings of the rows of the spec's tables, table by table.
+pub fn all_findings(job: &[u8], index: &[u32], findings: &mut [u64], at: usize) -> usize
+    requires { ⌜ Ready (now job) (now index) ⌝ }
+    ensures { λ n. ⌜ Stored (now (findings .entry)) at (words (each (tableFindings (outlineAt (now (job .entry)))) (upTo 0 (length (outlineAt (now (job .entry)) .tables))))) n (now (findings .exit)) ⌝ }
+{
+    let count = spec::tables::table_count(job, index);
+    let mut next = lent::more(at, 0);
+    let mut t: u32 = 0;
+    while t < count {
+        next = table_findings(job, index, findings, next, TableId(t));
+        t = t + 1;
+    }
+    next
+}
