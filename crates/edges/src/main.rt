@@ -1,4 +1,4 @@
-// Document 01's edge values and published examples, a line each, as the crate texts writes them. What has to come out is in the file stdout.
+// Document 01's edge values and further dates, times and amounts, a line each, as the crate texts writes them. The file stdout was computed apart.
 mod days;
 mod decimals;
 mod seconds;
