@@ -7,3 +7,4 @@ pub mod StepLaws
 pub mod TableLaws
 pub mod PutLaws
 pub mod Starred
+pub mod TookLaws

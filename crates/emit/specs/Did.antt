@@ -7,9 +7,11 @@ use lib.ListN.{length, getD, set}
 use Rattle.lent.specs.Fit.{cap, more, Stored}
 use Rattle.segment.specs.Parts.{pick}
 use Rattle.nest.specs.Lists.{each}
-use Rattle.walk.specs.Tour.{Stop}
+use Rattle.format.specs.Job.{Job}
+use Rattle.walk.specs.Tour.{Stop, Step, segmentsIn}
 use Rattle.emit.specs.declared.state.Mark.{Mark}
 use Rattle.emit.specs.declared.state.State.{State}
+use Rattle.emit.specs.declared.state.Taken.{Taken}
 use Rattle.emit.specs.declared.state.From.{From}
 use Rattle.emit.specs.declared.state.From.the-variants.{Envelope, Row}
 use Rattle.emit.specs.Written.{wordsOf}
@@ -103,3 +105,10 @@ pub record Finished (from : From) (entries b f : ℕ) (s n : State) (g g′ : Li
   pub segments : Stored g (s .segments) (tracedWords (record { entry = s .begun; row = rowIn from } ∷ [])) (n .segments) g′
   pub findings : n .findings ≡ f
   pub stops : n .stops ≡ s .stops
+
+-- ---- steps
+
+-- these steps were taken from the state s on
+pub record Took (j : Job) (xs : List Step) (s : State) (r : Taken) (d d′ g g′ f f′ p p′ : List ℕ) : Type 0 where
+  pub did : Did (F.stepsOut j xs (stateOf s)) s (r .state) d d′ g g′ f f′ p p′
+  pub written : r .written ≡ segmentsIn xs

@@ -32,6 +32,12 @@ pub struct State {
     pub stops: usize,
 }
 
+// The state behind some steps, and how many segments they wrote.
+pub struct Taken {
+    pub state: State,
+    pub written: usize,
+}
+
 // What a segment comes from: the envelope, or a row of a table.
 pub enum From {
     Envelope,

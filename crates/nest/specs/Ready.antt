@@ -1,9 +1,11 @@
--- What nest asks for: a job that passed, and its index.
+-- What nest and the walk ask for: a job that passed, and its index.
 use Prim.Native.Nat.{ℕ}
 use mathlib.Core.List.{List}
 use Rattle.format.specs.Passed.{Passed}
 use Rattle.format.specs.Sections.{jobOf}
 use Rattle.spec.specs.Index.{SpecIndexed}
+use Rattle.spec.specs.EnvelopeIndex.{EnvelopeIndexed}
+use Rattle.spec.specs.Segments.{SegmentsIndexed}
 use Rattle.plan.specs.Index.{PlanIndexed}
 use Rattle.tables.specs.Index.{TablesIndexed}
 use Rattle.nest.specs.Lists.{each}
@@ -14,6 +16,8 @@ use Rattle.nest.specs.OfJob.{outlineOf}
 pub record Ready (b idx : List ℕ) : Type 0 where
   pub passed : Passed b
   pub spec : SpecIndexed b idx
+  pub envelope : EnvelopeIndexed b idx
+  pub segments : SegmentsIndexed b idx
   pub plan : PlanIndexed b idx
   pub tables : TablesIndexed b idx
 

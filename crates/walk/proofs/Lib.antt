@@ -19,3 +19,4 @@ pub mod DataLaws
 pub mod Bounds
 pub mod EachKind
 pub mod ContextLaws
+pub mod NestedLaws

@@ -1,5 +1,6 @@
 pub mod Instances
 pub mod Contexts
+pub mod Nested
 pub mod Tour
 pub mod Census
 pub mod Complete
