@@ -5,7 +5,7 @@ use crate::shown::signed;
 ghost use Prim.Native.Nat.{_<_};
 
 // The day and the element's max, 99 for none.
-const ROWS: [[i32; 2]; 34] = [
+const ROWS: [[i32; 2]; 46] = [
     // document 01
     [0, 8],
     [-719162, 8],
@@ -15,7 +15,7 @@ const ROWS: [[i32; 2]; 34] = [
     [-7306, 6],
     [29219, 6],
     [29220, 6],
-    // dates as an 835 holds them
+    // published: BPR16, DTM02 and PLB02 of the first example in X12's guide to the 835 (005010X221)
     [11943, 8],
     [11946, 8],
     [12052, 8],
@@ -34,6 +34,20 @@ const ROWS: [[i32; 2]; 34] = [
     // the first day of the Gregorian calendar, and day 1,000,000,000 / 86,400
     [-141427, 8],
     [11574, 8],
+    // published: Meeus, Astronomical Algorithms, chapter 7, by the Julian Day less 2,440,587.5
+    [-4472, 8],
+    [-25567, 8],
+    [-135140, 8],
+    [-134775, 8],
+    [6235, 8],
+    [6378, 8],
+    [6600, 8],
+    [6744, 8],
+    [10592, 8],
+    [10957, 8],
+    // published: the last second of a signed 32-bit time and its first, 2038-01-19 and 1901-12-13
+    [24855, 8],
+    [-24856, 8],
     // past the ends: a day more, the year 0, a century before the window, and where the shift overflows
     [2932897, 8],
     [2932897, 6],
@@ -49,7 +63,7 @@ const ROWS: [[i32; 2]; 34] = [
 ];
 
 fn at(i: usize) -> [i32; 2]
-    requires { ⌜ i < 34 ⌝ }
+    requires { ⌜ i < 46 ⌝ }
 {
     ROWS[i]
 }
@@ -65,7 +79,7 @@ fn row(r: [i32; 2]) {
 
 pub fn all() {
     let mut i: usize = 0;
-    while i < 34 {
+    while i < 46 {
         row(at(i));
         i += 1;
     }

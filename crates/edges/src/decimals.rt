@@ -12,7 +12,7 @@ const ROWS: [[u64; 3]; 42] = [
     [0x0, 0x5, 2],
     [0x0, 0x0, 2],
     [0x0, 0x4b0, 2],
-    // amounts as an 835 holds them
+    // published: amounts of the first example in X12's guide to the 835 (005010X221): BPR02, CLP03, CLP04, CAS03, TS201, TS204, TS206, PLB04
     [0x0, 0xe4e1c0, 2],
     [0x0, 0x1428539, 2],
     [0x0, 0xd29970, 2],

@@ -1,4 +1,4 @@
-// Document 01's edge values and further dates, times and amounts, a line each, as the crate texts writes them. The file stdout was computed apart.
+// Document 01's edge values and further dates, times and amounts, a line each, as the crate texts writes them. The file stdout has the published texts where a row names its source; the rest was computed apart.
 mod days;
 mod decimals;
 mod seconds;

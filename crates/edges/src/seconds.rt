@@ -5,7 +5,7 @@ use crate::shown::signed;
 ghost use Prim.Native.Nat.{_<_};
 
 // The second and the element's max, 99 for none.
-const ROWS: [[i32; 2]; 20] = [
+const ROWS: [[i32; 2]; 26] = [
     // document 01
     [0, 99],
     [3661, 99],
@@ -25,6 +25,13 @@ const ROWS: [[i32; 2]; 20] = [
     [43230, 5],
     [43230, 6],
     [86399, 4],
+    // published: RFC 3339, section 5.8: 23:20:50, 16:39:57, 12:00:27; the times of day of the seconds 1,000,000,000, 1,234,567,890 and 2,147,483,647 since 1970
+    [84050, 99],
+    [59997, 99],
+    [43227, 99],
+    [6400, 99],
+    [84690, 99],
+    [11647, 99],
     // past the ends
     [86400, 4],
     [-1, 4],
@@ -33,7 +40,7 @@ const ROWS: [[i32; 2]; 20] = [
 ];
 
 fn at(i: usize) -> [i32; 2]
-    requires { ⌜ i < 20 ⌝ }
+    requires { ⌜ i < 26 ⌝ }
 {
     ROWS[i]
 }
@@ -49,7 +56,7 @@ fn row(r: [i32; 2]) {
 
 pub fn all() {
     let mut i: usize = 0;
-    while i < 20 {
+    while i < 26 {
         row(at(i));
         i += 1;
     }
