@@ -4,6 +4,8 @@ ghost use Rattle.format.specs.Refusal.{refusalOf};
 ghost use Rattle.refusal.specs.Answer.{numberOf};
 use refusal::Checked;
 
+pub mod nesting;
+
 // Document 01's number.
 fn numbered(c: Checked) -> u32
     ensures { λ r. ⌜ r ≡ numberOf c ⌝ }

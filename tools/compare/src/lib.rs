@@ -1,15 +1,20 @@
 //! Two sides on the same jobs: the proved functions of the static library, and the tools' own.
 //!
 //! - [`subject`]: what is compared; a new comparison is one more [`Subject`];
+//! - `nesting`: the subject `nest`, with the Rust's sources at hand;
 //! - [`lent`]: lists to lend, of many lengths, that tell what was touched;
 //! - [`run`]: the jobs, the summary and the first difference;
 //! - [`smallest`]: a byte string made smaller while it keeps its difference.
 
 pub mod lent;
+#[cfg(feature = "oracle")]
+pub mod nesting;
 pub mod run;
 pub mod smallest;
 pub mod subject;
 
+#[cfg(feature = "oracle")]
+pub use nesting::Nest;
 pub use run::{Summary, run};
 pub use smallest::smallest;
 pub use subject::{Agreed, Check, Subject};

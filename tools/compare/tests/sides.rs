@@ -83,3 +83,67 @@ fn lengths_to_lend() {
     assert_eq!(answer(counts, counts), 0);
     assert_eq!(answer(counts, [9, 0, 0, 4]), 7);
 }
+
+/// `nest` beside the Rust, where both are at hand.
+#[cfg(feature = "oracle")]
+mod nesting {
+    use compare::{Nest, run};
+    use std::time::Duration;
+
+    /// How often the sides differ, and the first difference.
+    fn differing(side: impl Fn(&[u8], &mut [u32], &mut [u64]) -> u64 + Sync) -> (u64, String) {
+        let subject = Nest(side);
+        let summary = run(&subject, 200, 5, 1, Duration::MAX);
+        (summary.differing(), summary.difference(&subject).unwrap_or_default())
+    }
+
+    #[test]
+    fn nest_as_proved() {
+        if native::LINKED {
+            assert_eq!(differing(native::nest), (0, String::new()));
+        }
+    }
+
+    /// A side that keeps its last finding to itself.
+    #[test]
+    fn a_finding_left_out() {
+        if native::LINKED {
+            let (count, text) = differing(|job, nest, findings| match native::nest(job, nest, findings) {
+                all @ 26.. => all - 10,
+                other => other,
+            });
+            assert!(count > 0 && text.contains("nest gives 16, the Rust 26"), "{text}");
+        }
+    }
+
+    /// A side that hangs the first row nowhere.
+    #[test]
+    fn a_row_that_hangs_nowhere() {
+        if native::LINKED {
+            let (count, text) = differing(|job, nest, findings| {
+                let answer = native::nest(job, nest, findings);
+                // The row above plus one, where there is a row that has one.
+                if let Some(first) = nest.first_mut().filter(|first| (1..=4_096).contains(*first)) {
+                    *first = 0;
+                }
+                answer
+            });
+            assert!(count > 0 && text.contains("has 0 as the row above plus one"), "{text}");
+        }
+    }
+
+    /// A side that touches what a refused job leaves alone.
+    #[test]
+    fn a_refused_job() {
+        if native::LINKED {
+            let (count, text) = differing(|job, nest, findings| {
+                let answer = native::nest(job, nest, findings);
+                if let (..16, Some(first)) = (answer, findings.first_mut()) {
+                    *first = 0;
+                }
+                answer
+            });
+            assert!(count > 0 && text.contains("findings of 7, past what belongs there: 0 at 0"), "{text}");
+        }
+    }
+}
