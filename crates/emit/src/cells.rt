@@ -31,7 +31,7 @@ pub struct Written {
     pub reason: u64,
 }
 
-fn reason_of(why: Refused) -> u64
+pub fn reason_of(why: Refused) -> u64
     ensures { λ r. ⌜ r ≡ reasonOf why ⌝ }
 {
     match why {

@@ -23,7 +23,7 @@ ghost use Rattle.emit.specs.Puts.{partAt};
 ghost use Rattle.emit.specs.Envelope.{closerPut};
 
 // A plain text at element p.
-fn put_plain(doc: &mut [u8], job: &[u8], s: Separators, pen: Pen, p: usize, v: Value) -> Pen
+pub fn put_plain(doc: &mut [u8], job: &[u8], s: Separators, pen: Pen, p: usize, v: Value) -> Pen
     ensures { λ r. ⌜ Group s (lastComponent (partAt p none (valueText (now (job .entry)) v) ∷ [])) (componentText (partAt p none (valueText (now (job .entry)) v) ∷ [])) p 1
         pen (now (doc .entry)) r (now (doc .exit)) ⌝ }
 {

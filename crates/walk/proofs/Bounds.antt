@@ -155,7 +155,7 @@ module _ (j : Outline) (R W : ℕ) (f : Step → ℕ) (C : Counted j R f) where
         all : (cs : List Context) → ((k : ℕ) (d : Context) → sum f (visits j h k d) ≤ entersIn (visits j h k d) * K) → sum f (each inst cs) ≤ entersIn (each inst cs) * K
         all cs below = rw (sum-each f inst cs, enters-each inst cs) (scaled (λ d. sum f (inst d)) (λ d. entersIn (inst d)) cs (one below))
 
-    tour-bound : sum f (tour j) ≤ census j * K
+    pub tour-bound : sum f (tour j) ≤ census j * K
     unfolding tourTo census
     tour-bound =
         rw (sum-each f (λ l. visits j (length (j .loops)) l outside) (j .roots), enters-each (λ l. visits j (length (j .loops)) l outside) (j .roots))

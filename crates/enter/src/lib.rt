@@ -1,0 +1,132 @@
+// A row is entered: a finding where it is lower than the highest of its table yet entered, and a stop.
+use column::OptInt;
+use emit::state;
+use emit::state::State;
+use spec::ids::LoopId;
+use spec::ids::Number;
+use spec::ids::RowId;
+use spec::ids::TableId;
+ghost use mathlib.Core.Path.{_≡_};
+ghost use mathlib.Core.List.{List, [], _∷_};
+ghost use mathlib.Core.Option.{none};
+ghost use Prim.Native.Nat.{ℕ, _+_, _*_, _<_};
+ghost use lib.ListN.{length, getD};
+ghost use Rattle.lent.specs.Fit.{Stored};
+ghost use Rattle.spec.specs.Answers.{numberOf};
+ghost use Rattle.nest.specs.Lists.{on};
+ghost use Rattle.nest.specs.Outline.{rowCount};
+ghost use Rattle.nest.specs.Finding.{outOfOrder};
+ghost use Rattle.nest.specs.Ready.{Ready, outlineAt};
+ghost use Rattle.walk.specs.Nested.{Nested};
+ghost use Rattle.emit.specs.Fold.{above, orderFindings, stopOut};
+ghost use Rattle.emit.specs.Written.{wordsOf};
+ghost use Rattle.emit.specs.Did.{stateOf, Did, Small};
+ghost use Rattle.enter.specs.Placed.{placedAt};
+
+// The table that placed a repeat row.
+fn placed_by(nest: &[u32], base: usize, r: RowId) -> Number
+    requires { ⌜ (base + r .0) * 3 + 2 < length (now nest) ⌝ }
+    ensures { λ n. ⌜ numberOf n ≡ placedAt (now (nest .entry)) base (r .0) ⌝ }
+{
+    let i = (base + r.0 as usize) * 3;
+    if nest[i] == 0 {
+        return Number::None;
+    }
+    let k = i + 2;
+    Number::Is(nest[k])
+}
+
+// The table that a row hangs on.
+fn table_above(job: &[u8], index: &[u32], nest: &[u32], t: TableId, r: RowId) -> Number
+    requires { ⌜ Nested (now job) (now index) (now nest) × (r .0 < rowCount (outlineAt (now job)) (t .0)) ⌝ }
+    ensures { λ n. ⌜ numberOf n ≡ above (outlineAt (now (job .entry))) (t .0) (r .0) ⌝ }
+{
+    let again = spec::tables::repeats(job, index, t);
+    if again {
+        let first = tables::data::first_row(job, index, t);
+        return placed_by(nest, first as usize, r);
+    }
+    spec::tables::table_parent(job, index, t)
+}
+
+// A row's reference to a table above; 0 where there is none.
+fn reference(job: &[u8], index: &[u32], t: TableId, above: u32, r: RowId) -> u64
+    requires { ⌜ Ready (now job) (now index) ⌝ }
+    ensures { λ n. ⌜ n ≡ on (outlineAt (now (job .entry)) .reference (t .0) above (r .0)) (λ v. v) 0 ⌝ }
+{
+    let value = tables::data::reference(job, index, t, above, r);
+    match value {
+        OptInt::Number(v) => v,
+        OptInt::NoNumber => 0,
+    }
+}
+
+// The finding of a row that is lower than the highest; a row of a table with none above has no finding.
+fn note_lower(
+    job: &[u8],
+    index: &[u32],
+    findings: &mut [u64],
+    at: usize,
+    t: TableId,
+    r: RowId,
+    table: Number,
+    highest: u32,
+) -> usize
+    requires { ⌜ Ready (now job) (now index) ⌝ }
+    ensures { λ n. ⌜ Stored (now (findings .entry)) at (wordsOf (on (numberOf table) (λ u. outOfOrder (t .0) (r .0) u (on (outlineAt (now (job .entry)) .reference (t .0) u (r .0)) (λ v. v) 0) highest ∷ []) [])) n (now (findings .exit)) ⌝ }
+{
+    match table {
+        Number::Is(u) => {
+            let value = reference(job, index, t, u, r);
+            return state::note_order(findings, at, t, r, u, value, highest);
+        }
+        Number::None => {
+            return lent::more(at, 0);
+        }
+    }
+}
+
+// The findings on a row's order.
+fn note_order(
+    job: &[u8],
+    index: &[u32],
+    nest: &[u32],
+    findings: &mut [u64],
+    s: State,
+    t: TableId,
+    r: RowId,
+) -> usize
+    requires { ⌜ Nested (now job) (now index) (now nest) × (t .0 < 16) × (r .0 < rowCount (outlineAt (now job)) (t .0)) ⌝ }
+    ensures { λ n. ⌜ Stored (now (findings .entry)) (s .findings) (wordsOf (orderFindings (outlineAt (now (job .entry))) (t .0) (r .0) (getD ((stateOf s) .high) (t .0) none))) n (now (findings .exit)) ⌝ }
+{
+    let m = state::highest(s, t);
+    if m.seen {
+        if r.0 < m.row {
+            let table = table_above(job, index, nest, t, r);
+            return note_lower(job, index, findings, s.findings, t, r, table, m.row);
+        }
+        return lent::more(s.findings, 0);
+    }
+    lent::more(s.findings, 0)
+}
+
+// A row of a table is entered by loop l.
+pub fn enter(
+    job: &[u8],
+    index: &[u32],
+    nest: &[u32],
+    findings: &mut [u64],
+    stops: &mut [u64],
+    s: State,
+    l: LoopId,
+    t: TableId,
+    r: RowId,
+) -> State
+    requires { ⌜ Nested (now job) (now index) (now nest) × Small s × (t .0 < 16) × (r .0 < rowCount (outlineAt (now job)) (t .0)) ⌝ }
+    ensures { λ n. ⌜ ((d g : List ℕ) → Did (stopOut (outlineAt (now (job .entry))) (l .0) (t .0) (r .0) (stateOf s)) s n d d g g (now (findings .entry)) (now (findings .exit)) (now (stops .entry)) (now (stops .exit))) ⌝ }
+{
+    let at = note_order(job, index, nest, findings, s, t, r);
+    let mut noted = s;
+    noted.findings = at;
+    state::stop(stops, noted, l, t, r)
+}

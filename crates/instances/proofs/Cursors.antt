@@ -1,0 +1,150 @@
+-- What a cursor has still to give, one law for each way that code takes.
+use Prim.Native.Nat.{ℕ, _+_, _-_, _≤_, _<_}
+use mathlib.Core.Path.{_≡_, refl, sym, ap, ap₂, _∙_, subst}
+use mathlib.Core.Bool.{Bool, true, false, false≢true}
+use mathlib.Core.List.{List, [], _∷_, map}
+use mathlib.Core.Option.{some, Option·some-injective}
+use native.Mathlib.Omega.{arith}
+use lib.ListN.{length}
+use lib.Dec.{eqb}
+use borrow.Author.Tests.{eq-eqb, ne-eqb, eqb-true}
+use Rattle.nest.specs.Outline.{Outline, rowCount}
+use Rattle.spec.specs.declared.ids.LoopId.{LoopId}
+use Rattle.walk.specs.declared.Context.{Context as Kept}
+use Rattle.walk.specs.Instances.{Context, Piece, pieces, at, inRow, inPiece}
+use Rattle.walk.specs.Contexts.{contextBy, startBy, keptRow, keptPiece}
+use Rattle.walk.specs.Nested.{Sound}
+use Rattle.walk.proofs.ContextLaws.{stands-in-row, stands-in-piece}
+use Rattle.instances.specs.declared.Cursor.{Cursor}
+use Rattle.instances.specs.declared.Next.{Next}
+use Rattle.instances.specs.declared.rows.RowAhead.{RowAhead}
+use Rattle.instances.specs.Cursor.{startOf, left, piecesAt, runs, coming, Inside, Going, moved, rowless, Here, Ahead, RunEnds, Came}
+use Rattle.instances.proofs.Runs.{left-moved}
+
+-- ---- by kind
+
+pub coming-none : (o : Outline) (n : List ℕ) (cur : Cursor) → cur .kind ≡ 0 → coming o n cur ≡ []
+unfolding coming
+coming-none o n cur e = rw (eq-eqb (cur .kind) 0 e)
+
+pub coming-one : (o : Outline) (n : List ℕ) (cur : Cursor) → cur .kind ≡ 1 → coming o n cur ≡ contextBy (cur .context) ∷ []
+unfolding coming
+coming-one o n cur e = rw (ne-eqb (cur .kind) 0 (λ z. absurd (omega (arith, e, z))), eq-eqb (cur .kind) 1 e)
+
+pub coming-rows : (o : Outline) (n : List ℕ) (cur : Cursor) → cur .kind ≡ 2 → coming o n cur ≡ map (inRow (cur .table .0) (contextBy (cur .context))) (left n cur)
+unfolding coming
+coming-rows o n cur e = rw (ne-eqb (cur .kind) 0 (λ z. absurd (omega (arith, e, z))), ne-eqb (cur .kind) 1 (λ z. absurd (omega (arith, e, z))), eq-eqb (cur .kind) 2 e)
+
+pub coming-runs : (o : Outline) (n : List ℕ) (cur : Cursor) → 3 ≤ cur .kind → coming o n cur ≡ map (inPiece (cur .table .0) (contextBy (cur .context))) (runs o n cur)
+unfolding coming
+coming-runs o n cur h =
+    rw (ne-eqb (cur .kind) 0 (λ z. absurd (omega (arith, h, z))), ne-eqb (cur .kind) 1 (λ z. absurd (omega (arith, h, z))), ne-eqb (cur .kind) 2 (λ z. absurd (omega (arith, h, z))))
+
+-- ---- the rows of an inner context are there
+
+module _ (o : Outline) (c : Context) (t r : ℕ) (s : Sound o c) (h : r < rowCount o t) where
+  inner-row : (u p : ℕ) → at t r (c .row) u ≡ some p → p < rowCount o u
+  inner-row u p e = go (eqb u t) refl
+    where
+      go : (b : Bool) → eqb u t ≡ b → p < rowCount o u
+      go true q =
+          let x : r ≡ p = Option·some-injective r p (rw q at e) in
+          let y : rowCount o u ≡ rowCount o t = ap (rowCount o) (eqb-true u t q) in
+          omega (arith, x, y, h)
+      go false q = s .there u p (rw q at e)
+
+  pub sound-in-row : Sound o (inRow t c r)
+  sound-in-row = record { there = inner-row }
+
+  pub sound-in-piece : (p : Piece) → p .head ≡ r → Sound o (inPiece t c p)
+  sound-in-piece p e = record { there = λ u q z. inner-row u q (rw e at z) }
+
+-- ---- contexts as code keeps them
+
+pub in-row-is : (c d : Kept) (t r : ℕ) → t < length (c .rows) → d ≡ keptRow c t r → contextBy d ≡ inRow t (contextBy c) r
+in-row-is c d t r w q = ap contextBy q ∙ stands-in-row c t r w
+
+pub in-run-is : (c d : Kept) (t head start end : ℕ) → t < length (c .rows) → d ≡ keptPiece c t head start end
+    → (p : Piece) → p .head ≡ head → start ≡ startBy c t + p .start → end ≡ startBy c t + p .end → contextBy d ≡ inPiece t (contextBy c) p
+in-run-is c d t head start end w q p e f g = ap contextBy (q ∙ rw (← e, f, g)) ∙ stands-in-piece c t p w
+
+-- ---- the next instance
+
+over : (o : Outline) (n : List ℕ) (cur : Cursor) (r : Next) → r .more ≡ false → coming o n cur ≡ [] → Came o n cur r
+over o n cur r m e = record { ended = λ z. e; came = λ z. absurd (false≢true (sym m ∙ z)); sound = λ z. absurd (false≢true (sym m ∙ z)); still = λ z. absurd (false≢true (sym m ∙ z)) }
+
+module _ (o : Outline) (n : List ℕ) where
+  pub going-rowless : (kind : ℕ) (l : LoopId) (c : Kept) → l .0 < 32 → Sound o (contextBy c) → Going o n (rowless kind l c)
+  going-rowless kind l c h s = record {
+    inner = record { room = omega arith; few = omega arith; small = omega arith; behind = omega arith; within = omega arith };
+    a-table = omega arith;
+    a-loop = h;
+    there = omega arith;
+    sound = s;
+  }
+
+  going-moved : (cur : Cursor) (seen k : ℕ) → Going o n cur → Inside n (moved cur seen k) → Going o n (moved cur seen k)
+  going-moved cur seen k g i = record { inner = i; a-table = g .a-table; a-loop = g .a-loop; there = g .there; sound = g .sound }
+
+  pub further : (cur : Cursor) (seen k : ℕ) (d : Cursor) → d ≡ moved cur seen k → Going o n cur → Inside n (moved cur seen k) → Inside n d × (d .l .0 < 32)
+  further cur seen k d e g i = subst (λ (x : Cursor). Inside n x × (x .l .0 < 32)) (sym e) (i, g .a-loop)
+
+  module _ (cur : Cursor) where
+    pub came-none : (r : Next) → r .more ≡ false → cur .kind ≡ 0 → Came o n cur r
+    came-none r m e = over o n cur r m (coming-none o n cur e)
+
+    pub came-one : (d : Cursor) → cur .kind ≡ 1 → Going o n cur → d ≡ rowless 0 (cur .l) (cur .context) → Came o n cur (record { more = true; context = cur .context; cursor = d })
+    came-one d e g q = record {
+      ended = λ z. absurd (false≢true (sym z));
+      came = λ z. coming-one o n cur e ∙ ap (λ xs. contextBy (cur .context) ∷ xs) (sym (coming-none o n d (ap (λ (x : Cursor). x .kind) q)));
+      sound = λ z. g .sound;
+      still = λ z. subst (Going o n) (sym q) (going-rowless 0 (cur .l) (cur .context) (g .a-loop) (g .sound));
+    }
+
+    -- a `Rows` loop
+    pub rows-over : (a : RowAhead) (r : Next) → r .more ≡ false → cur .kind ≡ 2 → Ahead n cur a → a .more ≡ false → Came o n cur r
+    rows-over a r m e h f = over o n cur r m (coming-rows o n cur e ∙ ap (map (inRow (cur .table .0) (contextBy (cur .context)))) (h .over f))
+
+    pub came-row : (a : RowAhead) (d : Kept) (next : Cursor) → cur .kind ≡ 2 → Going o n cur → Here n cur a
+        → contextBy d ≡ inRow (cur .table .0) (contextBy (cur .context)) (a .row .0) → next ≡ moved cur (a .seen) (a .next) → Came o n cur (record { more = true; context = d; cursor = next })
+    came-row a d next e g h stands p =
+        let t : ℕ = cur .table .0 in
+        let c : Context = contextBy (cur .context) in
+        record {
+          ended = λ z. absurd (false≢true (sym z));
+          came = λ z. coming-rows o n cur e ∙ ap (map (inRow t c)) (h .rest)
+              ∙ ap₂ (λ x xs. x ∷ xs) (sym stands) (ap (map (inRow t c)) (sym (left-moved n cur (a .seen) (a .next) (a .seen) (a .next))) ∙ sym (coming-rows o n (moved cur (a .seen) (a .next)) e) ∙ ap (coming o n) (sym p));
+          sound = λ z. subst (Sound o) (sym stands) (sound-in-row o c t (a .row .0) (g .sound) (omega (arith, h .exists, g .there)));
+          still = λ z. subst (Going o n) (sym p) (going-moved cur (a .seen) (a .next) g (h .inner));
+        }
+
+    -- a `Groups` loop
+    pub runs-over : (a : RowAhead) (r : Next) → r .more ≡ false → 3 ≤ cur .kind → Ahead n cur a → a .more ≡ false → Came o n cur r
+    runs-over a r m e h f = over o n cur r m (coming-runs o n cur e ∙ ap (λ xs. map (inPiece (cur .table .0) (contextBy (cur .context))) (piecesAt (o .sameGroup (cur .l .0)) (cur .seen - startOf cur) xs)) (h .over f))
+
+    pub came-run : (a e : RowAhead) (first : Cursor) (d : Kept) (next : Cursor) → 3 ≤ cur .kind → Going o n cur → Here n cur a → first ≡ moved cur (a .seen) (a .next) → RunEnds o n first (a .row .0) e
+        → ((p : Piece) → p .head ≡ a .row .0 → a .seen - 1 ≡ startOf cur + p .start → e .seen ≡ startOf cur + p .end → contextBy d ≡ inPiece (cur .table .0) (contextBy (cur .context)) p) → next ≡ moved cur (e .seen) (e .next)
+        → Came o n cur (record { more = true; context = d; cursor = next })
+    came-run a e first d next k g h f run₀ q p =
+        let t : ℕ = cur .table .0 in
+        let c : Context = contextBy (cur .context) in
+        let same : ℕ → ℕ → Bool = o .sameGroup (cur .l .0) in
+        let run : RunEnds o n (moved cur (a .seen) (a .next)) (a .row .0) e = subst (λ (x : Cursor). RunEnds o n x (a .row .0) e) f run₀ in
+        let start : ℕ = cur .seen - startOf cur in
+        let it : Piece = record { head = a .row .0; start = start; end = e .seen - startOf cur } in
+        let on : a .seen ≤ e .seen = run .on in
+        let from-here : a .seen - 1 ≡ startOf cur + start = omega (arith, h .place) in
+        let to-there : e .seen ≡ startOf cur + (e .seen - startOf cur) = omega (arith, h .place, on) in
+        let stands : contextBy d ≡ inPiece t c it = q it refl from-here to-there in
+        let place : start + 1 ≡ a .seen - startOf cur = omega (arith, h .place) in
+        let all : runs o n cur ≡ it ∷ runs o n (moved cur (e .seen) (e .next)) =
+        ap (piecesAt same start) (h .rest)
+        ∙ ap₂ (λ x xs. pieces same (a .row .0) start x xs) place (sym (left-moved n cur (a .seen) (a .next) (a .seen) (a .next)))
+        ∙ run .run start in
+        record {
+          ended = λ z. absurd (false≢true (sym z));
+          came = λ z. coming-runs o n cur k ∙ ap (map (inPiece t c)) all
+              ∙ ap₂ (λ x xs. x ∷ xs) (sym stands) (sym (coming-runs o n (moved cur (e .seen) (e .next)) k) ∙ ap (coming o n) (sym p));
+          sound = λ z. subst (Sound o) (sym stands) (sound-in-piece o c t (a .row .0) (g .sound) (omega (arith, h .exists, g .there)) it refl);
+          still = λ z. subst (Going o n) (sym p) (going-moved cur (e .seen) (e .next) g (run .inner));
+        }

@@ -1,0 +1,5 @@
+pub mod RowsLeft
+pub mod Runs
+pub mod Cursors
+pub mod Made
+pub mod Some

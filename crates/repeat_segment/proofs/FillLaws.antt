@@ -1,0 +1,191 @@
+-- What a row of a chunk leaves, planned element by planned element.
+use Prim.Native.Nat.{ℕ, zero, suc, _+_, _*_, _≤_, _<_}
+use mathlib.Core.Path.{_≡_, refl, sym, ap, _∙_}
+use mathlib.Core.Bool.{Bool, true, false}
+use mathlib.Core.List.{List, [], _∷_}
+use mathlib.Core.Option.{Option, none}
+use native.Mathlib.Omega.{arith}
+use native.Mathlib.Numerals.{add-one}
+use lib.Dec.{eqb}
+use lib.ListN.{length, getD, take, drop, length-take, length-drop}
+use lib.Seq.{drop-cons, getD-take, getD-drop}
+use borrow.Author.Tests.{eq-eqb, ne-eqb}
+use Rattle.lent.specs.Fit.{cap, more, Stored}
+use Rattle.lent.proofs.Laws.{more-more}
+use Rattle.format.specs.Job.{Job}
+use Rattle.format.specs.Sections.{jobOf}
+use Rattle.format.specs.Ask.{loopOf, plannedOf, identifierOf, stepOf}
+use Rattle.segment.specs.Parts.{pick}
+use Rattle.spec.specs.declared.ids.Stretch.{Stretch}
+use Rattle.spec.specs.declared.ids.LoopId.{LoopId}
+use Rattle.spec.specs.declared.ids.TableId.{TableId}
+use Rattle.spec.specs.Answers.{stretchOf, numberOf, Holds}
+use Rattle.plan.specs.declared.answers.ElementPlan.{ElementPlan as Element}
+use Rattle.plan.specs.declared.answers.ValueSource.the-variants.{Column, Group, Code}
+use Rattle.plan.specs.Answers.{elementOf}
+use Rattle.plan.specs.Elements.{Elements}
+use Rattle.nest.specs.Ready.{Ready}
+use Rattle.nest.specs.Finding.{numberFrom}
+use Rattle.emit.specs.declared.state.State.{State}
+use Rattle.emit.specs.declared.findings.Repetition.{Repetition}
+use Rattle.emit.specs.declared.findings.Repetition.the-variants.{Absent, Byte}
+use Rattle.emit.specs.Puts.{Put, andPut, nothing, putCell, putText, chunkPut}
+use Rattle.emit.specs.Written.{wordsOf}
+use Rattle.emit.specs.Fold.{separatorsOf, fillOut}
+use Rattle.emit.specs.Did.{stateOf, tracedWords, stopWords, Did, Small}
+use Rattle.emit.proofs.FindingLaws as F
+use Rattle.emit.proofs.FindingLaws.{none-stored, stored-findings}
+use Rattle.repeat_segment.specs.declared.planned.Planned.{Planned}
+use Rattle.repeat_segment.specs.Planned.{plansOf, idOf, Of, Along, Read, repetitionOf}
+use Rattle.repeat_segment.specs.Places.{elementPut, rowPuts}
+use Rattle.repeat_segment.specs.Filled.{Filled}
+use Rattle.repeat_segment.proofs.Limits.{element-small, step-small, identifier-short, held-length}
+use Rattle.repeat_segment.proofs.Steps.{take-next, take-end, along-first, row-snoc}
+
+-- ---- what is held
+
+pub planned-of : (b idx : List ℕ) (l : LoopId) (i : ℕ) (t : TableId) (k step first count : ℕ) (id : Stretch) → Ready b idx
+    → k ≡ (plannedOf (jobOf b) (l .0) i) .occurrence → Holds b id (getD ((loopOf (jobOf b) (l .0)) .occurrences) k []) → step ≡ stepOf (jobOf b) (t .0)
+    → Elements b first ((plannedOf (jobOf b) (l .0) i) .elements) → count ≡ length ((plannedOf (jobOf b) (l .0) i) .elements)
+    → Of b (record { l = l; i = i; table = t; step = step; id = id; first = first; count = count })
+unfolding identifierOf
+planned-of b idx l i t k step first count id w e h q x n =
+    let z : Holds b id (identifierOf (jobOf b) (l .0) i) = rw e at h in
+    record {
+      size = w .plan .short;
+      plan-end = w .plan .planEnd;
+      elements = x;
+      counted = n;
+      id = z;
+      short = held-length b id _ z (identifier-short b (w .passed) (l .0) i);
+      step = q;
+      near = rw q (step-small b (w .passed) (t .0));
+      low = λ j m. element-small b (w .passed) (l .0) i j m;
+    }
+
+pub separators-are : (j : Job) (e c t : ℕ) (f : Bool) → e ≡ j .envelope .element → c ≡ j .envelope .component → t ≡ j .envelope .segment → f ≡ j .envelope .lineBreak
+    → separatorsOf j ≡ record { element = e; component = c; segment = t; «line_break» = f }
+separators-are j e c t f x y z w = rw (x, y, z, w) refl
+
+pub same-repetition : (r : Repetition) (o : Option ℕ) → repetitionOf r ≡ o → F.repetitionOf r ≡ o
+same-repetition Absent o h = h
+same-repetition (Byte b) o h = h
+
+-- ---- the number of an identifier
+
+-- so far a number of so many bytes
+pub record Digits (i n : ℕ) : Type 0 where
+  pub none : i ≤ 0 → n ≡ 0
+  pub one : i ≤ 1 → n < 256
+  pub two : i ≤ 2 → n < 65536
+  pub most : n < 16777216
+
+pub no-digits : Digits 0 0
+no-digits = record { none = λ _. refl; one = λ _. omega arith; two = λ _. omega arith; most = omega arith }
+
+pub next-digit : (i n x : ℕ) → Digits i n → i < 3 → x < 256 → Digits (i + 1) (n * 256 + x)
+next-digit zero n x d h k = let z = d .none (omega arith) in record { none = λ q. absurd (omega arith); one = λ q. omega arith; two = λ q. omega arith; most = omega arith }
+next-digit (suc zero) n x d h k = let z = d .one (omega arith) in record { none = λ q. absurd (omega arith); one = λ q. absurd (omega arith); two = λ q. omega arith; most = omega arith }
+next-digit (suc (suc i)) n x d h k = let z = d .two (omega arith) in record { none = λ q. absurd (omega arith); one = λ q. absurd (omega arith); two = λ q. absurd (omega arith); most = omega arith }
+
+module _ (b : List ℕ) (s : Stretch) where
+  pub number-next : (i n x : ℕ) → s .start + s .len ≤ length b → i < s .len → x ≡ getD b (s .start + i) 0 → numberFrom n (drop i (stretchOf b s)) ≡ numberFrom (n * 256 + x) (drop (i + 1) (stretchOf b s))
+  unfolding stretchOf
+  number-next i n x w h e =
+      let l = length-take (s .len) (drop (s .start) b) in
+      let m = length-drop (s .start) b in
+      let q : i < length (stretchOf b s) = omega arith in
+      let v : getD (stretchOf b s) i 0 ≡ x = getD-take (s .len) (drop (s .start) b) i 0 h ∙ getD-drop (s .start) b i 0 ∙ sym e in
+      rw (add-one, drop-cons (stretchOf b s) i 0 q, v) refl
+
+  pub number-end : (i n : ℕ) → s .len ≤ i → n ≡ numberFrom n (drop i (stretchOf b s))
+  unfolding stretchOf
+  number-end i n h =
+      let l = length-take (s .len) (drop (s .start) b) in
+      rw (nothing-left i (stretchOf b s) (omega arith)) refl
+    where
+      nothing-left : (k : ℕ) (es : List ℕ) → length es ≤ k → drop k es ≡ []
+      nothing-left zero [] h = refl
+      nothing-left zero (x ∷ es) h = absurd (omega arith)
+      nothing-left (suc k) [] h = refl
+      nothing-left (suc k) (x ∷ es) h = nothing-left k es (omega arith)
+
+-- ---- one element
+
+module _ (b : List ℕ) (s : Planned) (e : Element) (k r : ℕ) where
+  pub first-column : (n : ℕ) → e .value ≡ Column n → k ≡ 0 → elementPut b s k r (elementOf b e) ≡ putCell (jobOf b) (idOf b s) (e .element) (numberOf (e .component)) (s .table .0) n r
+  unfolding elementPut
+  first-column n h z = rw (h, eq-eqb k 0 z) refl
+
+  pub later-column : (n : ℕ) → e .value ≡ Column n → (k ≡ 0 → ⊥) → elementPut b s k r (elementOf b e) ≡ nothing
+  unfolding elementPut
+  later-column n h z = rw (h, ne-eqb k 0 z) refl
+
+  pub group-cell : (n : ℕ) → e .value ≡ Group n → elementPut b s k r (elementOf b e) ≡ putCell (jobOf b) (idOf b s) (e .element + k * s .step) (numberOf (e .component)) (s .table .0) n r
+  unfolding elementPut
+  group-cell n h = rw h refl
+
+  pub code-quiet : (c : Stretch) → e .value ≡ Code c → ((elementPut b s k r (elementOf b e)) .findings ≡ []) × ((elementPut b s k r (elementOf b e)) .entries ≡ 0)
+  unfolding elementPut
+  code-quiet c h = rw h (go (eqb k 0) (putText (e .element) (numberOf (e .component)) (stretchOf b c)) refl refl)
+    where
+      go : (t : Bool) (p : Put) → p .findings ≡ [] → p .entries ≡ 0 → ((pick t p nothing) .findings ≡ []) × ((pick t p nothing) .entries ≡ 0)
+      go true p f n = (f, n)
+      go false p f n = (refl, refl)
+
+pub cell-entry : {p : Put} (b : List ℕ) (id : List ℕ) (e : ℕ) (c : Option ℕ) (t n r : ℕ) → p ≡ putCell (jobOf b) id e c t n r → 1 ≡ p .entries
+unfolding putCell
+cell-entry b id e c t n r h = rw h refl
+
+pub no-finding : {d : List ℕ} {at n : ℕ} (p : Put) → p .findings ≡ [] → n ≡ more at 0 → Stored d at (wordsOf (p .findings)) n d
+no-finding p h e = rw h (none-stored e)
+
+pub still : (m : ℕ) → m ≤ cap → m ≡ more m 0
+still m h = omega arith
+
+-- ---- the elements one by one
+
+pub record FillSoFar (b : List ℕ) (s : Planned) (k r : ℕ) (state : State) (f₀ f : List ℕ) (at i found count : ℕ) : Type 0 where
+  pub along : Along b s at i
+  pub stored : Stored f₀ (state .findings) (wordsOf ((rowPuts b s k r (take i (plansOf b s))) .findings)) found f
+  pub entries : count ≡ more (state .entries) ((rowPuts b s k r (take i (plansOf b s))) .entries)
+
+module _ (b : List ℕ) (s : Planned) (o : Of b s) (k r : ℕ) (state : State) where
+  pub fill-start : {f : List ℕ} (entries : ℕ) → Small state → entries ≡ more (state .entries) 0 → FillSoFar b s k r state f f (s .first) 0 (state .findings) entries
+  unfolding rowPuts chunkPut
+  fill-start entries h e = record { along = along-first b s o; stored = none-stored (still (state .findings) (h .findings)); entries = e }
+
+  pub fill-next : {f₀ f f₁ : List ℕ} {at i found entries n : ℕ} (e : Element) (m : ℕ) → length f₀ ≤ cap → i < s .count → FillSoFar b s k r state f₀ f at i found entries → Read b s i e
+      → Stored f found (wordsOf ((elementPut b s k r (elementOf b e)) .findings)) n f₁ → m ≡ (elementPut b s k r (elementOf b e)) .entries
+      → FillSoFar b s k r state f₀ f₁ (e .next) (i + 1) n (more entries m)
+  fill-next {at = at} {i = i} e m c h w q x y =
+      let p : rowPuts b s k r (take (i + 1) (plansOf b s)) ≡ andPut (rowPuts b s k r (take i (plansOf b s))) (elementPut b s k r (elementOf b e)) = ap (rowPuts b s k r) (take-next b s o at i (w .along) h e q) ∙ row-snoc b s k r _ _ in
+      record {
+        along = q .along;
+        stored = rw p (stored-findings ((rowPuts b s k r (take i (plansOf b s))) .findings) ((elementPut b s k r (elementOf b e)) .findings) c (w .stored) x);
+        entries = rw (p, w .entries, y) (more-more _ _ _);
+      }
+
+  pub fill-end : {f₀ f : List ℕ} {at i found entries : ℕ} → s .count ≤ i → FillSoFar b s k r state f₀ f at i found entries
+      → Filled (rowPuts b s k r (plansOf b s)) state (record { high = state .high; counter = state .counter; entries = entries; begun = state .begun; bytes = state .bytes; segments = state .segments; findings = found; stops = state .stops }) f₀ f
+  fill-end {i = i} h w =
+      let e = take-end b s o i h in
+      record { high = refl; counter = refl; entries = rw e at (w .entries); begun = refl; bytes = refl; segments = refl; findings = rw e at (w .stored); stops = refl }
+
+-- ---- the whole row
+
+unmoved : {m n : ℕ} {d : List ℕ} → m ≤ cap → n ≡ m → Stored d m [] n d
+unmoved h e = record { counted = omega arith; stored = refl }
+
+pub did-fill : {n : State} {f f′ : List ℕ} (b : List ℕ) (s : Planned) (l : LoopId) (i : ℕ) (t : TableId) (k r : ℕ) (state : State) → Of b s → s .l ≡ l → s .i ≡ i → s .table ≡ t → Small state
+    → Filled (rowPuts b s k r (plansOf b s)) state n f f′ → (d g p : List ℕ) → Did (fillOut (jobOf b) (l .0) i (t .0) k r (stateOf state)) state n d d g g f f′ p p
+unfolding fillOut stateOf tracedWords stopWords rowPuts
+did-fill {n} b s l i t k r state o el ei et h w d g p =
+    rw (← el, ← ei, ← et, ← o .step)
+    record {
+      state = rw (w .high, w .counter, w .entries, w .begun) refl;
+      document = unmoved (h .bytes) (w .bytes);
+      segments = unmoved (h .segments) (w .segments);
+      findings = w .findings;
+      stops = unmoved (h .stops) (w .stops);
+    }

@@ -1,0 +1,184 @@
+-- Places and texts of a planned element, by its kind.
+use Prim.Native.Nat.{ℕ, _+_, _*_, _-_, _/_, _%_, _≤_, _<_}
+use mathlib.Core.Path.{_≡_, refl, sym, ap, _∙_}
+use mathlib.Core.Bool.{Bool, true, false}
+use mathlib.Core.List.{List, [], _∷_}
+use mathlib.Core.Option.{Option, none, some}
+use native.Mathlib.Omega.{arith}
+use native.Mathlib.Nat.{mul-le-mul-left, mul-lt-mul-of-pos-right, mul-comm, mul-zero, mod-add-div, mul-mod-left, eq-of-mul-eq-mul-right}
+use lib.Dec.{eqb}
+use borrow.Author.Tests.{eqb-true}
+use Rattle.format.specs.Plan.{Value, fromColumn, fromGroup, fromCode, ElementPlan}
+use Rattle.segment.specs.Parts.{Part, pick}
+use Rattle.segment.specs.declared.Value.{Value as Text}
+use Rattle.segment.specs.Pen.{valueText}
+use Rattle.spec.specs.declared.ids.Stretch.{Stretch}
+use Rattle.spec.specs.Answers.{stretchOf, numberOf}
+use Rattle.format.specs.Sections.{jobOf}
+use Rattle.format.specs.Ask.{on, maxOf, dataOf}
+use Rattle.column.specs.Cell.{Cell, orNull, cellOf}
+use Rattle.column.specs.Answers.{cellAt}
+use Rattle.column.specs.declared.Cell.{Cell as Read}
+use Rattle.texts.specs.declared.render.Max.{Max}
+use Rattle.texts.specs.Reason.{gives}
+use Rattle.plan.specs.declared.answers.ElementPlan.{ElementPlan as Element}
+use Rattle.plan.specs.declared.answers.ValueSource.the-variants.{Column, Group, Code}
+use Rattle.plan.specs.Answers.{elementOf}
+use Rattle.lent.specs.Fit.{stretch}
+use Rattle.emit.specs.declared.cells.Written.{Written}
+use Rattle.emit.specs.Written.{Writes}
+use Rattle.emit.specs.Puts.{Put, cellText, maxIn, putCell, putText, partAt, nothing, chunkValue}
+use Rattle.repeat_segment.specs.declared.planned.Planned.{Planned}
+use Rattle.repeat_segment.specs.Planned.{idOf}
+use Rattle.repeat_segment.specs.Places.{placeBy, placeIn, textBy, textIn, elementPut, Lowest}
+
+-- a moved place is a small number
+pub moved-small : (e step k : ℕ) → e ≤ 255 → step ≤ 255 → k < 256 → (k * step ≤ 65025) × (e + k * step ≤ 65280)
+moved-small e step k h i j =
+    let p : k * step ≤ k * 255 = mul-le-mul-left k i in
+    (omega arith, omega arith)
+
+-- ---- the row for which an element that moves stands at p
+
+module _ (element step p : ℕ) where
+  pub group-unmoved : step ≡ 0 → (m : ℕ) → element + m * step ≡ p → element ≡ p
+  group-unmoved h m e = let z : m * step ≡ 0 = rw h (mul-zero m) in omega arith
+
+  pub group-stands : (step ≡ 0 → ⊥) → element ≤ p → (p - element) % step ≡ 0 → element + (p - element) / step * step ≡ p
+  group-stands h i j =
+      let d = mod-add-div (p - element) step in
+      let c = mul-comm step ((p - element) / step) in
+      omega arith
+
+  pub group-below : (step ≡ 0 → ⊥) → element ≤ p → (p - element) % step ≡ 0 → (m : ℕ) → m < (p - element) / step → element + m * step ≡ p → element ≡ p
+  group-below h i j m q e =
+      let z : 0 < step = omega arith in
+      let l : m * step < (p - element) / step * step = mul-lt-mul-of-pos-right q z in
+      let s = group-stands h i j in
+      absurd (omega arith)
+
+  pub group-between : ((p - element) % step ≡ 0 → ⊥) → (m : ℕ) → element + m * step ≡ p → element ≡ p
+  group-between h m e =
+      let d : p - element ≡ m * step = omega arith in
+      absurd (h (rw d (mul-mod-left m step)))
+
+-- ---- places
+
+pub some-is : {a b : ℕ} → _≡_ {A = Option ℕ} (some a) (some b) → a ≡ b
+some-is {a} {b} e = ap (λ (o : Option ℕ). on o (λ x. x) 0) e
+
+pub none-isn't : {b : ℕ} → _≡_ {A = Option ℕ} none (some b) → ⊥
+none-isn't {b} e = let z : _≡_ {A = ℕ} 0 1 = ap (λ (o : Option ℕ). on o (λ x. 1) 0) e in omega arith
+
+-- only the first row's place
+once : (k e p : ℕ) → pick (eqb k 0) (some e) none ≡ some p → (k ≡ 0) × (e ≡ p)
+once k e p h = go (eqb k 0) refl h
+  where
+    go : (t : Bool) → eqb k 0 ≡ t → pick t (some e) none ≡ some p → (k ≡ 0) × (e ≡ p)
+    go true q r = (eqb-true _ _ q, some-is r)
+    go false q r = absurd (none-isn't r)
+
+module _ (b : List ℕ) (e : Element) (step : ℕ) where
+  pub place-column : (k n : ℕ) (o : Option ℕ) → e .value ≡ Column n → o ≡ pick (eqb k 0) (some (e .element)) none → o ≡ placeIn step k (elementOf b e)
+  unfolding placeIn
+  place-column k n o h q = rw h q
+
+  pub place-group : (k n m : ℕ) → e .value ≡ Group n → m ≡ e .element + k * step → some m ≡ placeIn step k (elementOf b e)
+  unfolding placeIn
+  place-group k n m h q = rw (h, q) refl
+
+  pub place-code : (k : ℕ) (s : Stretch) (o : Option ℕ) → e .value ≡ Code s → o ≡ pick (eqb k 0) (some (e .element)) none → o ≡ placeIn step k (elementOf b e)
+  unfolding placeIn
+  place-code k s o h q = rw h q
+
+  module _ (p : ℕ) where
+    pub lowest-here : e .element ≡ p → Lowest step p 0 (elementOf b e)
+    unfolding placeIn
+    lowest-here h = record { stands = λ _. go ((elementOf b e) .value); below = λ m q. absurd (omega arith) }
+      where
+        go : (v : Value) → placeBy step 0 (e .element) v ≡ some p
+        go (fromColumn c) = ap some h
+        go (fromGroup c) = ap some (omega arith)
+        go (fromCode t) = ap some h
+
+    pub lowest-column : (n : ℕ) → e .value ≡ Column n → (e .element ≡ p → ⊥) → Lowest step p 256 (elementOf b e)
+    unfolding placeIn
+    lowest-column n h q = record { stands = λ z. absurd (omega arith); below = λ m _ _ r. q (once m (e .element) p (rw h at r) .1) }
+
+    pub lowest-code : (s : Stretch) → e .value ≡ Code s → (e .element ≡ p → ⊥) → Lowest step p 256 (elementOf b e)
+    unfolding placeIn
+    lowest-code s h q = record { stands = λ z. absurd (omega arith); below = λ m _ _ r. q (once m (e .element) p (rw h at r) .1) }
+
+    pub lowest-group : (n r : ℕ) → e .value ≡ Group n → (e .element ≡ p → ⊥) → (r < 256 → e .element + r * step ≡ p) × ((m : ℕ) → m < r → e .element + m * step ≡ p → e .element ≡ p)
+        → Lowest step p r (elementOf b e)
+    unfolding placeIn
+    lowest-group n r h q x = record { stands = λ z. rw h (ap some (x .0 z)); below = λ m i _ y. q (x .1 m i (some-is (rw h at y))) }
+
+-- with a step an element stands at p for one row at most
+pub one-row : (step k m p : ℕ) (x : ElementPlan) → 0 < step → placeIn step k x ≡ some p → placeIn step m x ≡ some p → m ≡ k
+unfolding placeIn
+one-row step k m p x h i j = go (x .value) i j
+  where
+    go : (v : Value) → placeBy step k (x .element) v ≡ some p → placeBy step m (x .element) v ≡ some p → m ≡ k
+    go (fromColumn c) y z = once m _ p z .0 ∙ sym (once k _ p y .0)
+    go (fromGroup c) y z = let e : m * step ≡ k * step = omega (arith, some-is y, some-is z) in eq-of-mul-eq-mul-right step h m k e
+    go (fromCode t) y z = once m _ p z .0 ∙ sym (once k _ p y .0)
+
+pub place-first : (step : ℕ) (x : ElementPlan) → placeIn step 0 x ≡ some (x .element)
+unfolding placeIn
+place-first step x = go (x .value)
+  where
+    go : (v : Value) → placeBy step 0 (x .element) v ≡ some (x .element)
+    go (fromColumn c) = refl
+    go (fromGroup c) = ap some (omega arith)
+    go (fromCode t) = refl
+
+pub place-behind : (step k m : ℕ) (x : ElementPlan) → placeIn step k x ≡ some m → x .element ≤ m
+unfolding placeIn
+place-behind step k m x h = go (x .value) h
+  where
+    go : (v : Value) → placeBy step k (x .element) v ≡ some m → x .element ≤ m
+    go (fromColumn c) y = omega (arith, once k _ m y .1)
+    go (fromGroup c) y = omega (arith, some-is y)
+    go (fromCode t) y = omega (arith, once k _ m y .1)
+
+-- ---- texts
+
+pub cell-writes : (job : List ℕ) (w : Written) (r : Read) (max : Max) (x : Cell) (most : Option ℕ) → Writes job w (cellText (orNull (cellAt job r)) max) → cellAt job r ≡ some x → max ≡ maxIn most
+    → Writes job w (cellText x (maxIn most))
+cell-writes job w r max x most h e f = rw (e, f) at h
+
+pub code-writes : (job : List ℕ) (s : Stretch) (v : Text) → valueText job v ≡ stretch job (s .start) (s .len) → Writes job (record { value = v; reason = 0 }) (gives (stretchOf job s))
+unfolding stretchOf
+code-writes job s v h = record { text = h; reason = refl }
+
+module _ (b : List ℕ) (s : Planned) (e : Element) (p r : ℕ) (w : Written) where
+  pub text-column : (n : ℕ) → e .value ≡ Column n → Writes b w (cellText (cellOf (dataOf (jobOf b) (s .table .0)) n r) (maxIn (maxOf (jobOf b) (idOf b s) p (numberOf (e .component)))))
+      → Writes b w (textIn b s p r (elementOf b e))
+  unfolding textIn
+  text-column n h x = rw h x
+
+  pub text-group : (n : ℕ) → e .value ≡ Group n → Writes b w (cellText (cellOf (dataOf (jobOf b) (s .table .0)) n r) (maxIn (maxOf (jobOf b) (idOf b s) p (numberOf (e .component)))))
+      → Writes b w (textIn b s p r (elementOf b e))
+  unfolding textIn
+  text-group n h x = rw h x
+
+  pub text-code : (c : Stretch) → e .value ≡ Code c → Writes b w (gives (stretchOf b c)) → Writes b w (textIn b s p r (elementOf b e))
+  unfolding textIn
+  text-code c h x = rw h x
+
+-- the part that an element puts, if it has a place
+pub element-parts : (b : List ℕ) (s : Planned) (k r : ℕ) (x : ElementPlan)
+    → (elementPut b s k r x) .parts ≡ on (placeIn (s .step) k x) (λ e. partAt e (x .component) ((textIn b s e r x) .text) ∷ []) []
+unfolding elementPut placeIn textIn putCell
+element-parts b s k r x = go (x .value)
+  where
+    picked : (t : Bool) (e : ℕ) (p : Put) (f : ℕ → List Part) → p .parts ≡ f e → (pick t p nothing) .parts ≡ on (pick t (some e) none) f []
+    picked true e p f h = h
+    picked false e p f h = refl
+
+    go : (v : Value) → (chunkValue (jobOf b) (idOf b s) (s .table .0) (s .step) k r x v) .parts
+        ≡ on (placeBy (s .step) k (x .element) v) (λ e. partAt e (x .component) ((textBy (jobOf b) (idOf b s) (s .table .0) e (x .component) r v) .text) ∷ []) []
+    go (fromColumn c) = picked (eqb k 0) (x .element) (putCell (jobOf b) (idOf b s) (x .element) (x .component) (s .table .0) c r) _ refl
+    go (fromGroup c) = refl
+    go (fromCode t) = picked (eqb k 0) (x .element) (putText (x .element) (x .component) t) _ refl

@@ -1,0 +1,32 @@
+-- `repeat_segment::planned::separators_of` meets its contract. Assumes nothing.
+use Rattle.format.specs.Sections.{jobOf}
+use denote.Ref.{now}
+use Rattle.repeat_segment.proofs.FillLaws.{separators-are}
+use borrow.Author.Needs.{needs}
+use Rattle.repeat_segment.proofs.planned.separators_of.Statement.{statement}
+use Rattle.repeat_segment.proofs.planned.separators_of.Tie as tie
+
+element-separator-requires : tie.Need-element-separator-requires
+element-separator-requires c κs = search needs
+
+component-separator-requires : tie.Need-component-separator-requires
+component-separator-requires c κs = search needs
+
+segment-terminator-requires : tie.Need-segment-terminator-requires
+segment-terminator-requires c κs = search needs
+
+line-break-requires : tie.Need-line-break-requires
+line-break-requires c κs = search needs
+
+returns : tie.Need-returns
+returns c = separators-are (jobOf (now (c .before .before .before .before .before .before .args .job))) _ _ _ _ (c .before .before .before .element-separator .ensures) (c .before .before .component-separator .ensures) (c .before .segment-terminator .ensures) (c .line-break .ensures)
+
+pub separators-of-spec : {M : Type 1} → statement M
+separators-of-spec =
+    tie.close
+    (tie.spec
+    element-separator-requires
+    component-separator-requires
+    segment-terminator-requires
+    line-break-requires
+    returns)

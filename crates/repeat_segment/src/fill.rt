@@ -1,0 +1,157 @@
+// A row of a chunk: the findings on its cells, and their trace entries.
+use crate::places;
+use crate::planned;
+use crate::planned::Planned;
+use emit::findings;
+use emit::findings::Delimiters;
+use emit::findings::Spot;
+use emit::state::State;
+use plan::answers::ElementPlan;
+use plan::answers::ValueSource;
+use plan::read;
+use spec::ids::Number;
+use spec::ids::RowId;
+ghost use mathlib.Core.Path.{_≡_};
+ghost use mathlib.Core.List.{List};
+ghost use Prim.Native.Nat.{ℕ, _≤_, _<_};
+ghost use Rattle.lent.specs.Fit.{Stored};
+ghost use Rattle.format.specs.Sections.{jobOf};
+ghost use Rattle.format.specs.Refusal.{separators};
+ghost use Rattle.spec.specs.Answers.{numberOf};
+ghost use Rattle.plan.specs.Answers.{elementOf};
+ghost use Rattle.nest.specs.Ready.{Ready};
+ghost use Rattle.nest.specs.Finding.{cell, orZero};
+ghost use Rattle.emit.specs.Puts.{placeOf, putCell};
+ghost use Rattle.emit.specs.Written.{wordsOf, spotOf, tried};
+ghost use Rattle.emit.specs.Did.{Small};
+ghost use Rattle.repeat_segment.specs.Planned.{Of, idOf, plansOf};
+ghost use Rattle.repeat_segment.specs.Places.{elementPut, rowPuts};
+ghost use Rattle.repeat_segment.specs.Filled.{Filled};
+
+fn or_zero(c: Number) -> u64
+    ensures { λ r. ⌜ r ≡ orZero (numberOf c) ⌝ }
+{
+    match c {
+        Number::None => 0,
+        Number::Is(n) => n as u64 + 1,
+    }
+}
+
+fn spot_of(job: &[u8], s: Planned, p: u32, component: Number, column: u32, r: RowId) -> Spot
+    requires { ⌜ Of (now job) s ⌝ }
+    ensures { λ w. ⌜ w ≡ spotOf (cell (s .table .0) (r .0) column) (placeOf (idOf (now (job .entry)) s) p (numberOf component)) ⌝ }
+{
+    let identifier = planned::id_number(job, s.id);
+    let c = or_zero(component);
+    Spot {
+        origin: 0,
+        table: s.table.0 as u64,
+        row: r.0 as u64,
+        column: column as u64,
+        identifier,
+        element: p as u64,
+        component: c,
+    }
+}
+
+// The findings on the text of a cell at element p.
+fn note_cell(
+    job: &[u8],
+    index: &[u32],
+    findings: &mut [u64],
+    at: usize,
+    s: Planned,
+    d: Delimiters,
+    p: u32,
+    component: Number,
+    column: u32,
+    r: RowId,
+) -> usize
+    requires { ⌜ Ready (now job) (now index) × Of (now job) s × (tried d ≡ separators (jobOf (now job) .envelope)) ⌝ }
+    ensures { λ n. ⌜ Stored (now (findings .entry)) at
+        (wordsOf ((putCell (jobOf (now (job .entry))) (idOf (now (job .entry)) s) p (numberOf component) (s .table .0) column (r .0)) .findings)) n (now (findings .exit)) ⌝ }
+{
+    let x = places::cell_text(job, index, s, p, component, column, r);
+    let w = spot_of(job, s, p, component, column, r);
+    findings::note_cell(findings, at, job, x, w, d)
+}
+
+// The findings on a planned element for row number k.
+fn note_element(
+    job: &[u8],
+    index: &[u32],
+    findings: &mut [u64],
+    at: usize,
+    s: Planned,
+    d: Delimiters,
+    e: ElementPlan,
+    k: u32,
+    r: RowId,
+) -> usize
+    requires { ⌜ Ready (now job) (now index) × Of (now job) s × (tried d ≡ separators (jobOf (now job) .envelope)) × (e .element ≤ 255) × (k < 256) ⌝ }
+    ensures { λ n. ⌜ Stored (now (findings .entry)) at (wordsOf ((elementPut (now (job .entry)) s k (r .0) (elementOf (now (job .entry)) e)) .findings)) n (now (findings .exit)) ⌝ }
+{
+    let v = e.value;
+    let c = e.component;
+    match v {
+        ValueSource::Column(n) => {
+            if k == 0 {
+                return note_cell(job, index, findings, at, s, d, e.element, c, n, r);
+            }
+            lent::more(at, 0)
+        }
+        ValueSource::Group(n) => {
+            let p = places::moved(e.element, s.step, k);
+            note_cell(job, index, findings, at, s, d, p, c, n, r)
+        }
+        ValueSource::Code(_) => lent::more(at, 0),
+    }
+}
+
+// The trace entries of a planned element for row number k: one for a cell.
+fn entries_of(e: ElementPlan, k: u32) -> usize
+    ensures { λ n. ⌜ ((b : List ℕ) (s : Planned) (r : ℕ) → n ≡ (elementPut b s k r (elementOf b e)) .entries) ⌝ }
+{
+    let v = e.value;
+    match v {
+        ValueSource::Column(_) => {
+            if k == 0 {
+                return 1;
+            }
+            0
+        }
+        ValueSource::Group(_) => 1,
+        ValueSource::Code(_) => 0,
+    }
+}
+
+// The planned elements one by one.
+pub fn fill_elements(
+    job: &[u8],
+    index: &[u32],
+    findings: &mut [u64],
+    state: State,
+    s: Planned,
+    d: Delimiters,
+    k: u32,
+    r: RowId,
+) -> State
+    requires { ⌜ Ready (now job) (now index) × Of (now job) s × (tried d ≡ separators (jobOf (now job) .envelope)) × (k < 256) × Small state ⌝ }
+    ensures { λ n. ⌜ Filled (rowPuts (now (job .entry)) s k (r .0) (plansOf (now (job .entry)) s)) state n (now (findings .entry)) (now (findings .exit)) ⌝ }
+{
+    let mut at = s.first;
+    let mut i: u32 = 0;
+    let mut found = state.findings;
+    let mut entries = lent::more(state.entries, 0);
+    while i < s.count {
+        let e = read::element_at(job, at);
+        found = note_element(job, index, findings, found, s, d, e, k, r);
+        entries = lent::more(entries, entries_of(e, k));
+        at = e.next;
+        i += 1;
+    }
+    let mut n = state;
+    n.findings = found;
+    n.entries = entries;
+    n
+}

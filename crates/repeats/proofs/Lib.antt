@@ -1,0 +1,4 @@
+pub mod GoingLaws
+pub mod RowLaws
+pub mod Adding
+pub mod SoFar

@@ -1,0 +1,161 @@
+-- The rows of a repeat table that go into an instance, as code finds them one after the other.
+use Prim.Native.Nat.{ℕ, zero, suc, _+_, _-_, _≤_, _<_, max}
+use mathlib.Core.Path.{_≡_, refl, sym, ap, _∙_}
+use mathlib.Core.Bool.{Bool, true, false, cond}
+use mathlib.Core.List.{List, [], _∷_}
+use mathlib.Core.Option.{none, some, Option·none-ne-some}
+use native.Mathlib.Omega.{arith}
+use native.Mathlib.Decide.{decLt}
+use native.Mathlib.Numerals.{add-one}
+use lib.ListN.{length, getD, List·getD-eq-default}
+use borrow.Author.Tests.{ltb-false}
+use Rattle.codec.specs.Limits.{anyOf, none-of, none-in}
+use Rattle.format.specs.Job.{Job}
+use Rattle.format.specs.Sections.{jobOf}
+use Rattle.format.specs.Refusal.{over, large}
+use Rattle.format.specs.Passed.{Passed}
+use Rattle.format.specs.Ask as A
+use Rattle.tables.specs.Parts as T
+use Rattle.spec.specs.declared.ids.RowId.{RowId}
+use Rattle.nest.specs.declared.Found.{Found}
+use Rattle.nest.specs.declared.Found.the-variants.{Row, Nothing}
+use Rattle.nest.specs.Lists.{keep, first, from, upTo}
+use Rattle.nest.specs.Outline.{Outline, rowCount, repeated}
+use Rattle.nest.specs.Nest.{hooked, repeatRows}
+use Rattle.nest.specs.Found.{foundBy, hookedAt}
+use Rattle.nest.specs.Ready.{Ready, outlineAt}
+use Rattle.nest.specs.OfJob.{outlineOf}
+use Rattle.nest.proofs.Scan.{keep-alike, keep-none, upTo-all}
+use Rattle.nest.proofs.Bridge.{rows-is, data-count-is}
+use Rattle.nest.proofs.NestLaws.{rowsBefore, before-none, before-next, hook-plain}
+use Rattle.nest.proofs.Sizes.{rows-past}
+use Rattle.nest.proofs.Reports.{found-row, found-none}
+use Rattle.nest.proofs.Placing.{repeats-is, before-all, table-length, table-next, rows-room}
+use Rattle.walk.specs.Nested.{Nested}
+use Rattle.walk.proofs.RowLaws.{repeat-all}
+use Rattle.walk.proofs.NestedLaws.{lent-hooked}
+use Rattle.due.proofs.Bridge.{capacity-is}
+use Rattle.repeats.specs.declared.Table.{Table}
+use Rattle.repeats.specs.Added.{TableIs}
+
+-- ---- the first of the rows from k on, and those behind it
+
+pub record Next (h : ℕ → Bool) (k n r : ℕ) : Type 0 where
+  pub from-there : k ≤ r
+  pub within : r < n
+  pub rest : keep h (upTo k n) ≡ r ∷ keep h (upTo (r + 1) n)
+
+next-in : (h : ℕ → Bool) (m k r : ℕ) → first (keep h (from k m)) ≡ some r → Next h k (k + m) r
+next-in h zero k r e = absurd (Option·none-ne-some r e)
+next-in h (suc m) k r e = go (h k) refl e (next-in h m (suc k) r)
+  where
+    all : upTo k (k + suc m) ≡ k ∷ from (suc k) m
+    all = let q : k + suc m - k ≡ suc m = omega arith in rw q
+
+    more : upTo (suc k) (k + suc m) ≡ from (suc k) m
+    more = let q : k + suc m - suc k ≡ m = omega arith in rw q
+
+    go : (b : Bool) → h k ≡ b → first (cond b (k ∷ keep h (from (suc k) m)) (keep h (from (suc k) m))) ≡ some r → (first (keep h (from (suc k) m)) ≡ some r → Next h (suc k) (suc k + m) r) → Next h k (k + suc m) r
+    go true q z ih =
+        let y : k ≡ r = cc in
+        record { from-there = omega (arith, y); within = omega (arith, y); rest = rw (← y, add-one, all, more) (rw q) }
+    go false q z ih =
+        let w = ih z in
+        let s : suc k + m ≡ k + suc m = omega arith in
+        let v : keep h (upTo (suc k) (suc k + m)) ≡ r ∷ keep h (upTo (r + 1) (suc k + m)) = w .rest in
+        record { from-there = omega (arith, w .from-there); within = omega (arith, w .within); rest = rw all (rw q (rw (← more) (rw s at v))) }
+
+module _ (h : ℕ → Bool) (k n : ℕ) (f : Found) (e : f ≡ foundBy (first (keep h (upTo k n)))) where
+  pub next-found : (r : RowId) → f ≡ Row r → Next h k n (r .0)
+  next-found r q = go (decLt k n)
+    where
+      z : first (keep h (upTo k n)) ≡ some (r .0)
+      z = found-row _ f r e q
+
+      go : Dec (k < n) → Next h k n (r .0)
+      go (yes c) = let s : k + (n - k) ≡ n = omega arith in let w : Next h k (k + (n - k)) (r .0) = next-in h (n - k) k (r .0) z in rw s at w
+      go (no c) = let s : n - k ≡ 0 = omega arith in absurd (Option·none-ne-some (r .0) (rw s at z))
+
+  pub next-none : f ≡ Nothing → keep h (upTo k n) ≡ []
+  next-none q = go (keep h (upTo k n)) (found-none _ f e q)
+    where
+      go : (xs : List ℕ) → first xs ≡ none → xs ≡ []
+      go [] z = refl
+      go (x ∷ xs) z = absurd (Option·none-ne-some x (sym z))
+
+-- ---- the rows of a table in nest's array
+
+before-is : (j : Job) (t : ℕ) → T.rowsBefore (j .tables) t ≡ rowsBefore (outlineOf j) t
+before-is j zero = before-all (j .tables) ∙ sym (before-none (outlineOf j))
+before-is j (suc t) =
+    omega (
+      arith,
+      ap (T.rowsBefore (j .tables)) (add-one t),
+      ap (rowsBefore (outlineOf j)) (add-one t),
+      table-next j t,
+      table-length j t,
+      rows-is j t,
+      before-next (outlineOf j) t,
+      before-is j t,
+    )
+
+-- a table of which a row is there is a table of data
+there : (o : Outline) (t r : ℕ) → r < rowCount o t → t < length (o .rowCounts)
+there o t r h = go (decLt t (length (o .rowCounts)))
+  where
+    go : Dec (t < length (o .rowCounts)) → t < length (o .rowCounts)
+    go (yes k) = k
+    go (no k) = let q : rowCount o t ≡ 0 = rows-past o t (omega arith) in absurd (omega arith)
+
+pub table-small : {b idx : List ℕ} → Ready b idx → (t r : ℕ) → r < rowCount (outlineAt b) t → t < 16
+table-small {b} R t r h = omega (arith, there (outlineAt b) t r h, data-count-is (jobOf b), R .tables .few)
+
+pub rows-hooked : {b idx n : List ℕ} → Nested b idx n → (l p : ℕ) (w : Table) → TableIs b w → repeated (outlineAt b) (w .t .0) ≡ true
+    → repeatRows (outlineAt b) (w .t .0) l p ≡ keep (hookedAt n (w .base) l p) (upTo 0 (w .rows))
+rows-hooked {b} {idx} {n} N l p w W e =
+    let o = outlineAt b in
+    let base : w .base ≡ rowsBefore o (w .t .0) = W .base ∙ before-is (jobOf b) (w .t .0) in
+    repeat-all o (w .t .0) l p
+    ∙ sym (rw (base, W .rows) (keep-alike _ _ 0 (rowCount o (w .t .0)) (λ r h. lent-hooked N (w .t .0) r l p (there o (w .t .0) r h) h e)))
+
+-- a table without repeat segments has no such rows
+pub rows-plain : (j : Job) (t l p : ℕ) (x : Bool) → x ≡ (A.tableOf j t) .segment → x ≡ false → repeatRows (outlineOf j) t l p ≡ []
+rows-plain j t l p x e q =
+    let o = outlineOf j in
+    repeat-all o t l p
+    ∙ keep-alike _ (λ r. false) 0 (rowCount o t) (λ r h. ap (λ k. hooked k l p) (hook-plain o t r (sym (repeats-is j t x e) ∙ q)))
+    ∙ ap (keep (λ r. false)) (upTo-all (rowCount o t))
+    ∙ keep-none (rowCount o t) 0
+
+-- ---- how many rows go into a segment
+
+capacity-few : (b : List ℕ) → Passed b → (t : ℕ) → A.capacityOf (jobOf b) t ≤ 255
+unfolding A.capacityOf over large
+capacity-few b w t = go (decLt t (length (jobOf b .layout .capacity)))
+  where
+    none-large : anyOf large (jobOf b .layout .capacity) ≡ false
+    none-large = none-of _ _ (none-of _ _ (none-of _ _ (w .limits) .1) .1) .0
+
+    go : Dec (t < length (jobOf b .layout .capacity)) → getD (jobOf b .layout .capacity) t 1 ≤ 255
+    go (yes h) = ltb-false _ _ (none-in large (jobOf b .layout .capacity) none-large t 1 h)
+    go (no h) = let q = List·getD-eq-default (jobOf b .layout .capacity) 1 {n = t} (omega arith) in omega (arith, q)
+
+module _ (b : List ℕ) (w : Passed b) (t n : ℕ) (e : n ≡ A.capacityOf (jobOf b) t) where
+  pub room-one : n ≡ 0 → (1 ≡ max 1 (outlineAt b .capacity t)) × (1 < 256)
+  room-one z = (omega (arith, capacity-is (jobOf b) t, e, z), omega arith)
+
+  pub room-more : (n ≡ 0 → ⊥) → (n ≡ max 1 (outlineAt b .capacity t)) × (n < 256)
+  room-more z = (omega (arith, capacity-is (jobOf b) t, e, z), omega (arith, capacity-few b w t, e))
+
+pub table-is : {b idx : List ℕ} → Ready b idx → (w : Table) → w .base ≡ T.rowsBefore (jobOf b .tables) (w .t .0) → w .rows ≡ (A.dataOf (jobOf b) (w .t .0)) .rows
+    → (w .room ≡ max 1 (outlineAt b .capacity (w .t .0))) × (w .room < 256) → TableIs b w
+unfolding A.dataOf
+table-is {b} R w e h c =
+    let q : w .rows ≡ (A.dataOf (jobOf b) (w .t .0)) .rows = h in
+    record {
+      base = e;
+      rows = q ∙ sym (rows-is (jobOf b) (w .t .0));
+      within = omega (arith, e, h, rows-room (jobOf b .tables) (w .t .0), R .tables .few-rows);
+      room = c .0;
+      few = c .1;
+    }

@@ -1,0 +1,170 @@
+-- The rows that came so far, and the whole.
+use Prim.Native.Nat.{ℕ, _+_, _-_, _≤_, _<_}
+use mathlib.Core.Path.{_≡_, refl, sym, ap, _∙_}
+use mathlib.Core.Bool.{Bool, true, false, _&&_}
+use mathlib.Core.List.{List, [], _∷_, _++_, append-assoc}
+use native.Mathlib.Omega.{arith}
+use lib.ListN.{length, take, set, length-set}
+use lib.Seq.{take-suc-set}
+use lib.Dec.{ltb}
+use borrow.Author.Tests.{ltb-true}
+use Rattle.lent.specs.Fit.{cap}
+use Rattle.lent.proofs.Laws.{stored-length}
+use Rattle.format.specs.Job.{Job}
+use Rattle.format.specs.Sections.{jobOf}
+use Rattle.nest.specs.Lists.{keep, upTo}
+use Rattle.nest.specs.Outline.{repeated}
+use Rattle.nest.specs.Nest.{repeatRows}
+use Rattle.nest.specs.Found.{hookedAt}
+use Rattle.nest.specs.Ready.{outlineAt}
+use Rattle.walk.specs.Nested.{Nested}
+use Rattle.walk.specs.Tour.{Step, stop, fill, chunk, segmentsIn, repeatSteps}
+use Rattle.walk.proofs.Counts.{segments-append}
+use Rattle.emit.specs.declared.state.State.{State}
+use Rattle.emit.specs.declared.state.Taken.{Taken}
+use Rattle.emit.specs.Fold.{stepsOut}
+use Rattle.emit.specs.Did.{stateOf, Did, Fit, Small, Took}
+use Rattle.emit.proofs.DidLaws.{did-nothing, did-small}
+use Rattle.emit.proofs.TookLaws.{steps-none, did-steps, took-none}
+use Rattle.repeats.specs.declared.Table.{Table}
+use Rattle.repeats.specs.declared.Chunk.{Chunk}
+use Rattle.repeats.specs.Going.{rowAdds, countThen, going}
+use Rattle.repeats.specs.Added.{TableIs, Holds, Added, left}
+use Rattle.repeats.proofs.GoingLaws.{going-next, going-end, repeat-rows, repeat-none}
+use Rattle.repeats.proofs.RowLaws.{Next, rows-hooked}
+
+-- since the chunk c₀ and row k₀ the lists went from a₀, d₀ and so on to a, d
+pub record SoFar (b n : List ℕ) (l i : ℕ) (w : Table) (p : ℕ) (c₀ c : Chunk) (k₀ k : ℕ) (a₀ a d₀ d g₀ g f₀ f p₀ p₁ : List ℕ) : Type 0 where
+  pub done : List Step
+  pub did : Did (stepsOut (jobOf b) done (stateOf (c₀ .state))) (c₀ .state) (c .state) d₀ d g₀ g f₀ f p₀ p₁
+  pub written : c .written ≡ c₀ .written + segmentsIn done
+  pub rest : left b n l i w p c₀ a₀ k₀ ≡ done ++ left b n l i w p c a k
+  pub holds : Holds w c a
+  pub long : length a ≡ length a₀
+
+module _ (b n : List ℕ) (l i : ℕ) (w : Table) (p : ℕ) (c₀ : Chunk) (k₀ : ℕ) {a₀ d₀ g₀ f₀ p₀ : List ℕ} where
+  pub so-start : Small (c₀ .state) → Holds w c₀ a₀ → SoFar b n l i w p c₀ c₀ k₀ k₀ a₀ a₀ d₀ d₀ g₀ g₀ f₀ f₀ p₀ p₀
+  unfolding segmentsIn
+  so-start h x = record {
+    done = [];
+    did = rw (steps-none (jobOf b) (stateOf (c₀ .state))) (did-nothing (c₀ .state) h);
+    written = omega arith;
+    rest = refl;
+    holds = x;
+    long = refl;
+  }
+
+  module _ (c : Chunk) (k : ℕ) {a d g f p₁ : List ℕ} (x : SoFar b n l i w p c₀ c k₀ k a₀ a d₀ d g₀ g f₀ f p₀ p₁) where
+    pub so-small : Small (c .state)
+    so-small = did-small (x .did)
+
+    pub so-written : c₀ .written + segmentsIn (left b n l i w p c₀ a₀ k₀) < cap → c .written < cap
+    so-written h = omega (arith, h, x .written, ap segmentsIn (x .rest), segments-append (x .done) (left b n l i w p c a k))
+
+    -- the lists are as long as they were
+    pub so-long : (length d ≡ length d₀) × (length g ≡ length g₀) × (length f ≡ length f₀) × (length p₁ ≡ length p₀)
+    so-long = (stored-length _ (x .did .document), stored-length _ (x .did .segments), stored-length _ (x .did .findings), stored-length _ (x .did .stops))
+
+    holds-then : (r : ℕ) (u : Bool) (v : Chunk) (e : List ℕ) → v .count ≡ countThen (c .count) (ltb (c .count) (w .room) && u) → length e ≡ length a → Holds w v e
+    unfolding countThen
+    holds-then r u v e q m = go (ltb (c .count) (w .room)) refl u q
+      where
+        y : Holds w c a
+        y = x .holds
+
+        go : (s : Bool) → ltb (c .count) (w .room) ≡ s → (u : Bool) → v .count ≡ countThen (c .count) (s && u) → Holds w v e
+        go true z true o = record { some-row = omega (arith, o); fits = omega (arith, o, ltb-true (c .count) (w .room) z); few = y .few; space = omega (arith, m, y .space) }
+        go true z false o = record { some-row = omega (arith, o); fits = omega (arith, o, y .some-row, y .fits); few = y .few; space = omega (arith, m, y .space) }
+        go false z u o = record { some-row = omega (arith, o); fits = omega (arith, o, y .some-row, y .fits); few = y .few; space = omega (arith, m, y .space) }
+
+    pub so-next : (r : ℕ) (v : Chunk) {a₁ d₁ g₁ f₁ p₂ : List ℕ} → Fit d₀ g₀ f₀ p₀ → Next (hookedAt n (w .base) l p) k (w .rows) r
+        → Added (jobOf b) l i (w .t .0) (ltb (c .count) (w .room) && outlineAt b .sameChunk l i (c .head .0) r) r c v a a₁ d d₁ g g₁ f f₁ p₁ p₂
+        → SoFar b n l i w p c₀ v k₀ (r + 1) a₀ a₁ d₀ d₁ g₀ g₁ f₀ f₁ p₀ p₂
+    so-next r v {a₁} z y q =
+        let joins : Bool = ltb (c .count) (w .room) && outlineAt b .sameChunk l i (c .head .0) r in
+        let new : List Step = rowAdds l i (w .t .0) (c .count) (take (c .count) a) joins r in
+        record {
+          done = x .done ++ new;
+          did = did-steps (jobOf b) (x .done) new z (x .did) (q .did);
+          written = omega (arith, q .written, x .written, segments-append (x .done) new);
+          rest =
+              x .rest
+              ∙ ap (λ (s : List Step). x .done ++ s) (ap (going (outlineAt b .sameChunk l i) (w .room) l i (w .t .0) (c .head .0) (take (c .count) a) (c .count)) (y .rest) ∙ going-next (outlineAt b .sameChunk l i) (w .room) l i (w .t .0) (c .head .0) (take (c .count) a) (c .count) r _ ∙ rw (← q .head, ← q .rows, ← q .count) refl)
+              ∙ sym (append-assoc (x .done) new _);
+          holds = holds-then r _ v a₁ (q .count) (q .long);
+          long = q .long ∙ x .long;
+        }
+
+    -- no row is left: the last chunk is written
+    pub so-end : (m : Taken) {d₁ g₁ : List ℕ} → Fit d₀ g₀ f₀ p₀ → keep (hookedAt n (w .base) l p) (upTo k (w .rows)) ≡ []
+        → ((u v : List ℕ) → Did (stepsOut (jobOf b) (chunk l i (w .t .0) (take (c .count) a) ∷ []) (stateOf (c .state))) (c .state) (m .state) d d₁ g g₁ u u v v)
+        → m .written ≡ c .written + 1
+        → Did (stepsOut (jobOf b) (left b n l i w p c₀ a₀ k₀) (stateOf (c₀ .state))) (c₀ .state) (m .state) d₀ d₁ g₀ g₁ f₀ f p₀ p₁ × (m .written ≡ c₀ .written + segmentsIn (left b n l i w p c₀ a₀ k₀))
+    unfolding segmentsIn
+    so-end m z y q o =
+        let whole : left b n l i w p c₀ a₀ k₀ ≡ x .done ++ (chunk l i (w .t .0) (take (c .count) a) ∷ []) =
+        x .rest ∙ ap (λ (s : List Step). x .done ++ s) (ap (going (outlineAt b .sameChunk l i) (w .room) l i (w .t .0) (c .head .0) (take (c .count) a) (c .count)) y ∙ going-end _ _ _ _ _ _ _ _) in (
+          rw whole (did-steps (jobOf b) (x .done) (chunk l i (w .t .0) (take (c .count) a) ∷ []) z (x .did) (q f p₁)),
+          rw whole (o ∙ rw (x .written, segments-append (x .done) (chunk l i (w .t .0) (take (c .count) a) ∷ [])) (omega arith)),
+        )
+
+-- ---- the whole
+
+-- a chunk that has its first row only
+pub left-first : (same : ℕ → ℕ → Bool) (room l i t r : ℕ) (rs more : List ℕ) → rs ≡ r ∷ [] → going same room l i t r rs 1 more ≡ going same room l i t r (r ∷ []) 1 more
+left-first same room l i t r rs more e = ap (λ xs. going same room l i t r xs 1 more) e
+
+pub first-in : (a a₁ : List ℕ) (r : ℕ) → 256 ≤ length a → a₁ ≡ set a 0 r → take 1 a₁ ≡ r ∷ []
+first-in a a₁ r h e = rw e (take-suc-set a 0 r (omega arith))
+
+pub first-holds : {b : List ℕ} (w : Table) (c : Chunk) (a a₁ : List ℕ) (r : ℕ) → TableIs b w → c .count ≡ 1 → 256 ≤ length a → a₁ ≡ set a 0 r → Holds w c a₁
+first-holds w c a a₁ r W q h e = record {
+  some-row = omega (arith, q);
+  fits = omega (arith, q, W .room);
+  few = W .few;
+  space = omega (arith, h, ap length e, length-set a 0 r);
+}
+
+pub few-more : (old rest : List Step) → old ≡ rest → segmentsIn rest < cap → 0 + segmentsIn old < cap
+few-more old rest e h = omega (arith, h, ap segmentsIn e)
+
+pub took-first : {s m : State} {d d₁ g g₁ f f₁ f₂ p p₁ p₂ : List ℕ} (j : Job) (l i t r : ℕ) (u : Taken) (old rest : List Step) → old ≡ rest → Fit d g f p
+    → ((x y : List ℕ) → length x ≤ cap → length y ≤ cap → Did (stepsOut j (stop l t r ∷ fill l i t 0 r ∷ []) (stateOf s)) s m x x y y f f₁ p p₁)
+    → Did (stepsOut j old (stateOf m)) m (u .state) d d₁ g g₁ f₁ f₂ p₁ p₂ → u .written ≡ 0 + segmentsIn old
+    → Took j ((stop l t r ∷ fill l i t 0 r ∷ []) ++ rest) s u d d₁ g g₁ f f₂ p p₂
+unfolding segmentsIn
+took-first {d = d} {g = g} j l i t r u old rest q h x y e = rw (← q) (record {
+  did = did-steps j (stop l t r ∷ fill l i t 0 r ∷ []) old h (x d g (h .document) (h .segments)) y;
+  written = omega (arith, e);
+})
+
+-- no row goes into the instance
+pub took-nothing : (b n idx : List ℕ) (N : Nested b idx n) (l i t p : ℕ) (s : State) {d g f q : List ℕ} → Small s → repeatRows (outlineAt b) t l p ≡ []
+    → Took (jobOf b) (repeatSteps (outlineAt b) l i t p) s (record { state = s; written = 0 }) d d g g f f q q
+took-nothing b n idx N l i t p s h e = rw (repeat-none (outlineAt b) l i t p e) (took-none (jobOf b) s h)
+
+module _ {b idx n : List ℕ} (N : Nested b idx n) (l i t p : ℕ) (w : Table) (W : TableIs b w) (e : w .t .0 ≡ t) (again : repeated (outlineAt b) t ≡ true) where
+  rows-are : repeatRows (outlineAt b) t l p ≡ keep (hookedAt n (w .base) l p) (upTo 0 (w .rows))
+  rows-are = rw (← e) (rows-hooked N l p w W (rw e again))
+
+  pub hooked-none : keep (hookedAt n (w .base) l p) (upTo 0 (w .rows)) ≡ [] → repeatRows (outlineAt b) t l p ≡ []
+  hooked-none q = rows-are ∙ q
+
+  pub hooked-first : (r : ℕ) → Next (hookedAt n (w .base) l p) 0 (w .rows) r
+      → repeatSteps (outlineAt b) l i t p ≡ (stop l (w .t .0) r ∷ fill l i (w .t .0) 0 r ∷ []) ++ going (outlineAt b .sameChunk l i) (w .room) l i (w .t .0) r (r ∷ []) 1 (keep (hookedAt n (w .base) l p) (upTo (r + 1) (w .rows)))
+  hooked-first r x = rw e (repeat-rows (outlineAt b) l i t p (w .room) r _ (rw (← e) (W .room)) (rows-are ∙ x .rest))
+
+  pub hooked-few : (r : ℕ) → Next (hookedAt n (w .base) l p) 0 (w .rows) r → segmentsIn (repeatSteps (outlineAt b) l i t p) < cap
+      → segmentsIn (going (outlineAt b .sameChunk l i) (w .room) l i (w .t .0) r (r ∷ []) 1 (keep (hookedAt n (w .base) l p) (upTo (r + 1) (w .rows)))) < cap
+  hooked-few r x h =
+      omega (
+        arith,
+        h,
+        ap segmentsIn (hooked-first r x),
+        segments-append (stop l (w .t .0) r ∷ fill l i (w .t .0) 0 r ∷ []) (going (outlineAt b .sameChunk l i) (w .room) l i (w .t .0) r (r ∷ []) 1 (keep (hookedAt n (w .base) l p) (upTo (r + 1) (w .rows)))),
+      )
+
+  pub took-hooked : (r : ℕ) {s : State} {u : Taken} {d d₁ g g₁ f f₁ q q₁ : List ℕ} → Next (hookedAt n (w .base) l p) 0 (w .rows) r
+      → Took (jobOf b) ((stop l (w .t .0) r ∷ fill l i (w .t .0) 0 r ∷ []) ++ going (outlineAt b .sameChunk l i) (w .room) l i (w .t .0) r (r ∷ []) 1 (keep (hookedAt n (w .base) l p) (upTo (r + 1) (w .rows)))) s u d d₁ g g₁ f f₁ q q₁
+      → Took (jobOf b) (repeatSteps (outlineAt b) l i t p) s u d d₁ g g₁ f f₁ q q₁
+  took-hooked r x h = rw (hooked-first r x) h

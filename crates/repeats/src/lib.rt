@@ -1,0 +1,465 @@
+// The repeat segments of an instance.
+ghost use mathlib.Core.Path.{_≡_};
+ghost use mathlib.Core.Bool.{true, false, _&&_};
+ghost use mathlib.Core.List.{List, [], _∷_, _++_};
+ghost use Prim.Native.Nat.{ℕ, _+_, _≤_, _<_, max};
+ghost use lib.ListN.{length, take, set};
+ghost use lib.Dec.{ltb};
+ghost use Rattle.format.specs.Sections.{jobOf};
+ghost use Rattle.lent.specs.Fit.{cap};
+ghost use Rattle.nest.specs.Lists.{keep, upTo};
+ghost use Rattle.nest.specs.Outline.{rowCount, repeated};
+ghost use Rattle.nest.specs.Found.{hookedAt};
+ghost use Rattle.nest.specs.Ready.{Ready, outlineAt};
+ghost use Rattle.walk.specs.Nested.{Nested};
+ghost use Rattle.walk.specs.Tour.{stop, fill, chunk, segmentsIn, repeatSteps};
+ghost use Rattle.emit.specs.Fold.{stepsOut};
+ghost use Rattle.emit.specs.Did.{stateOf, Did, Small, Took};
+ghost use Rattle.repeats.specs.Going.{going};
+ghost use Rattle.repeats.specs.Added.{TableIs, Holds, Added, left};
+use emit::state::State;
+use emit::state::Taken;
+use nest::Found;
+use repeat_segment::fill_row;
+use repeat_segment::write_chunk;
+use spec::ids::LoopId;
+use spec::ids::RowId;
+use spec::ids::TableId;
+
+// A repeat table: where its rows stand among all, how many it has, and how many go into a segment.
+pub struct Table {
+    pub t: TableId,
+    pub base: usize,
+    pub rows: usize,
+    pub room: u32,
+}
+
+// A chunk that rows are still added to: the state, how many segments stand before it, its first row, and how many rows it has.
+pub struct Chunk {
+    pub state: State,
+    pub written: usize,
+    pub head: RowId,
+    pub count: u32,
+}
+
+// How many rows go into a segment; 0 counts as 1.
+fn room_of(job: &[u8], index: &[u32], t: TableId) -> u32
+    requires { ⌜ Ready (now job) (now index) ⌝ }
+    ensures { λ n. ⌜ (n ≡ max 1 (outlineAt (now (job .entry)) .capacity (t .0))) × (n < 256) ⌝ }
+{
+    let n = plan::layout::capacity(job, index, t);
+    if n == 0 {
+        return 1;
+    }
+    n
+}
+
+fn table_of(job: &[u8], index: &[u32], t: TableId) -> Table
+    requires { ⌜ Ready (now job) (now index) ⌝ }
+    ensures { λ w. ⌜ (w .t .0 ≡ t .0) × TableIs (now (job .entry)) w ⌝ }
+{
+    let base = tables::data::first_row(job, index, t);
+    let rows = tables::data::row_count(job, index, t);
+    let room = room_of(job, index, t);
+    Table {
+        t: t,
+        base: base as usize,
+        rows: rows as usize,
+        room: room,
+    }
+}
+
+// Whether row r joins a chunk of so many rows: there is room, and it agrees with the first.
+fn joins(
+    job: &[u8],
+    index: &[u32],
+    l: LoopId,
+    i: u32,
+    head: RowId,
+    count: u32,
+    room: u32,
+    r: RowId,
+) -> bool
+    requires { ⌜ Ready (now job) (now index) × (l .0 < 32) ⌝ }
+    ensures { λ b. ⌜ b ≡ ltb count room && outlineAt (now (job .entry)) .sameChunk (l .0) i (head .0) (r .0) ⌝ }
+{
+    if room <= count {
+        return false;
+    }
+    due::same_chunk(job, index, l, i, head, r)
+}
+
+// Row r is entered as number k of its chunk, and gives its cells.
+fn add_row(
+    job: &[u8],
+    index: &[u32],
+    nest: &[u32],
+    rows: &mut [u32],
+    findings: &mut [u64],
+    stops: &mut [u64],
+    s: State,
+    l: LoopId,
+    i: u32,
+    t: TableId,
+    k: u32,
+    r: RowId,
+) -> State
+    requires { ⌜ Nested (now job) (now index) (now nest) × Small s × (l .0 < 32) × (r .0 < rowCount (outlineAt (now job)) (t .0)) × (k < 256) × (256 ≤ length (now rows)) ⌝ }
+    ensures { λ n. ⌜ ((d g : List ℕ) → length d ≤ cap → length g ≤ cap
+        → Did (stepsOut (jobOf (now (job .entry))) (stop (l .0) (t .0) (r .0) ∷ fill (l .0) i (t .0) k (r .0) ∷ []) (stateOf s)) s n d d g g (now (findings .entry)) (now (findings .exit)) (now (stops .entry)) (now (stops .exit)))
+        × (now (rows .exit) ≡ set (now (rows .entry)) k (r .0)) ⌝ }
+{
+    let at = k as usize;
+    rows[at] = r.0;
+    let entered = enter::enter(job, index, nest, findings, stops, s, l, t, r);
+    fill_row(job, index, findings, entered, l, i, t, k, r)
+}
+
+// The chunk is written.
+fn close(
+    job: &[u8],
+    index: &[u32],
+    rows: &[u32],
+    doc: &mut [u8],
+    segments: &mut [u64],
+    c: Chunk,
+    l: LoopId,
+    i: u32,
+    t: TableId,
+) -> Taken
+    requires { ⌜ Ready (now job) (now index) × Small (c .state) × (l .0 < 32) × (c .count ≤ length (now rows)) × (c .count ≤ 256) × (c .written < cap) ⌝ }
+    ensures { λ n. ⌜ ((f p : List ℕ) → Did (stepsOut (jobOf (now (job .entry))) (chunk (l .0) i (t .0) (take (c .count) (now (rows .entry))) ∷ []) (stateOf (c .state))) (c .state) (n .state)
+        (now (doc .entry)) (now (doc .exit)) (now (segments .entry)) (now (segments .exit)) f f p p) × (n .written ≡ c .written + 1) ⌝ }
+{
+    let state = c.state;
+    let count = c.count as usize;
+    let n = write_chunk(job, index, rows, count, doc, segments, state, l, i, t);
+    let written = c.written + 1;
+    Taken {
+        state: n,
+        written: written,
+    }
+}
+
+// Row r joins the chunk.
+fn extend(
+    job: &[u8],
+    index: &[u32],
+    nest: &[u32],
+    rows: &mut [u32],
+    findings: &mut [u64],
+    stops: &mut [u64],
+    c: Chunk,
+    l: LoopId,
+    i: u32,
+    w: Table,
+    r: RowId,
+) -> Chunk
+    requires { ⌜ Nested (now job) (now index) (now nest) × Small (c .state) × (l .0 < 32) × (r .0 < rowCount (outlineAt (now job)) (w .t .0)) × Holds w c (now rows) ⌝ }
+    ensures { λ n. ⌜ ((d g : List ℕ) → length d ≤ cap → length g ≤ cap
+        → Added (jobOf (now (job .entry))) (l .0) i (w .t .0) true (r .0) c n (now (rows .entry)) (now (rows .exit)) d d g g (now (findings .entry)) (now (findings .exit)) (now (stops .entry)) (now (stops .exit))) ⌝ }
+{
+    let state = c.state;
+    let t = w.t;
+    let n = add_row(
+        job,
+        index,
+        nest,
+        rows,
+        findings,
+        stops,
+        state,
+        l,
+        i,
+        t,
+        c.count,
+        r,
+    );
+    let head = c.head;
+    Chunk {
+        state: n,
+        written: c.written,
+        head: head,
+        count: c.count + 1,
+    }
+}
+
+// The chunk is written, and row r begins the next.
+fn cut(
+    job: &[u8],
+    index: &[u32],
+    nest: &[u32],
+    rows: &mut [u32],
+    doc: &mut [u8],
+    segments: &mut [u64],
+    findings: &mut [u64],
+    stops: &mut [u64],
+    c: Chunk,
+    l: LoopId,
+    i: u32,
+    w: Table,
+    r: RowId,
+) -> Chunk
+    requires { ⌜ Nested (now job) (now index) (now nest) × Small (c .state) × (l .0 < 32) × (r .0 < rowCount (outlineAt (now job)) (w .t .0)) × Holds w c (now rows) × (c .written < cap) ⌝ }
+    ensures { λ n. ⌜ Added (jobOf (now (job .entry))) (l .0) i (w .t .0) false (r .0) c n (now (rows .entry)) (now (rows .exit)) (now (doc .entry)) (now (doc .exit)) (now (segments .entry)) (now (segments .exit)) (now (findings .entry)) (now (findings .exit)) (now (stops .entry)) (now (stops .exit)) ⌝ }
+{
+    let t = w.t;
+    let closed = close(job, index, rows, doc, segments, c, l, i, t);
+    let state = closed.state;
+    let n = add_row(
+        job,
+        index,
+        nest,
+        rows,
+        findings,
+        stops,
+        state,
+        l,
+        i,
+        t,
+        0,
+        r,
+    );
+    Chunk {
+        state: n,
+        written: closed.written,
+        head: r,
+        count: 1,
+    }
+}
+
+// Row r comes to the chunk: it joins, or begins the next.
+fn add_next(
+    job: &[u8],
+    index: &[u32],
+    nest: &[u32],
+    rows: &mut [u32],
+    doc: &mut [u8],
+    segments: &mut [u64],
+    findings: &mut [u64],
+    stops: &mut [u64],
+    c: Chunk,
+    l: LoopId,
+    i: u32,
+    w: Table,
+    r: RowId,
+) -> Chunk
+    requires { ⌜ Nested (now job) (now index) (now nest) × Small (c .state) × (l .0 < 32) × (r .0 < rowCount (outlineAt (now job)) (w .t .0)) × Holds w c (now rows) × (c .written < cap) ⌝ }
+    ensures { λ n. ⌜ Added (jobOf (now (job .entry))) (l .0) i (w .t .0) (ltb (c .count) (w .room) && outlineAt (now (job .entry)) .sameChunk (l .0) i (c .head .0) (r .0)) (r .0) c n (now (rows .entry)) (now (rows .exit)) (now (doc .entry)) (now (doc .exit)) (now (segments .entry)) (now (segments .exit)) (now (findings .entry)) (now (findings .exit)) (now (stops .entry)) (now (stops .exit)) ⌝ }
+{
+    let head = c.head;
+    let fits = joins(job, index, l, i, head, c.count, w.room, r);
+    if fits {
+        return extend(job, index, nest, rows, findings, stops, c, l, i, w, r);
+    }
+    cut(
+        job,
+        index,
+        nest,
+        rows,
+        doc,
+        segments,
+        findings,
+        stops,
+        c,
+        l,
+        i,
+        w,
+        r,
+    )
+}
+
+// The rows from `from` on come to the chunk `first`, and the last chunk is written.
+fn add_rows(
+    job: &[u8],
+    index: &[u32],
+    nest: &[u32],
+    rows: &mut [u32],
+    doc: &mut [u8],
+    segments: &mut [u64],
+    findings: &mut [u64],
+    stops: &mut [u64],
+    first: Chunk,
+    l: LoopId,
+    i: u32,
+    w: Table,
+    p: RowId,
+    from: usize,
+) -> Taken
+    requires { ⌜ Nested (now job) (now index) (now nest) × Small (first .state) × (l .0 < 32) × (p .0 < 4096) × TableIs (now job) w × Holds w first (now rows)
+        × (first .written + segmentsIn (left (now job) (now nest) (l .0) i w (p .0) first (now rows) from) < cap) ⌝ }
+    ensures { λ n. ⌜ Did (stepsOut (jobOf (now (job .entry))) (left (now (job .entry)) (now (nest .entry)) (l .0) i w (p .0) first (now (rows .entry)) from) (stateOf (first .state))) (first .state) (n .state)
+        (now (doc .entry)) (now (doc .exit)) (now (segments .entry)) (now (segments .exit)) (now (findings .entry)) (now (findings .exit)) (now (stops .entry)) (now (stops .exit))
+        × (n .written ≡ first .written + segmentsIn (left (now (job .entry)) (now (nest .entry)) (l .0) i w (p .0) first (now (rows .entry)) from)) ⌝ }
+{
+    let mut c = first;
+    let mut k = from;
+    loop {
+        let f = nest::next_hooked(nest, w.base, w.rows, k, l, p);
+        match f {
+            Found::Nothing => {
+                let t = w.t;
+                return close(job, index, rows, doc, segments, c, l, i, t);
+            }
+            Found::Row(r) => {
+                c = add_next(
+                    job,
+                    index,
+                    nest,
+                    rows,
+                    doc,
+                    segments,
+                    findings,
+                    stops,
+                    c,
+                    l,
+                    i,
+                    w,
+                    r,
+                );
+                k = r.0 as usize + 1;
+            }
+        }
+    }
+}
+
+// The first row of all begins a chunk, and the rows behind it come to it.
+fn begin(
+    job: &[u8],
+    index: &[u32],
+    nest: &[u32],
+    rows: &mut [u32],
+    doc: &mut [u8],
+    segments: &mut [u64],
+    findings: &mut [u64],
+    stops: &mut [u64],
+    s: State,
+    l: LoopId,
+    i: u32,
+    w: Table,
+    p: RowId,
+    r: RowId,
+) -> Taken
+    requires { ⌜ Nested (now job) (now index) (now nest) × Small s × (l .0 < 32) × (p .0 < 4096) × TableIs (now job) w × (r .0 < w .rows) × (256 ≤ length (now rows))
+        × (segmentsIn (going (outlineAt (now job) .sameChunk (l .0) i) (w .room) (l .0) i (w .t .0) (r .0) (r .0 ∷ []) 1 (keep (hookedAt (now nest) (w .base) (l .0) (p .0)) (upTo (r .0 + 1) (w .rows)))) < cap) ⌝ }
+    ensures { λ n. ⌜ Took (jobOf (now (job .entry))) ((stop (l .0) (w .t .0) (r .0) ∷ fill (l .0) i (w .t .0) 0 (r .0) ∷ []) ++ going (outlineAt (now (job .entry)) .sameChunk (l .0) i) (w .room) (l .0) i (w .t .0) (r .0) (r .0 ∷ []) 1 (keep (hookedAt (now (nest .entry)) (w .base) (l .0) (p .0)) (upTo (r .0 + 1) (w .rows)))) s n
+        (now (doc .entry)) (now (doc .exit)) (now (segments .entry)) (now (segments .exit)) (now (findings .entry)) (now (findings .exit)) (now (stops .entry)) (now (stops .exit)) ⌝ }
+{
+    let t = w.t;
+    let n = add_row(job, index, nest, rows, findings, stops, s, l, i, t, 0, r);
+    let c = Chunk {
+        state: n,
+        written: 0,
+        head: r,
+        count: 1,
+    };
+    let from = r.0 as usize + 1;
+    add_rows(
+        job,
+        index,
+        nest,
+        rows,
+        doc,
+        segments,
+        findings,
+        stops,
+        c,
+        l,
+        i,
+        w,
+        p,
+        from,
+    )
+}
+
+// The same for a table of repeat segments that data has, the rows of a chunk standing in `rows`.
+fn write_hooked(
+    job: &[u8],
+    index: &[u32],
+    nest: &[u32],
+    rows: &mut [u32],
+    doc: &mut [u8],
+    segments: &mut [u64],
+    findings: &mut [u64],
+    stops: &mut [u64],
+    s: State,
+    l: LoopId,
+    i: u32,
+    t: TableId,
+    p: RowId,
+) -> Taken
+    requires { ⌜ Nested (now job) (now index) (now nest) × Small s × (l .0 < 32) × (p .0 < 4096) × (256 ≤ length (now rows)) × (repeated (outlineAt (now job)) (t .0) ≡ true)
+        × (segmentsIn (repeatSteps (outlineAt (now job)) (l .0) i (t .0) (p .0)) < cap) ⌝ }
+    ensures { λ n. ⌜ Took (jobOf (now (job .entry))) (repeatSteps (outlineAt (now (job .entry))) (l .0) i (t .0) (p .0)) s n
+        (now (doc .entry)) (now (doc .exit)) (now (segments .entry)) (now (segments .exit)) (now (findings .entry)) (now (findings .exit)) (now (stops .entry)) (now (stops .exit)) ⌝ }
+{
+    let w = table_of(job, index, t);
+    let f = nest::next_hooked(nest, w.base, w.rows, 0, l, p);
+    match f {
+        Found::Nothing => Taken {
+            state: s,
+            written: 0,
+        },
+        Found::Row(r) => begin(
+            job,
+            index,
+            nest,
+            rows,
+            doc,
+            segments,
+            findings,
+            stops,
+            s,
+            l,
+            i,
+            w,
+            p,
+            r,
+        ),
+    }
+}
+
+// The repeat segments of table t in the instance of loop l that row p opens: the rows that go into it, cut into chunks.
+pub fn write_repeats(
+    job: &[u8],
+    index: &[u32],
+    nest: &[u32],
+    doc: &mut [u8],
+    segments: &mut [u64],
+    findings: &mut [u64],
+    stops: &mut [u64],
+    s: State,
+    l: LoopId,
+    i: u32,
+    t: TableId,
+    p: RowId,
+) -> Taken
+    requires { ⌜ Nested (now job) (now index) (now nest) × Small s × (l .0 < 32) × (p .0 < 4096)
+        × (segmentsIn (repeatSteps (outlineAt (now job)) (l .0) i (t .0) (p .0)) < cap) ⌝ }
+    ensures { λ n. ⌜ Took (jobOf (now (job .entry))) (repeatSteps (outlineAt (now (job .entry))) (l .0) i (t .0) (p .0)) s n
+        (now (doc .entry)) (now (doc .exit)) (now (segments .entry)) (now (segments .exit)) (now (findings .entry)) (now (findings .exit)) (now (stops .entry)) (now (stops .exit)) ⌝ }
+{
+    let again = spec::tables::repeats(job, index, t);
+    if again {
+        let mut rows: [u32; 256] = [0; 256];
+        return write_hooked(
+            job,
+            index,
+            nest,
+            &mut rows,
+            doc,
+            segments,
+            findings,
+            stops,
+            s,
+            l,
+            i,
+            t,
+            p,
+        );
+    }
+    Taken {
+        state: s,
+        written: 0,
+    }
+}

@@ -1,0 +1,6 @@
+pub mod NameLaws
+pub mod CellLaws
+pub mod StreamLaws
+pub mod NoteLaws
+pub mod GroupLaws
+pub mod RowLaws

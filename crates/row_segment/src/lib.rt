@@ -1,0 +1,70 @@
+// A row segment: its bytes, the findings on its cells, its trace.
+mod cells;
+mod join;
+mod marks;
+mod notes;
+mod parts;
+
+use crate::parts::Line;
+use emit::state;
+use emit::state::From;
+use emit::state::State;
+use spec::ids::LoopId;
+use spec::ids::RowId;
+use spec::ids::TableId;
+ghost use mathlib.Core.List.{List};
+ghost use Prim.Native.Nat.{ℕ, _<_};
+ghost use Rattle.format.specs.Sections.{jobOf};
+ghost use Rattle.nest.specs.Ready.{Ready};
+ghost use Rattle.emit.specs.Fold.{rowOut};
+ghost use Rattle.emit.specs.Did.{stateOf, Did, Small};
+ghost use Rattle.row_segment.specs.Stream.{Lined};
+
+// The row segment of a line, written and traced.
+fn put_line(
+    job: &[u8],
+    index: &[u32],
+    doc: &mut [u8],
+    segments: &mut [u64],
+    findings: &mut [u64],
+    s: State,
+    x: Line,
+) -> State
+    requires { ⌜ Lined (now job) (now index) x × Small s ⌝ }
+    ensures { λ n. ⌜ ((p : List ℕ) → Did (rowOut (jobOf (now (job .entry))) (x .l .0) (x .i) (x .t .0) (x .r .0) (stateOf s)) s n
+        (now (doc .entry)) (now (doc .exit)) (now (segments .entry)) (now (segments .exit)) (now (findings .entry)) (now (findings .exit)) p p) ⌝ }
+{
+    let tally = notes::note_line(job, index, findings, s.findings, x);
+    let bytes = join::join_line(job, index, doc, s.bytes, x, tally.last);
+    let t = x.t;
+    let r = x.r;
+    state::finish_segment(
+        segments,
+        s,
+        From::Row(t, r),
+        tally.entries,
+        bytes,
+        tally.findings,
+    )
+}
+
+// Planned segment i of a loop, written from a row: one segment, its findings, its trace.
+pub fn write_row(
+    job: &[u8],
+    index: &[u32],
+    doc: &mut [u8],
+    segments: &mut [u64],
+    findings: &mut [u64],
+    s: State,
+    l: LoopId,
+    i: u32,
+    t: TableId,
+    r: RowId,
+) -> State
+    requires { ⌜ Ready (now job) (now index) × Small s × (l .0 < 32) ⌝ }
+    ensures { λ n. ⌜ ((p : List ℕ) → Did (rowOut (jobOf (now (job .entry))) (l .0) i (t .0) (r .0) (stateOf s)) s n
+        (now (doc .entry)) (now (doc .exit)) (now (segments .entry)) (now (segments .exit)) (now (findings .entry)) (now (findings .exit)) p p) ⌝ }
+{
+    let x = parts::line_of(job, index, l, i, t, r);
+    put_line(job, index, doc, segments, findings, s, x)
+}

@@ -1,0 +1,155 @@
+// What the parts of a row segment are noted for: the findings on their texts, their trace entries, the last filled element.
+use crate::marks;
+use crate::parts;
+use crate::parts::Line;
+use crate::parts::Planned;
+use crate::parts::Source;
+use emit::cells::Written;
+use emit::findings;
+use emit::findings::Delimiters;
+use emit::findings::Spot;
+use spec::ids::Number;
+ghost use mathlib.Core.Path.{_≡_};
+ghost use mathlib.Core.List.{List};
+ghost use Prim.Native.Nat.{ℕ, _<_};
+ghost use Rattle.lent.specs.Fit.{Stored};
+ghost use Rattle.spec.specs.Answers.{numberOf};
+ghost use Rattle.nest.specs.Finding.{cell, numberFrom, orZero};
+ghost use Rattle.emit.specs.Puts.{placeOf};
+ghost use Rattle.emit.specs.Written.{Writes, spotOf, wordsOf};
+ghost use Rattle.row_segment.specs.Stream.{Lined, partPut, outcomeOf};
+ghost use Rattle.row_segment.specs.Notes.{Tries, Noted, Totals};
+
+// How many numbers of findings there are, how many trace entries, and the last filled element.
+pub struct Tally {
+    pub findings: usize,
+    pub entries: usize,
+    pub last: usize,
+}
+
+// The identifier as a number, and the separators that texts are tried for.
+pub struct Trial {
+    pub name: u64,
+    pub delimiters: Delimiters,
+}
+
+fn component_word(n: Number) -> u64
+    ensures { λ r. ⌜ r ≡ orZero (numberOf n) ⌝ }
+{
+    match n {
+        Number::None => 0,
+        Number::Is(c) => c as u64 + 1,
+    }
+}
+
+fn spot(x: Line, name: u64, element: u32, component: Number, column: u32) -> Spot
+    ensures { λ r. ⌜ ((id : List ℕ) → name ≡ numberFrom 0 id → r ≡ spotOf (cell (x .t .0) (x .r .0) column) (placeOf id element (numberOf component))) ⌝ }
+{
+    let t = x.t;
+    let r = x.r;
+    let word = component_word(component);
+    Spot {
+        origin: 0,
+        table: t.0 as u64,
+        row: r.0 as u64,
+        column: column as u64,
+        identifier: name,
+        element: element as u64,
+        component: word,
+    }
+}
+
+fn trial_of(job: &[u8], index: &[u32], x: Line) -> Trial
+    requires { ⌜ Lined (now job) (now index) x ⌝ }
+    ensures { λ r. ⌜ Tries (now (job .entry)) x r ⌝ }
+{
+    let id = x.id;
+    let name = marks::name_number(job, id);
+    let delimiters = marks::delimiters_of(job, index);
+    Trial { name, delimiters }
+}
+
+// The findings on a part's text; a code is not tried.
+fn note_part(
+    job: &[u8],
+    findings: &mut [u64],
+    at: usize,
+    x: Line,
+    y: Trial,
+    p: Planned,
+    w: Written,
+) -> usize
+    requires { ⌜ Tries (now job) x y × Writes (now job) w (outcomeOf (now job) x p) ⌝ }
+    ensures { λ n. ⌜ Stored (now (findings .entry)) at (wordsOf ((partPut (now (job .entry)) x p) .findings)) n (now (findings .exit)) ⌝ }
+{
+    let component = p.component;
+    let source = p.source;
+    let d = y.delimiters;
+    match source {
+        Source::Cell(column) => findings::note_cell(
+            findings,
+            at,
+            job,
+            w,
+            spot(x, y.name, p.element, component, column),
+            d,
+        ),
+        Source::Code(s) => lent::more(at, 0),
+    }
+}
+
+// A cell has a trace entry, a code has none.
+fn entries_of(p: Planned) -> usize
+    ensures { λ r. ⌜ ((b : List ℕ) (x : Line) → r ≡ (partPut b x p) .entries) ⌝ }
+{
+    let source = p.source;
+    match source {
+        Source::Cell(column) => 1,
+        Source::Code(s) => 0,
+    }
+}
+
+fn note_one(
+    job: &[u8],
+    index: &[u32],
+    findings: &mut [u64],
+    s: Tally,
+    x: Line,
+    y: Trial,
+    p: Planned,
+) -> Tally
+    requires { ⌜ Lined (now job) (now index) x × Tries (now job) x y × (s .entries < 4294967296) ⌝ }
+    ensures { λ r. ⌜ Noted (now (job .entry)) x p s r (now (findings .entry)) (now (findings .exit)) ⌝ }
+{
+    let w = parts::text_of(job, index, x, p);
+    let n = note_part(job, findings, s.findings, x, y, p, w);
+    let v = w.value;
+    let last = parts::raised(job, s.last, v, p.element);
+    let entries = entries_of(p);
+    Tally {
+        findings: n,
+        entries: s.entries + entries,
+        last,
+    }
+}
+
+// The notes of a line; `at` numbers of findings stand before.
+pub fn note_line(job: &[u8], index: &[u32], findings: &mut [u64], at: usize, x: Line) -> Tally
+    requires { ⌜ Lined (now job) (now index) x ⌝ }
+    ensures { λ r. ⌜ Totals (now (job .entry)) x at r (now (findings .entry)) (now (findings .exit)) ⌝ }
+{
+    let y = trial_of(job, index, x);
+    let from = lent::more(at, 0);
+    let mut s = Tally {
+        findings: from,
+        entries: 0,
+        last: 0,
+    };
+    let mut n = parts::first_part(job, index, x);
+    while n.more {
+        let p = n.part;
+        s = note_one(job, index, findings, s, x, y, p);
+        n = parts::next_part(job, index, x, n.k, n.at);
+    }
+    s
+}
