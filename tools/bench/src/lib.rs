@@ -1,5 +1,8 @@
 //! Jobs to time, and the time of a call.
 
+#[cfg(feature = "oracle")]
+pub mod writing;
+
 use generate::limits;
 use job::{Column, ComponentDef, ElementDef, Item, Job, Loop, Map, SegmentDef, TableData, encode};
 use std::hint::black_box;
@@ -9,7 +12,7 @@ const LONGEST: usize = 65_536;
 const LISTING: &str = include_str!("../../samples/listing.txt");
 
 /// The time of a call, over as many as fit into a length of time.
-pub fn nanoseconds(length: Duration, call: impl Fn() -> u32) -> f64 {
+pub fn nanoseconds(length: Duration, mut call: impl FnMut() -> u32) -> f64 {
     let start = Instant::now();
     let mut calls = 0u64;
     while start.elapsed() < length {

@@ -31,4 +31,9 @@ fn main() {
         }
         println!("{name:34} {:>7} {:>6} {fast:>10.0} {slow:>10.0} {:>7.2}", bytes.len(), own(), slow / fast);
     }
+    #[cfg(feature = "oracle")]
+    {
+        println!();
+        bench::writing::table(length, ROUNDS / 4);
+    }
 }

@@ -1,13 +1,13 @@
 //! `compare SUBJECT [COUNT] [SEED] [THREADS] [SECONDS]` runs the proved functions and independent ones on the
 //! fixed list and on so many generated jobs, fewer where the time is up, and prints what was covered and the
-//! first difference. Subjects: `check`, and with the Rust's sources `nest`.
+//! first difference. Subjects: `check`, and with the Rust's sources `nest` and `write`.
 
 use compare::{Check, Subject, run};
 use std::process::ExitCode;
 use std::time::{Duration, Instant};
 
 fn usage() -> ExitCode {
-    eprintln!("usage: compare check|nest [COUNT] [SEED] [THREADS] [SECONDS]");
+    eprintln!("usage: compare check|nest|write [COUNT] [SEED] [THREADS] [SECONDS]");
     ExitCode::from(2)
 }
 
@@ -17,6 +17,8 @@ fn main() -> ExitCode {
         Some("check") => Box::new(Check::proved()),
         #[cfg(feature = "oracle")]
         Some("nest") => Box::new(compare::Nest::proved()),
+        #[cfg(feature = "oracle")]
+        Some("write") => Box::new(compare::Write::proved()),
         _ => return usage(),
     };
     let mut numbers = [10_000, 1, 1, 3_600];

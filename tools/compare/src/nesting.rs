@@ -1,6 +1,7 @@
 //! `nest` beside the Rust's.
 
 use crate::lent::Lent;
+use crate::records;
 use crate::subject::{Agreed, Subject};
 use job::Job;
 use oracle::{Answer, Bound, Finding};
@@ -45,8 +46,9 @@ impl<F: Fn(&[u8], &mut [u32], &mut [u64]) -> u64 + Sync> Subject for Nest<F> {
                 return Ok(Agreed { answer, seen: vec![seen.to_string()] });
             }
         };
-        let wanted: Vec<u64> = outcome.findings.iter().filter_map(numbers).flatten().collect();
-        let own = outcome.findings.iter().position(|finding| numbers(finding).is_none());
+        let nests = || outcome.findings.iter().filter(|finding| records::is_nests(finding));
+        let wanted: Vec<u64> = nests().flat_map(records::finding).collect();
+        let own = outcome.findings.iter().position(|finding| !records::is_nests(finding));
         if own.is_some_and(|own| own * 10 != wanted.len()) {
             return Err("the Rust's walk finds something before nest has ended".to_string());
         }
@@ -64,7 +66,7 @@ impl<F: Fn(&[u8], &mut [u32], &mut [u64]) -> u64 + Sync> Subject for Nest<F> {
         ] {
             self.lend(bytes, answer, (&records, nest), (&wanted, findings))?;
         }
-        Ok(Agreed { answer: 0, seen: seen(&outcome.findings) })
+        Ok(Agreed { answer: 0, seen: records::kinds(&nests().cloned().collect::<Vec<_>>()) })
     }
 }
 
@@ -87,24 +89,6 @@ impl<F: Fn(&[u8], &mut [u32], &mut [u64]) -> u64> Nest<F> {
             Some(difference) => Err(difference),
             None => Ok(()),
         }
-    }
-}
-
-/// A finding of nest as ten numbers; none for one of the walk's.
-fn numbers(finding: &Finding) -> Option<[u64; 10]> {
-    let bits = |value: i64| value as u64;
-    match *finding {
-        Finding::DuplicateKey { table, row, key, first } => {
-            Some([0, table, row, bits(key), first, 0, 0, 0, 0, 0])
-        }
-        Finding::MissingParent { table, row, parent, value } => {
-            let (there, value) = value.map_or((0, 0), |value| (1, bits(value)));
-            Some([1, table, row, parent, there, value, 0, 0, 0, 0])
-        }
-        Finding::MismatchedReference { table, row, ancestor, value, parent, parent_row, expected } => {
-            Some([2, table, row, ancestor, bits(value), parent, parent_row, bits(expected), 0, 0])
-        }
-        _ => None,
     }
 }
 
@@ -147,19 +131,4 @@ fn hangs(job: &Job, records: &[u32], findings: &[Finding]) -> Result<(), String>
         }
     }
     Ok(())
-}
-
-/// The kinds of findings, for the summary.
-fn seen(findings: &[Finding]) -> Vec<String> {
-    let name = |finding: &Finding| match finding {
-        Finding::DuplicateKey { .. } => Some("DR"),
-        Finding::MissingParent { value: Some(_), .. } => Some("MP with a value"),
-        Finding::MissingParent { value: None, .. } => Some("MP without"),
-        Finding::MismatchedReference { .. } => Some("MR"),
-        _ => None,
-    };
-    let mut names: Vec<&str> = findings.iter().filter_map(name).collect();
-    names.sort_unstable();
-    names.dedup();
-    names.into_iter().map(str::to_string).collect()
 }

@@ -16,6 +16,20 @@ mod bare {
             findings: *mut u64,
             findings_length: usize,
         ) -> u64;
+        pub fn baktuven_write(
+            job: *const u8,
+            length: usize,
+            document: *mut u8,
+            document_length: usize,
+            segments: *mut u64,
+            segments_length: usize,
+            findings: *mut u64,
+            findings_length: usize,
+            stops: *mut u64,
+            stops_length: usize,
+            counts: *mut u64,
+            counts_length: usize,
+        ) -> u32;
     }
 }
 
@@ -50,5 +64,42 @@ pub fn nest(job: &[u8], nest: &mut [u32], findings: &mut [u64]) -> u64 {
 
 #[cfg(not(linked))]
 pub fn nest(_: &[u8], _: &mut [u32], _: &mut [u64]) -> u64 {
+    panic!("built without the static library")
+}
+
+/// The lists that `write` is lent: bytes; three numbers a segment, ten a finding, three a stop; and the
+/// counts of the four.
+pub struct Lists<'a> {
+    pub document: &'a mut [u8],
+    pub segments: &'a mut [u64],
+    pub findings: &'a mut [u64],
+    pub stops: &'a mut [u64],
+    pub counts: &'a mut [u64],
+}
+
+/// Writes a job. Document 01's number, 0 to 7.
+#[cfg(linked)]
+pub fn write(job: &[u8], lists: Lists) -> u32 {
+    // SAFETY: the pairs are those of slices, which are only used during the call; the job is only read.
+    unsafe {
+        bare::baktuven_write(
+            job.as_ptr(),
+            job.len(),
+            lists.document.as_mut_ptr(),
+            lists.document.len(),
+            lists.segments.as_mut_ptr(),
+            lists.segments.len(),
+            lists.findings.as_mut_ptr(),
+            lists.findings.len(),
+            lists.stops.as_mut_ptr(),
+            lists.stops.len(),
+            lists.counts.as_mut_ptr(),
+            lists.counts.len(),
+        )
+    }
+}
+
+#[cfg(not(linked))]
+pub fn write(_: &[u8], _: Lists) -> u32 {
     panic!("built without the static library")
 }

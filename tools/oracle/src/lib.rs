@@ -7,6 +7,8 @@
 mod listing;
 
 pub use listing::{listing, listing_lines, program};
+/// How long the Rust itself takes on a job.
+pub use oxedi_plain::nanoseconds;
 
 use job::{Job, Refusal};
 use oxedi_probed::probe::{self, Bounds, Notes, Over};

@@ -137,8 +137,12 @@ fn columns_of(table: &job::TableData) -> Columns {
     }
 }
 
-/// Runs the Rust on a job that passes refusals 1 to 5.
-pub fn run(job: &job::Job) -> Written {
+/// What one run gave: the document, the trace, the findings.
+type Emitted = (Vec<u8>, Traces, Vec<Finding>);
+
+/// Makes what the Rust takes of a job that passes refusals 1 to 5, once, and hands on a run of `nest` and
+/// `Emitter::run` on it.
+fn prepared<R>(job: &job::Job, then: impl FnOnce(&dyn Fn() -> Emitted) -> R) -> R {
     let (spec, plan, layout) = (Spec::of(&job.spec), plan_of(job), layout_of(&job.layout));
     let envelope = envelope_of(&job.envelope);
     let columns: Vec<Columns> = job.data.iter().map(columns_of).collect();
@@ -154,42 +158,61 @@ pub fn run(job: &job::Job) -> Written {
         }
     };
     let data: Vec<Data<'_>> = columns.iter().zip(&job.data).enumerate().map(bound).collect();
-    let mut findings = Vec::new();
-    let nest = nest::nest(&spec, &plan, &data, &mut findings);
     let given = envelope.delimiters;
-    let mut delimiters =
-        vec![(given.element, ELEMENT), (given.component, COMPONENT), (given.segment, SEGMENT)];
-    delimiters.extend(given.repetition.map(|byte| (byte, REPETITION)));
-    let mut emitter = Emitter {
-        spec: &spec,
-        plan: &plan,
-        layout: &layout,
-        data: &data,
-        nest: &nest,
-        envelope: &envelope,
-        separators: Separators {
-            element: given.element,
-            component: given.component,
-            segment: given.segment,
-            line_break: envelope.line_break,
-        },
-        delimiters,
-        out: Vec::new(),
-        traces: Traces::default(),
-        findings,
-        last: vec![None; spec.tables().len()],
-        counters: vec![envelope.control_number; spec.loops().len()],
-        parts: Vec::new(),
-        texts: Vec::new(),
-    };
-    emitter.run();
-    let trace = format!("{:?}", emitter.traces);
-    Written {
-        document: emitter.out,
-        segments: segments_of(&trace),
-        trace,
-        findings: emitter.findings.iter().map(raw).collect(),
-    }
+    then(&|| {
+        let mut findings = Vec::new();
+        let nest = nest::nest(&spec, &plan, &data, &mut findings);
+        let mut delimiters =
+            vec![(given.element, ELEMENT), (given.component, COMPONENT), (given.segment, SEGMENT)];
+        delimiters.extend(given.repetition.map(|byte| (byte, REPETITION)));
+        let mut emitter = Emitter {
+            spec: &spec,
+            plan: &plan,
+            layout: &layout,
+            data: &data,
+            nest: &nest,
+            envelope: &envelope,
+            separators: Separators {
+                element: given.element,
+                component: given.component,
+                segment: given.segment,
+                line_break: envelope.line_break,
+            },
+            delimiters,
+            out: Vec::new(),
+            traces: Traces::default(),
+            findings,
+            last: vec![None; spec.tables().len()],
+            counters: vec![envelope.control_number; spec.loops().len()],
+            parts: Vec::new(),
+            texts: Vec::new(),
+        };
+        emitter.run();
+        (emitter.out, emitter.traces, emitter.findings)
+    })
+}
+
+/// Runs the Rust on a job that passes refusals 1 to 5.
+pub fn run(job: &job::Job) -> Written {
+    prepared(job, |once| {
+        let (document, traces, findings) = once();
+        let trace = format!("{traces:?}");
+        Written { document, segments: segments_of(&trace), trace, findings: findings.iter().map(raw).collect() }
+    })
+}
+
+/// How long `nest` and `Emitter::run` take on a job, over as many runs as fit into a length of time, in
+/// nanoseconds; what they take is made before.
+pub fn nanoseconds(job: &job::Job, length: std::time::Duration) -> f64 {
+    prepared(job, |once| {
+        let start = std::time::Instant::now();
+        let mut runs = 0u64;
+        while start.elapsed() < length {
+            std::hint::black_box(once());
+            runs += 1;
+        }
+        start.elapsed().as_nanos() as f64 / runs as f64
+    })
 }
 
 /// The segments of a trace as it shows itself: `segments: [(0, Some((1, 2))), (3, None)], open: 4`.

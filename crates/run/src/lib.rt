@@ -1,0 +1,289 @@
+// The walk that writes: every instance of a loop that the rows give, its segments and child loops in the order of the layout, and its closer.
+use crate::closing::close;
+use crate::own::enter_own;
+use crate::segments::segment_item;
+use emit::state::State;
+use emit::state::Taken;
+use instances::instances;
+use instances::next_instance;
+use plan::answers::Item;
+use spec::ids::LoopId;
+use walk::Context;
+ghost use mathlib.Core.Path.{_≡_};
+ghost use Prim.Native.Nat.{_<_};
+ghost use lib.ListN.{length};
+ghost use Rattle.format.specs.Sections.{jobOf};
+ghost use Rattle.lent.specs.Fit.{cap};
+ghost use Rattle.plan.specs.Answers.{itemOf};
+ghost use Rattle.nest.specs.Lists.{each};
+ghost use Rattle.nest.specs.Outline.{orderOf};
+ghost use Rattle.nest.specs.OfJob.{itemIn};
+ghost use Rattle.nest.specs.Ready.{outlineAt};
+ghost use Rattle.walk.specs.Contexts.{contextBy};
+ghost use Rattle.walk.specs.Instances as I;
+ghost use Rattle.walk.specs.Nested.{Nested};
+ghost use Rattle.walk.specs.Tour as T;
+ghost use Rattle.emit.specs.Fold.{stepsOut};
+ghost use Rattle.emit.specs.Did.{stateOf, Did, Small, Took};
+ghost use Rattle.run.specs.Went.{Walks, Went, itemLoop, itemCount};
+
+mod closing;
+mod own;
+mod segments;
+
+// What some steps came to, and how many instances of the loops directly below there were.
+struct Visited {
+    pub taken: Taken,
+    pub instances: usize,
+}
+
+fn tally(s: State, written: usize, instances: usize) -> Visited
+    ensures { λ r. ⌜ r ≡ record { taken = record { state = s; written = written }; instances = instances } ⌝ }
+{
+    Visited {
+        taken: Taken {
+            state: s,
+            written: written,
+        },
+        instances: instances,
+    }
+}
+
+// Every instance of loop l in a context, so many levels deep.
+fn visits(
+    job: &[u8],
+    index: &[u32],
+    nest: &[u32],
+    doc: &mut [u8],
+    segments: &mut [u64],
+    findings: &mut [u64],
+    stops: &mut [u64],
+    s: State,
+    l: LoopId,
+    c: Context,
+    height: u32,
+) -> Visited
+    requires { ⌜ Walks (now job) (now index) (now nest) s (l .0) c × (T.segmentsIn (T.visits (outlineAt (now job)) height (l .0) (contextBy c)) < cap) ⌝ }
+    ensures { λ r. ⌜ Went (jobOf (now (job .entry))) (T.visits (outlineAt (now (job .entry))) height (l .0) (contextBy c)) (length (I.instances (outlineAt (now (job .entry))) height (l .0) (contextBy c))) s r
+        (now (doc .entry)) (now (doc .exit)) (now (segments .entry)) (now (segments .exit)) (now (findings .entry)) (now (findings .exit)) (now (stops .entry)) (now (stops .exit)) ⌝ }
+{
+    if height == 0 {
+        return tally(s, 0, 0);
+    }
+    let mut cur = instances(job, index, nest, l, c, height);
+    let mut t = s;
+    let mut written: usize = 0;
+    let mut n: usize = 0;
+    loop {
+        let next = next_instance(job, index, nest, cur);
+        let more = next.more;
+        if more {
+            let d = next.context;
+            let w = instance(
+                job,
+                index,
+                nest,
+                doc,
+                segments,
+                findings,
+                stops,
+                t,
+                l,
+                d,
+                height - 1,
+            );
+            t = w.state;
+            written += w.written;
+            n += 1;
+            cur = next.cursor;
+        } else {
+            return tally(t, written, n);
+        }
+    }
+}
+
+// One instance: its stop, its items and its closer.
+fn instance(
+    job: &[u8],
+    index: &[u32],
+    nest: &[u32],
+    doc: &mut [u8],
+    segments: &mut [u64],
+    findings: &mut [u64],
+    stops: &mut [u64],
+    s: State,
+    l: LoopId,
+    c: Context,
+    height: u32,
+) -> Taken
+    requires { ⌜ Walks (now job) (now index) (now nest) s (l .0) c × (T.segmentsIn (T.instanceSteps (I.instances (outlineAt (now job)) height) (T.visits (outlineAt (now job)) height) (outlineAt (now job)) (l .0) (contextBy c)) < cap) ⌝ }
+    ensures { λ r. ⌜ Took (jobOf (now (job .entry))) (T.instanceSteps (I.instances (outlineAt (now (job .entry))) height) (T.visits (outlineAt (now (job .entry))) height) (outlineAt (now (job .entry))) (l .0) (contextBy c)) s r
+        (now (doc .entry)) (now (doc .exit)) (now (segments .entry)) (now (segments .exit)) (now (findings .entry)) (now (findings .exit)) (now (stops .entry)) (now (stops .exit)) ⌝ }
+{
+    let begun = enter_own(job, index, nest, findings, stops, s, l, c);
+    let v = items(
+        job,
+        index,
+        nest,
+        doc,
+        segments,
+        findings,
+        stops,
+        begun,
+        l,
+        c,
+        height,
+    );
+    let w = v.taken;
+    let last = close(
+        job,
+        index,
+        doc,
+        segments,
+        w.state,
+        l,
+        v.instances,
+        w.written,
+    );
+    let t = last.state;
+    Taken {
+        state: t,
+        written: w.written + last.written,
+    }
+}
+
+// The items of a loop's order in an instance.
+fn items(
+    job: &[u8],
+    index: &[u32],
+    nest: &[u32],
+    doc: &mut [u8],
+    segments: &mut [u64],
+    findings: &mut [u64],
+    stops: &mut [u64],
+    s: State,
+    l: LoopId,
+    c: Context,
+    height: u32,
+) -> Visited
+    requires { ⌜ Walks (now job) (now index) (now nest) s (l .0) c × (T.segmentsIn (each (T.itemSteps (T.visits (outlineAt (now job)) height) (outlineAt (now job)) (l .0) (contextBy c)) (orderOf (outlineAt (now job)) (l .0))) < cap) ⌝ }
+    ensures { λ r. ⌜ Went (jobOf (now (job .entry))) (each (T.itemSteps (T.visits (outlineAt (now (job .entry))) height) (outlineAt (now (job .entry))) (l .0) (contextBy c)) (orderOf (outlineAt (now (job .entry))) (l .0)))
+        (T.children (I.instances (outlineAt (now (job .entry))) height) (outlineAt (now (job .entry))) (l .0) (contextBy c)) s r
+        (now (doc .entry)) (now (doc .exit)) (now (segments .entry)) (now (segments .exit)) (now (findings .entry)) (now (findings .exit)) (now (stops .entry)) (now (stops .exit)) ⌝ }
+{
+    let count = plan::layout::order_count(job, index, l);
+    let mut t = s;
+    let mut written: usize = 0;
+    let mut n: usize = 0;
+    let mut k: u32 = 0;
+    while k < count {
+        let it = plan::layout::item(job, index, l, k);
+        let v = item(
+            job,
+            index,
+            nest,
+            doc,
+            segments,
+            findings,
+            stops,
+            t,
+            l,
+            c,
+            height,
+            it,
+        );
+        let w = v.taken;
+        t = w.state;
+        written += w.written;
+        n += v.instances;
+        k += 1;
+    }
+    tally(t, written, n)
+}
+
+// One item: a planned segment, or the instances of a child loop.
+fn item(
+    job: &[u8],
+    index: &[u32],
+    nest: &[u32],
+    doc: &mut [u8],
+    segments: &mut [u64],
+    findings: &mut [u64],
+    stops: &mut [u64],
+    s: State,
+    l: LoopId,
+    c: Context,
+    height: u32,
+    it: Item,
+) -> Visited
+    requires { ⌜ Walks (now job) (now index) (now nest) s (l .0) c × (itemLoop (itemIn (itemOf it)) < 32)
+        × (T.segmentsIn (T.itemSteps (T.visits (outlineAt (now job)) height) (outlineAt (now job)) (l .0) (contextBy c) (itemIn (itemOf it))) < cap) ⌝ }
+    ensures { λ r. ⌜ Went (jobOf (now (job .entry))) (T.itemSteps (T.visits (outlineAt (now (job .entry))) height) (outlineAt (now (job .entry))) (l .0) (contextBy c) (itemIn (itemOf it)))
+        (itemCount (I.instances (outlineAt (now (job .entry))) height) (contextBy c) (itemIn (itemOf it))) s r
+        (now (doc .entry)) (now (doc .exit)) (now (segments .entry)) (now (segments .exit)) (now (findings .entry)) (now (findings .exit)) (now (stops .entry)) (now (stops .exit)) ⌝ }
+{
+    match it {
+        Item::Segment(i) => {
+            let t = segment_item(job, index, nest, doc, segments, findings, stops, s, l, c, i);
+            Visited {
+                taken: t,
+                instances: 0,
+            }
+        }
+        Item::Loop(k) => visits(
+            job,
+            index,
+            nest,
+            doc,
+            segments,
+            findings,
+            stops,
+            s,
+            k,
+            c,
+            height,
+        ),
+    }
+}
+
+// Every instance of the spec's top-level loops.
+pub fn run(
+    job: &[u8],
+    index: &[u32],
+    nest: &[u32],
+    doc: &mut [u8],
+    segments: &mut [u64],
+    findings: &mut [u64],
+    stops: &mut [u64],
+    s: State,
+) -> State
+    requires { ⌜ Nested (now job) (now index) (now nest) × Small s × (T.segmentsIn (T.tour (outlineAt (now job))) < cap) ⌝ }
+    ensures { λ r. ⌜ Did (stepsOut (jobOf (now (job .entry))) (T.tour (outlineAt (now (job .entry)))) (stateOf s)) s r
+        (now (doc .entry)) (now (doc .exit)) (now (segments .entry)) (now (segments .exit)) (now (findings .entry)) (now (findings .exit)) (now (stops .entry)) (now (stops .exit)) ⌝ }
+{
+    let height = spec::loops::loop_count(job, index);
+    let count = spec::loops::root_count(job, index);
+    let c = walk::outside();
+    let mut t = s;
+    let mut k: u32 = 0;
+    while k < count {
+        let l = spec::loops::root(job, index, k);
+        let v = visits(
+            job,
+            index,
+            nest,
+            doc,
+            segments,
+            findings,
+            stops,
+            t,
+            l,
+            c,
+            height,
+        );
+        let w = v.taken;
+        t = w.state;
+        k += 1;
+    }
+    t
+}

@@ -1,0 +1,21 @@
+use native.Mathlib.Omega.{arith}
+use Rattle.nest.proofs.Lacking.{findings-both}
+use borrow.Author.Needs.{needs}
+use Rattle.writer.proofs.nest_findings.Statement.{statement}
+use Rattle.writer.proofs.nest_findings.Tie as tie
+
+all-duplicates-requires : tie.Need-all-duplicates-requires
+all-duplicates-requires c κs = search needs
+
+all-findings-requires : tie.Need-all-findings-requires
+all-findings-requires c κs = search needs
+
+same-length : tie.Need-same-length
+same-length c = search needs
+
+returns : tie.Need-returns
+returns c = findings-both _ _ _ _ _ _ _ (omega (arith, c .before .before .before .before .before .before .before .before .before .before .before)) (c .before .before .before .before .before .before .all-duplicates .ensures) (c .before .before .all-findings .ensures)
+
+pub nest-findings-spec : {M : Type 1} → statement M
+nest-findings-spec =
+    tie.close (tie.spec all-duplicates-requires all-findings-requires same-length returns)

@@ -1,0 +1,43 @@
+use mathlib.Core.Path.{refl}
+use native.Mathlib.Omega.{arith}
+use Rattle.writer.proofs.AnswerLaws.{refused-6, passed-refusal, wrote-refused}
+use borrow.Author.Needs.{needs}
+use Rattle.writer.proofs.nested.Statement.{statement}
+use Rattle.writer.proofs.nested.Tie as tie
+
+census-requires : tie.Need-census-requires
+census-requires c κs = search needs
+
+returns : tie.Need-returns
+returns c = wrote-refused 5 _ (refused-6 _ (passed-refusal _ (c .before .before .before .before .before .before .before .before .before .pre .ready .passed)) (omega (arith, c .before .census .ensures, c .if1 .taken))) refl refl
+
+walked-requires : tie.Need-walked-requires
+walked-requires c κs = search needs
+
+same-length : tie.Need-same-length
+same-length c = search needs
+
+same-length-2 : tie.Need-same-length-2
+same-length-2 c = search needs
+
+same-length-3 : tie.Need-same-length-3
+same-length-3 c = search needs
+
+same-length-4 : tie.Need-same-length-4
+same-length-4 c = search needs
+
+returns-2 : tie.Need-returns-2
+returns-2 c = search needs
+
+pub nested-spec : {M : Type 1} → statement M
+nested-spec =
+    tie.close
+    (tie.spec
+    census-requires
+    returns
+    walked-requires
+    same-length
+    same-length-2
+    same-length-3
+    same-length-4
+    returns-2)

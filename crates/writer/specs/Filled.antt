@@ -1,0 +1,29 @@
+-- What the code knows on the way: the first state, and what the lists hold once the result is stored in them.
+use Prim.Native.Nat.{ℕ}
+use mathlib.Core.Bool.{false}
+use mathlib.Core.List.{List}
+use lib.ListN.{replicate}
+use Rattle.lent.specs.Fit.{Stored}
+use Rattle.emit.specs.declared.state.State.{State}
+use Rattle.emit.specs.Written.{wordsOf}
+use Rattle.emit.specs.Did.{tracedWords, stopWords}
+use Rattle.writer.specs.Result.{Result}
+
+-- no row entered, every counter at the control number, nothing counted but n numbers of findings
+abbrev pub firstState : ℕ → ℕ → State
+firstState control n = record {
+  high = replicate 16 (record { seen = false; row = 0 });
+  counter = replicate 32 control;
+  entries = 0;
+  begun = 0;
+  bytes = 0;
+  segments = 0;
+  findings = n;
+  stops = 0;
+}
+
+pub record Filled (r : Result) (s : State) (d d′ g g′ f f′ p p′ : List ℕ) : Type 0 where
+  pub document : Stored d 0 (r .bytes) (s .bytes) d′
+  pub segments : Stored g 0 (tracedWords (r .segments)) (s .segments) g′
+  pub findings : Stored f 0 (wordsOf (r .findings)) (s .findings) f′
+  pub stops : Stored p 0 (stopWords (r .stops)) (s .stops) p′
