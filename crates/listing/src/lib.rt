@@ -14,13 +14,7 @@ pub fn print(job: &[u8]) {
     let mut segments = [0u64; 1536];
     let mut findings = [0u64; 5120];
     let mut stops = [0u64; 1536];
-    let answer = writer::write(
-        job,
-        &mut document,
-        &mut segments,
-        &mut findings,
-        &mut stops,
-    );
+    let answer = writer::write(job, &mut document, &mut segments, &mut findings, &mut stops);
     match answer {
         Answer::Done(bytes, s, f, p) => {
             words::counts(1, b"done", bytes, s, f, p);

@@ -1,8 +1,9 @@
 -- The answer and the lists, a law for each way through the code.
-use Prim.Native.Nat.{ℕ, suc, _≤_, _<_}
+use Prim.Native.Nat.{ℕ, zero, suc, _≤_, _<_}
 use mathlib.Core.Path.{_≡_, refl}
 use mathlib.Core.Bool.{true, false}
 use mathlib.Core.List.{List, []}
+use native.Mathlib.Omega.{arith}
 use lib.ListN.{length, take}
 use lib.Dec.{eqb}
 use borrow.Author.Tests.{lt-ltb, le-ltb, eq-eqb}
@@ -10,15 +11,17 @@ use Rattle.codec.specs.Codec.{pick}
 use Rattle.codec.specs.Limits.{any}
 use Rattle.format.specs.Sections.{trailer, planStart, layoutStart, envelopeStart, dataStart, spoilt, jobOf}
 use Rattle.format.specs.Refusal.{refusalOf}
-use Rattle.format.specs.Passed.{Passed, refused-not}
+use Rattle.format.specs.Passed.{Passed, passed, refused-not}
 use Rattle.nest.specs.OfJob.{outlineOf}
 use Rattle.nest.specs.Finding.{recordOf}
 use Rattle.walk.specs.Tour.{census}
 use Rattle.emit.specs.Did.{tracedWord, stopWord}
+use Rattle.lossless.specs.NothingLost.{NothingLost}
+use Rattle.lossless.proofs.Theorem.{nothing-lost}
 use Rattle.writer.specs.declared.Answer.{Answer}
 use Rattle.writer.specs.Answer.{numberOf, valuesOf}
 use Rattle.writer.specs.Result.{resultOf, countsOf}
-use Rattle.writer.specs.Refused.{crowded, refusal}
+use Rattle.writer.specs.Refused.{firstOf, crowded, refusal}
 use Rattle.writer.specs.Lists.{inFront, holding}
 use Rattle.writer.specs.Wrote.{threes, tens, short, numberFor, valuesFor, Wrote}
 
@@ -47,11 +50,21 @@ passed-refusal b p = refused-not b (p .read .sound) unspoilt (p .limits) (p .for
     unspoilt : spoilt b ≡ false
     unspoilt = rw (p .read .spec, p .read .plan, p .read .layout, p .read .envelope, p .read .tables) (simp (same (planStart b), same (layoutStart b), same (envelopeStart b), same (dataStart b), same (trailer b)))
 
+-- ---- demand 3
+
+kept : (b : List ℕ) → refusal b ≡ 0 → NothingLost (jobOf b)
+unfolding refusal
+kept b h = nothing-lost b (passed b (go (refusalOf b) refl h))
+  where
+    go : (n : ℕ) → refusalOf b ≡ n → firstOf n (pick (crowded (jobOf b)) 6 0) ≡ 0 → refusalOf b ≡ 0
+    go zero e h = e
+    go (suc k) e h = let z : ⊥ = omega (arith, h) in absurd z
+
 -- ---- a refused job
 
 pub wrote-refused : {b d g f p : List ℕ} (k : ℕ) (a : Answer) → refusal b ≡ suc k → numberOf a ≡ suc k → valuesOf a ≡ [] → Wrote b d d g g f f p p a
 unfolding numberFor valuesFor
-wrote-refused k a h n v = record { number = rw h n; values = rw h v; document = rw h; segments = rw h; findings = rw h; stops = rw h }
+wrote-refused {b} k a h n v = record { number = rw h n; values = rw h v; document = rw h; segments = rw h; findings = rw h; stops = rw h; nothing-lost = kept b }
 
 -- ---- a job that passes
 
@@ -63,4 +76,4 @@ pub wrote-all : {b d d′ g g′ f f′ p p′ : List ℕ} (a : Answer) → refu
     → p′ ≡ holding (threes p) stopWord (resultOf (jobOf b) .stops) p
     → Wrote b d d′ g g′ f f′ p p′ a
 unfolding numberFor valuesFor
-wrote-all a h n v d g f p = record { number = rw h n; values = rw h v; document = rw h d; segments = rw h g; findings = rw h f; stops = rw h p }
+wrote-all {b} a h n v d g f p = record { number = rw h n; values = rw h v; document = rw h d; segments = rw h g; findings = rw h f; stops = rw h p; nothing-lost = kept b }

@@ -26,7 +26,7 @@ use Rattle.emit.specs.Did.{stateOf, rowWords, tracedWord, tracedWords, stopWord
 use Rattle.emit.proofs.FindingLaws.{stored-findings}
 use Rattle.writer.specs.declared.Answer.{Answer}
 use Rattle.writer.specs.Answer.{numberOf, valuesOf}
-use Rattle.writer.specs.Result.{Result, resultOf, byteCount}
+use Rattle.writer.specs.Result.{Result, resultOf}
 use Rattle.writer.specs.Wrote.{threes, tens, Wrote}
 use Rattle.writer.specs.Filled.{firstState, Filled}
 use Rattle.writer.proofs.FrontLaws.{bytes-front, each-length, items-front, all-counted}
@@ -82,7 +82,7 @@ wrote-filled {b} {d} {g = g} {f = f} {p = p} {s = s} a bs ok few w ans =
     let lg : length (each tracedWord (r .segments)) ≡ length (r .segments) * 3 = each-length tracedWord 3 traced-wide (r .segments) in
     let lf : length (each recordOf (r .findings)) ≡ length (r .findings) * 10 = each-length recordOf 10 record-length (r .findings) in
     let lp : length (each stopWord (r .stops)) ≡ length (r .stops) * 3 = each-length stopWord 3 stop-wide (r .stops) in
-    let cd : s .bytes ≡ byteCount r = w .document .counted ∙ (omega arith) in
+    let cd : s .bytes ≡ length (r .bytes) = all-counted (z .bytes) (w .document) in
     let cg : s .segments / 3 ≡ length (r .segments) = third _ _ (all-counted (rw lg (z .segments)) (w .segments) ∙ lg) in
     let cf : s .findings / 10 ≡ length (r .findings) = tenth _ _ (all-counted (rw lf (z .findings)) (w .findings) ∙ lf) in
     let cp : s .stops / 3 ≡ length (r .stops) = third _ _ (all-counted (rw lp (z .stops)) (w .stops) ∙ lp) in

@@ -1,9 +1,9 @@
--- No count of a job that passes 1 to 6 comes near the cap, the bytes aside.
+-- No count of a job that passes 1 to 6 comes near the cap.
 use Prim.Native.Nat.{ℕ, suc, _+_, _*_, _≤_, _<_, max}
 use mathlib.Core.Path.{_≡_, refl, _∙_}
 use mathlib.Core.List.{List, [], _∷_, _++_}
 use native.Mathlib.Omega.{arith}
-use native.Mathlib.Nat.{add-mul, mul-le-mul-right}
+use native.Mathlib.Nat.{mul-one, mul-le-mul-right}
 use lib.ListN.{length, length-append}
 use Rattle.lent.specs.Fit.{cap}
 use Rattle.codec.specs.Codec.{Bytes}
@@ -28,9 +28,13 @@ use Rattle.writer.specs.Result.{resultOf, walkedOut}
 use Rattle.writer.proofs.NestedLaws.{rows-of-all}
 use Rattle.writer.proofs.StepKinds.{opener-is, closer-is}
 use Rattle.writer.proofs.FewFindings.{texted, step-findings}
-use Rattle.writer.proofs.Lengths.{order-short, ancestors-short, planned-short, segment-short}
+use Rattle.writer.proofs.BytesSums.{sum-each-time, sum-both}
+use Rattle.writer.proofs.BytesSections.{planned-short}
+use Rattle.writer.proofs.BytesTotal.{bytes-below}
+use Rattle.writer.proofs.Lengths.{order-short, ancestors-short, segment-short}
 
 pub record Small (j : Job) : Type 0 where
+  pub bytes : length (resultOf j .bytes) < cap
   pub segments : length (resultOf j .segments) * 3 < cap
   pub findings : length (resultOf j .findings) * 10 < cap
   pub stops : length (resultOf j .stops) * 3 < cap
@@ -76,16 +80,12 @@ unfolding rowSteps
 row-texted l i t k [] = refl
 row-texted l i t k (r ∷ rs) = omega (arith, row-texted l i t (suc k) rs)
 
-ones : (xs : List ℕ) → sum (λ x. 1) xs ≡ length xs
-ones [] = refl
-ones (x ∷ xs) = omega (arith, ones xs)
-
 -- one for each row of a repeat segment
 repeat-texted : (o : Outline) (l i t p : ℕ) → sum texted (repeatSteps o l i t p) ≡ length (repeatRows o t l p)
 unfolding repeatSteps
 repeat-texted o l i t p =
     let cs : List (List ℕ) = chunksOf (o .sameChunk l i) (max 1 (o .capacity t)) (repeatRows o t l p) in
-    sum-each texted (chunkSteps l i t) cs ∙ sum-same _ (sum (λ x. 1)) cs one ∙ chunks-all (λ x. 1) (o .sameChunk l i) (max 1 (o .capacity t)) (repeatRows o t l p) ∙ ones (repeatRows o t l p)
+    sum-each texted (chunkSteps l i t) cs ∙ sum-same _ (sum (λ x. 1)) cs one ∙ chunks-all (λ x. 1) (o .sameChunk l i) (max 1 (o .capacity t)) (repeatRows o t l p) ∙ sum-each-time 1 (repeatRows o t l p) ∙ mul-one (length (repeatRows o t l p))
   where
     one : (rs : List ℕ) → sum texted (chunkSteps l i t rs) ≡ sum (λ x. 1) rs
     one rs = omega (arith, sum-append texted (rowSteps l i t 0 rs) (chunk l i t rs ∷ []), row-texted l i t 0 rs)
@@ -98,10 +98,6 @@ texted-counted o R few = record {
   ends = λ l t r n m b. omega arith;
   repeats = λ l i t p. omega (arith, repeat-texted o l i t p, repeat-few o t l p, few t);
 }
-
-sum-both : (f g : Step → ℕ) (k : ℕ) (xs : List Step) → sum (λ x. f x * k + g x) xs ≡ sum f xs * k + sum g xs
-sum-both f g k [] = omega arith
-sum-both f g k (x ∷ xs) = omega (arith, sum-both f g k xs, add-mul (f x) (sum f xs) k)
 
 -- ---- the whole walk
 
@@ -134,6 +130,9 @@ module _ (b : List ℕ) (bs : Bytes b) (p : Passed b) (h : census (outlineOf (jo
       rows : rowsBefore (outlineOf j) (length (outlineOf j .rowCounts)) ≤ 4096
       rows = omega (arith, rows-of-all j, few j (p .limits) .rows)
 
+  bytes-few : length (walkedOut j .bytes) < cap
+  bytes-few = bytes-below b bs p h (omega (arith, written-few))
+
   texted-few : sum texted (tour (outlineOf j)) ≤ most
   texted-few = omega (arith, tour-bound (outlineOf j) 4096 13107 texted (texted-counted (outlineOf j) 4096 (λ t. rows-few j t (few j (p .limits) .rows))) (order-short b bs p), mul-le-mul-right (13107 * 4097 + 1) h)
 
@@ -151,6 +150,7 @@ module _ (b : List ℕ) (bs : Bytes b) (p : Passed b) (h : census (outlineOf (jo
   pub small : Small j
   unfolding resultOf
   small = record {
+    bytes = bytes-few;
     segments = omega (arith, segments-few);
     findings = omega (arith, length-append (nestFindings (outlineOf j)) (walkedOut j .findings), nest-few, findings-few);
     stops = omega (arith, stops-few);

@@ -1,8 +1,7 @@
 -- What a job comes to, from the job alone: the document, its segments, the findings and the stops (`nest` and `Emitter::run`).
-use Prim.Native.Nat.{ℕ, min}
+use Prim.Native.Nat.{ℕ}
 use mathlib.Core.List.{List, [], _∷_, _++_}
 use lib.ListN.{length}
-use Rattle.lent.specs.Fit.{cap}
 use Rattle.format.specs.Job.{Job}
 use Rattle.nest.specs.Finding.{Finding}
 use Rattle.nest.specs.NestFindings.{nestFindings}
@@ -26,10 +25,6 @@ resultOf j =
     let o = walkedOut j in
     record { bytes = o .bytes; segments = o .segments; findings = nestFindings (outlineOf j) ++ o .findings; stops = o .stops }
 
--- how many bytes: 2 ^ 63 where there are more, which no memory holds
-abbrev pub byteCount : Result → ℕ
-byteCount r = min (length (r .bytes)) cap
-
 -- the four counts
 abbrev pub countsOf : Result → List ℕ
-countsOf r = byteCount r ∷ length (r .segments) ∷ length (r .findings) ∷ length (r .stops) ∷ []
+countsOf r = length (r .bytes) ∷ length (r .segments) ∷ length (r .findings) ∷ length (r .stops) ∷ []

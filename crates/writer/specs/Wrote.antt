@@ -9,9 +9,10 @@ use Rattle.codec.specs.Codec.{pick}
 use Rattle.format.specs.Sections.{jobOf}
 use Rattle.nest.specs.Finding.{recordOf}
 use Rattle.emit.specs.Did.{tracedWord, stopWord}
+use Rattle.lossless.specs.NothingLost.{NothingLost}
 use Rattle.writer.specs.declared.Answer.{Answer}
 use Rattle.writer.specs.Answer.{numberOf, valuesOf}
-use Rattle.writer.specs.Result.{Result, resultOf, byteCount, countsOf}
+use Rattle.writer.specs.Result.{Result, resultOf, countsOf}
 use Rattle.writer.specs.Refused.{firstOf, refusal}
 use Rattle.writer.specs.Lists.{inFront, holding, unlessRefused}
 
@@ -24,7 +25,7 @@ tens d = length d / 10
 
 -- a list has room for fewer items than there are; d, g, f and p say how many it has room for
 abbrev pub short : Result → ℕ → ℕ → ℕ → ℕ → Bool
-short r d g f p = ltb d (byteCount r) || (ltb g (length (r .segments)) || (ltb f (length (r .findings)) || ltb p (length (r .stops))))
+short r d g f p = ltb d (length (r .bytes)) || (ltb g (length (r .segments)) || (ltb f (length (r .findings)) || ltb p (length (r .stops))))
 
 -- 1 to 6, or else 7 where a list is too short, or else 0
 unfoldable pub numberFor : List ℕ → List ℕ → List ℕ → List ℕ → List ℕ → ℕ
@@ -41,3 +42,5 @@ pub record Wrote (b d d′ g g′ f f′ p p′ : List ℕ) (a : Answer) : Type 
   pub segments : g′ ≡ unlessRefused (refusal b) g (holding (threes g) tracedWord (resultOf (jobOf b) .segments) g)
   pub findings : f′ ≡ unlessRefused (refusal b) f (holding (tens f) recordOf (resultOf (jobOf b) .findings) f)
   pub stops : p′ ≡ unlessRefused (refusal b) p (holding (threes p) stopWord (resultOf (jobOf b) .stops) p)
+  -- demand 3: of what a job with a complete plan comes to nothing is lost
+  pub nothing-lost : refusal b ≡ 0 → NothingLost (jobOf b)

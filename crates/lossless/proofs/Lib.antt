@@ -1,0 +1,15 @@
+pub mod Words
+pub mod Bytes
+pub mod Tours
+pub mod Found
+pub mod Forest
+pub mod Stopped
+pub mod Marks
+pub mod Fine
+pub mod Rows
+pub mod Chunks
+pub mod Openers
+pub mod Keys
+pub mod Theorem
+pub mod Example
+pub mod Sample
