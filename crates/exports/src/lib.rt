@@ -5,6 +5,7 @@ ghost use Rattle.refusal.specs.Answer.{numberOf};
 use refusal::Checked;
 
 pub mod nesting;
+pub mod planning;
 pub mod writing;
 
 // Document 01's number.

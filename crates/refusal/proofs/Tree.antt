@@ -62,11 +62,11 @@ loops-any f (loopItem x ∷ is) = rw (loops-any f is)
 
 -- ---- the loop of a number: n loops stand at the place
 module _ {B : Type 0} (b : List ℕ) (e at n i : ℕ) (f : Loop → B) (r : B) (h : n ≡ countAt b at e) where
-  pub loop-says : (p : ℕ) → i < n → p ≡ steps loopC b e i (skip (leC 4) b at e) → Says loopC b e p f r → Says (listC loopC) b e at (λ ls. f (loopAt ls i)) r
+  pub loop-says : (p : ℕ) → i < n → (i < countAt b at e → p ≡ steps loopC b e i (skip (leC 4) b at e)) → Says loopC b e p f r → Says (listC loopC) b e at (λ ls. f (loopAt ls i)) r
   loop-says p k q s ls j =
       let l : ListIs loopC b e at ls = is-list loopC b e at ls j in
       let m : length ls ≡ n = count-list loopC b e at ls l ∙ sym h in
-      let w : p ≡ steps loopC b e i (at + 4) = q ∙ rw (skip-le 4 b at e (l .room)) in
+      let w : p ≡ steps loopC b e i (at + 4) = q (omega (arith, h, k)) ∙ rw (skip-le 4 b at e (l .room)) in
       s (loopAt ls i) (rw w (l .item i noLoop (omega (arith, m))))
 
   pub past-says : n ≤ i → r ≡ f noLoop → Says (listC loopC) b e at (λ ls. f (loopAt ls i)) r
@@ -340,7 +340,7 @@ hit-yes b e at x r s h v i = rw (← s v i, h)
 pub hit-no : (b : List ℕ) (e at x : ℕ) (r : Bool) → Says numC b e at (eqb x) r → r ≡ false → Says numC b e at (hit x) 0
 hit-no b e at x r s h v i = rw (← s v i, h)
 
-pub parent-held : (b : List ℕ) (e at c p q m : ℕ) → p ≡ steps loopC b e c (skip (leC 4) b at e) → q ≡ skip (leC 1) b p e → m ≡ countAt b q e
+pub parent-held : (b : List ℕ) (e at c p q m : ℕ) → (c < countAt b at e → p ≡ steps loopC b e c (skip (leC 4) b at e)) → q ≡ skip (leC 1) b p e → m ≡ countAt b q e
     → (ls : List Loop) → Is (listC loopC) b e at ls → (x : ℕ) → loopAt ls c .parent ≡ some x → m ≡ x
 parent-held b e at c p q m h i j ls k x o = go (leb (length ls) c) refl
   where
@@ -351,8 +351,9 @@ parent-held b e at c p q m h i j ls k x o = go (leb (length ls) c) refl
         absurd (let u : _≡_ {A = ℕ} 0 1 = cc in omega arith)
     go false w =
         let l : ListIs loopC b e at ls = is-list loopC b e at ls k in
-        let y : p ≡ steps loopC b e c (at + 4) = h ∙ rw (skip-le 4 b at e (l .room)) in
-        let u : Is loopC b e p (loopAt ls c) = rw y (l .item c noLoop (leb-false _ _ w)) in
+        let g : c < length ls = leb-false _ _ w in
+        let y : p ≡ steps loopC b e c (at + 4) = h (omega (arith, g, count-list loopC b e at ls l)) ∙ rw (skip-le 4 b at e (l .room)) in
+        let u : Is loopC b e p (loopAt ls c) = rw y (l .item c noLoop g) in
         held-number b e p q m i j (loopAt ls c .parent) (is-loop b e p (loopAt ls c) u .parent) x o
 
 -- the loop that an item of an order names is met again behind it

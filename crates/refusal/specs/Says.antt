@@ -1,19 +1,19 @@
 -- What a test answers: of whatever stands at a place, what the definition says of it.
 use Prim.Native.Nat.{ℕ, _<_}
 use mathlib.Core.Path.{_≡_}
-use mathlib.Core.List.{List, [], _∷_}
+use mathlib.Core.List.{List, [], _∷_, _++_}
 use mathlib.Core.Bool.{Bool, false, not}
-use lib.ListN.{length, getD}
+use lib.ListN.{length, getD, take}
 use lib.Dec.{ltb, eqb}
-use Rattle.codec.specs.Codec.{Codec, pick}
+use Rattle.codec.specs.Codec.{Codec, pick, leC}
 use Rattle.codec.specs.Limits.{any, anyOf}
-use Rattle.codec.specs.Skip.{Is, steps}
+use Rattle.codec.specs.Skip.{Is, countAt, skip, steps}
 use Rattle.format.specs.Layout.{Item, segmentItem, loopItem, Layout}
 use Rattle.format.specs.Data.{TableData}
 use Rattle.format.specs.Envelope.{Envelope}
 use Rattle.format.specs.Words.{anyFrom, ifSome, memberOf, repeats}
 use Rattle.format.specs.Refusal.{large, rowsOfAll, upper, digit, textual, separators, foreign, loopsIn, notChild, outside, outsideLoop, outsideTable, disagrees, ringed, misrooted}
-use Rattle.format.specs.Spec.{Loop, Spec}
+use Rattle.format.specs.Spec.{Loop, loopC, Spec}
 
 abbrev pub Says : {A B : Type 0} → Codec A → List ℕ → ℕ → ℕ → (A → B) → B → Type 0
 Says {A} C b e at f r = (v : A) → Is C b e at v → r ≡ f v
@@ -69,6 +69,16 @@ Exactly ws us = us ≡ ws
 -- what a walk over the rest answers of it
 abbrev pub SaysRest : {A B : Type 0} → Codec A → List ℕ → ℕ → ℕ → ℕ → (List A → B) → B → Type 0
 SaysRest {A} C b e n p f r = (ws : List A) → Rest C b e (Exactly ws) n p → r ≡ f ws
+
+-- ps has the places of the loops that stand at a place, of the first ones where it is shorter
+unfoldable pub Placed : List ℕ → ℕ → ℕ → List ℕ → Type 0
+Placed b e at ps = (i : ℕ) → i < length ps → i < countAt b at e → getD ps i 0 ≡ steps loopC b e i (skip (leC 4) b at e)
+
+-- the first n of ps are the first of xs, and all of them where there was room for more
+pub record Noted (xs ps : List ℕ) (n : ℕ) : Type 0 where
+  pub more : List ℕ
+  pub split : xs ≡ take n ps ++ more
+  pub all : n < length ps → more ≡ []
 
 -- 1 where y is x
 abbrev pub hit : ℕ → ℕ → ℕ

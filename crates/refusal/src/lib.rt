@@ -61,8 +61,10 @@ pub fn tangled_at(b: &[u8]) -> bool
     if loops::orders_outside(b, layout as usize, envelope, n) {
         return true;
     }
-    let x = loops::spec_tangled(b, 0, plan);
-    let y = loops::misorders(b, layout as usize, envelope, 0, plan);
+    let mut places = [0usize; 32];
+    loops::fill_places(b, 0, plan, &mut places);
+    let x = loops::spec_tangled(b, 0, plan, &places);
+    let y = loops::misorders(b, layout as usize, envelope, 0, plan, &places);
     codec::either(x, y)
 }
 

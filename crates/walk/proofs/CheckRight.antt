@@ -194,7 +194,7 @@ module _ (j : Outline) where
   is-repeat : (l t i : ℕ) → PlansRepeat j l t i → is (repeatTable ((segmentOf j l i) .source)) t ≡ true
   is-repeat l t i P = ap (λ s. is (repeatTable s) t) (P .of-table) ∙ eq-eqb t t refl
 
-  plan-passed : Tree j → all-pass (planTests j) ≡ true → Complete j
+  pub plan-passed : Tree j → all-pass (planTests j) ≡ true → Complete j
   unfolding planTests
   plan-passed T pass = record {
     tree = T;
@@ -317,7 +317,7 @@ module _ (j : Outline) where
           r : (u : ℕ) × (kindOf j l ≡ rows u)
           r = has-row (kindOf j l) (c .1)
 
-  passed-plan : Complete j → all-pass (planTests j) ≡ true
+  pub passed-plan : Complete j → all-pass (planTests j) ≡ true
   unfolding planTests
   passed-plan C = all-tests (
       true-below (length (j .tables)) _ (λ t h. then-if (plain j t) _ (λ p. eq-eqb _ _ (one-many L (λ l. rowsOf t (kindOf j l)) (one-row t p))))

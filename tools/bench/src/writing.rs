@@ -114,7 +114,9 @@ fn again(column: &Option<Column>, rows: usize, times: usize) -> Option<Column> {
 
 /// A line a job: bytes, rows, segments, and the best time of each side over so many rounds.
 pub fn table(length: Duration, rounds: usize) {
-    println!("write: nanoseconds a job, the proved one from the job's bytes and the Rust's nest and run from its records");
+    println!(
+        "write: nanoseconds a job, the proved one from the job's bytes and the Rust's nest and run from its records"
+    );
     println!(
         "{:34} {:>7} {:>6} {:>8} {:>10} {:>10} {:>7}",
         "job", "bytes", "rows", "segments", "proved", "the Rust", "ratio"

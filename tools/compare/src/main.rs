@@ -1,13 +1,13 @@
 //! `compare SUBJECT [COUNT] [SEED] [THREADS] [SECONDS]` runs the proved functions and independent ones on the
 //! fixed list and on so many generated jobs, fewer where the time is up, and prints what was covered and the
-//! first difference. Subjects: `check`, and with the Rust's sources `nest` and `write`.
+//! first difference. Subjects: `check`, `plan`, `kept`, and with the Rust's sources `nest` and `write`.
 
-use compare::{Check, Subject, run};
+use compare::{Check, Kept, Plan, Subject, run};
 use std::process::ExitCode;
 use std::time::{Duration, Instant};
 
 fn usage() -> ExitCode {
-    eprintln!("usage: compare check|nest|write [COUNT] [SEED] [THREADS] [SECONDS]");
+    eprintln!("usage: compare check|plan|kept|nest|write [COUNT] [SEED] [THREADS] [SECONDS]");
     ExitCode::from(2)
 }
 
@@ -15,6 +15,8 @@ fn main() -> ExitCode {
     let args: Vec<String> = std::env::args().skip(1).collect();
     let subject: Box<dyn Subject> = match args.first().map(String::as_str) {
         Some("check") => Box::new(Check::proved()),
+        Some("plan") => Box::new(Plan::proved()),
+        Some("kept") => Box::new(Kept),
         #[cfg(feature = "oracle")]
         Some("nest") => Box::new(compare::Nest::proved()),
         #[cfg(feature = "oracle")]

@@ -35,3 +35,30 @@ impl<F: Fn(&[u8]) -> u32 + Sync> Subject for Check<F> {
         Ok(Agreed { answer: wanted, seen: Vec::new() })
     }
 }
+
+/// The plan check beside `job::complete`.
+pub struct Plan<F>(pub F);
+
+impl Plan<fn(&[u8]) -> u32> {
+    /// With the proved one.
+    pub fn proved() -> Self {
+        Plan(native::plan)
+    }
+}
+
+impl<F: Fn(&[u8]) -> u32 + Sync> Subject for Plan<F> {
+    fn run(&self, bytes: &[u8]) -> Result<Agreed, String> {
+        let got = (self.0)(bytes);
+        let (answer, wanted, seen) = match job::check(bytes) {
+            Err(refusal) => (refusal.number(), u32::from(refusal.number()), Vec::new()),
+            Ok(job) => match job::complete::gap(&job) {
+                None => (0, 0, vec!["complete".to_string()]),
+                Some(condition) => (0, 16, vec![format!("condition {condition} doesn't hold")]),
+            },
+        };
+        if got != wanted {
+            return Err(format!("the plan check gives {got}, document 01 read apart from it {wanted}"));
+        }
+        Ok(Agreed { answer, seen })
+    }
+}

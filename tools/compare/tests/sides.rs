@@ -147,3 +147,79 @@ mod nesting {
         }
     }
 }
+
+/// A side that judges plans as the tools do, and one for which all are incomplete.
+#[test]
+fn plans_judged_wrongly() {
+    let own = |bytes: &[u8]| match job::check(bytes) {
+        Err(refusal) => u32::from(refusal.number()),
+        Ok(job) => {
+            if job::complete::gap(&job).is_none() {
+                0
+            } else {
+                16
+            }
+        }
+    };
+    assert_eq!(run(&compare::Plan(own), 300, 3, 2, Duration::MAX).differing(), 0);
+    let never = |bytes: &[u8]| if own(bytes) == 0 { 16 } else { own(bytes) };
+    let summary = run(&compare::Plan(never), 300, 3, 2, Duration::MAX);
+    assert!(summary.differing() > 0);
+}
+
+/// The writer's comparison with the Rust itself as the other side: it agrees, and a side that is one byte or one stop
+/// short, or that touches a list of a refused job, is found.
+#[cfg(feature = "oracle")]
+mod writing {
+    use super::*;
+    use compare::{Write, records};
+    use native::Lists;
+    use oracle::{Answer, Bound};
+
+    fn put<T: Copy>(list: &mut [T], items: &[T], width: usize) -> bool {
+        let room = list.len() / width * width;
+        let fits = items.len().min(room);
+        list[..fits].copy_from_slice(&items[..fits]);
+        items.len() <= room
+    }
+
+    fn rust(bytes: &[u8], lists: Lists, less: usize) -> u32 {
+        match oracle::answer(bytes, Bound::USUAL) {
+            Answer::Refused(number) => u32::from(number),
+            Answer::Done(outcome) => {
+                lists.counts.copy_from_slice(&outcome.counts());
+                let stops = records::stops(&outcome);
+                let stops = &stops[..stops.len().saturating_sub(less * 3)];
+                let fits = [
+                    put(lists.document, &outcome.document, 1),
+                    put(lists.segments, &records::segments(&outcome), 3),
+                    put(lists.findings, &records::findings(&outcome), 10),
+                    put(lists.stops, stops, 3),
+                ];
+                if fits.contains(&false) { 7 } else { 0 }
+            }
+            _ => 0,
+        }
+    }
+
+    #[test]
+    fn the_rust_beside_itself() {
+        let subject = Write(|bytes: &[u8], lists: Lists<'_>| rust(bytes, lists, 0));
+        assert_eq!(run(&subject, 200, 5, 2, Duration::MAX).differing(), 0);
+        let subject = Write(|bytes: &[u8], lists: Lists<'_>| rust(bytes, lists, 1));
+        assert!(run(&subject, 50, 5, 2, Duration::MAX).differing() > 0);
+    }
+
+    #[test]
+    fn a_refused_job_touched() {
+        let subject = Write(|bytes: &[u8], lists: Lists<'_>| {
+            let number = job::check(bytes).map_or_else(|refusal| u32::from(refusal.number()), |_| 0);
+            if number > 0 {
+                lists.stops[0] = 0;
+                return number;
+            }
+            rust(bytes, lists, 0)
+        });
+        assert!(run(&subject, 100, 5, 2, Duration::MAX).differing() > 0);
+    }
+}

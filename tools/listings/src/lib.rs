@@ -14,6 +14,14 @@ const SEED: u64 = 835;
 
 const LISTING: &str = include_str!("../../samples/listing.txt");
 const ADVICE: &str = include_str!("../../samples/advice.txt");
+const LOST: &str = include_str!("../../samples/lost.txt");
+
+/// What the plan check says of a job in the text form, by the tools' own reading of document 01.
+fn judged(text: &str) -> Vec<u8> {
+    let job = job::parse(text.as_bytes()).expect("a sample is a job");
+    let word: &[u8] = if job::complete::gap(&job).is_none() { b"complete\n" } else { b"incomplete\n" };
+    word.to_vec()
+}
 
 /// A job in the text form: its bytes, and the Rust's listing.
 fn listed(text: &str) -> (Vec<u8>, Vec<u8>) {
@@ -22,16 +30,21 @@ fn listed(text: &str) -> (Vec<u8>, Vec<u8>) {
     (bytes, listing)
 }
 
-/// All files, by their place in the repository: the samples of the programs `advise` and `replay`.
+/// All files, by their place in the repository: the samples of the programs `advise`, `plan_check` and `replay`.
 pub fn files() -> Vec<(&'static str, Vec<u8>)> {
     let (example, listing) = listed(LISTING);
     let (advice, advised) = listed(ADVICE);
+    let (lost, losing) = listed(LOST);
     let all = Listings::all();
     vec![
         ("crates/advise/stdin", example),
         ("crates/advise/stdout", listing),
         ("samples/remittance.job", advice),
         ("samples/remittance.out", advised),
+        ("samples/lost.job", lost.clone()),
+        ("samples/lost.out", losing),
+        ("crates/plan_check/stdin", lost),
+        ("crates/plan_check/stdout", judged(LOST)),
         ("crates/replay/stdin", all.input),
         ("crates/replay/stdout", all.output),
     ]

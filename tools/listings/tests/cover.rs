@@ -6,7 +6,8 @@ use listings::Listings;
 #[test]
 fn everything_is_there() {
     let all = Listings::all();
-    let wanted = std::fs::read(concat!(env!("CARGO_MANIFEST_DIR"), "/../samples/listing.out")).expect("the listing");
+    let wanted =
+        std::fs::read(concat!(env!("CARGO_MANIFEST_DIR"), "/../samples/listing.out")).expect("the listing");
     assert!(all.output.starts_with(&wanted));
     assert!(all.lines.len() > 300, "{}", all.lines.len());
     for number in 1..=7 {

@@ -8,6 +8,7 @@ pub const LINKED: bool = cfg!(linked);
 mod bare {
     unsafe extern "C" {
         pub fn baktuven_check(job: *const u8, length: usize) -> u32;
+        pub fn baktuven_plan(job: *const u8, length: usize) -> u32;
         pub fn baktuven_nest(
             job: *const u8,
             length: usize,
@@ -101,5 +102,17 @@ pub fn write(job: &[u8], lists: Lists) -> u32 {
 
 #[cfg(not(linked))]
 pub fn write(_: &[u8], _: Lists) -> u32 {
+    panic!("built without the static library")
+}
+
+/// Whether the plan of a job is complete: 0, or 16 where it isn't; the refusal, 1 to 5.
+#[cfg(linked)]
+pub fn plan(job: &[u8]) -> u32 {
+    // SAFETY: the two are those of a slice, which is only read and only during the call.
+    unsafe { bare::baktuven_plan(job.as_ptr(), job.len()) }
+}
+
+#[cfg(not(linked))]
+pub fn plan(_: &[u8]) -> u32 {
     panic!("built without the static library")
 }

@@ -19,13 +19,13 @@ returns-2 c =
 
 returns-3 : tie.Need-returns-3
 returns-3 c =
-    let r = read-job _ (c .before .before .before .before .before .before .before .before .before .before .before .before .pre .0) (c .before .before .before .before .before .before .before .before .before .before .before .before .pre .1) in
-    let ls = spec-loops _ _ _ _ (c .before .before .before .before .before .before .before .before .before .before .start .ensures) (r .spec) in
-    let z = count-length _ _ _ _ _ _ (c .before .before .before .before .before .before .before .count-at .ensures .0) ls in
-    tangled-rest _ _ r _ (section-says _ _ _ _ _ _ _ _ _ (c .before .before .before .before .before .before .spec-outside .ensures) refl (c .before .before .before .before .before .before .before .before .before .before .start .ensures) (r .spec)) _ _ _ _
-    (order-out _ _ r _ _ _ _ (c .before .before .before .before .orders-outside .ensures) (c .before .before .before .before .before .before .before .before .before .start2 .ensures) (c .before .before .before .before .before .before .before .before .start3 .ensures) z) (c .before .before .before .before .before .if1 .left) (c .before .before .before .if2 .left)
-    (c .either .ensures) (section-says _ _ _ _ _ _ _ _ _ (c .before .before .spec-tangled .ensures) refl (c .before .before .before .before .before .before .before .before .before .before .start .ensures) (r .spec))
-    (order-says _ _ _ _ _ _ _ _ (c .before .misorders .ensures _ ls) (c .before .before .before .before .before .before .before .before .before .start2 .ensures) (c .before .before .before .before .before .before .before .before .start3 .ensures) (r .layout))
+    let r = read-job _ (c .before .before .before .before .before .before .before .before .before .before .before .before .before .before .before .before .before .pre .0) (c .before .before .before .before .before .before .before .before .before .before .before .before .before .before .before .before .before .pre .1) in
+    let ls = spec-loops _ _ _ _ (c .before .before .before .before .before .before .before .before .before .before .before .before .before .before .before .start .ensures) (r .spec) in
+    let z = count-length _ _ _ _ _ _ (c .before .before .before .before .before .before .before .before .before .before .before .before .count-at .ensures .0) ls in
+    tangled-rest _ _ r _ (section-says _ _ _ _ _ _ _ _ _ (c .before .before .before .before .before .before .before .before .before .before .before .spec-outside .ensures) refl (c .before .before .before .before .before .before .before .before .before .before .before .before .before .before .before .start .ensures) (r .spec)) _ _ _ _
+    (order-out _ _ r _ _ _ _ (c .before .before .before .before .before .before .before .before .before .orders-outside .ensures) (c .before .before .before .before .before .before .before .before .before .before .before .before .before .before .start2 .ensures) (c .before .before .before .before .before .before .before .before .before .before .before .before .before .start3 .ensures) z) (c .before .before .before .before .before .before .before .before .before .before .if1 .left) (c .before .before .before .before .before .before .before .before .if2 .left)
+    (c .either .ensures) (section-says _ _ _ _ _ _ _ _ _ (c .before .before .before .spec-tangled .ensures) refl (c .before .before .before .before .before .before .before .before .before .before .before .before .before .before .before .start .ensures) (r .spec))
+    (order-says _ _ _ _ _ _ _ _ (c .before .misorders .ensures _ ls) (c .before .before .before .before .before .before .before .before .before .before .before .before .before .before .start2 .ensures) (c .before .before .before .before .before .before .before .before .before .before .before .before .before .start3 .ensures) (r .layout))
 
 pub tangled-at-spec : {M : Type 1} → statement M
-tangled-at-spec = tie.close (tie.spec (λ c κs. search needs) (λ c κs. search needs) (λ c κs. search needs) (λ c κs. search needs) (λ c κs. search needs) returns (λ c. search needs) (λ c κs. search needs) returns-2 (λ c κs. search needs) (λ c. search needs) (λ c κs. search needs) (λ c κs. search needs) returns-3)
+tangled-at-spec = tie.close (tie.spec (λ c κs. search needs) (λ c κs. search needs) (λ c κs. search needs) (λ c κs. search needs) (λ c κs. search needs) returns (λ c. search needs) (λ c κs. search needs) returns-2 (λ c. search needs) (λ c κs. search needs) (λ c. search needs) (λ c κs. search needs) (λ c. search needs) (λ c. search needs) (λ c κs. search needs) (λ c κs. search needs) returns-3)

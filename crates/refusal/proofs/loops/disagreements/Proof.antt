@@ -12,10 +12,10 @@ use Rattle.refusal.proofs.loops.disagreements.Statement.{statement}
 use Rattle.refusal.proofs.loops.disagreements.Tie as tie
 
 abbrev Inv-loop : tie.InvT-loop
-Inv-loop b at end loops left₀ p₀ k₀ left p k = (k + left < 4294967296) × ((ls : List Loop) → Is (listC loopC) b end loops ls → NoneUpTo loopC b end at (disagrees ls) k left p)
+Inv-loop b at end loops places left₀ p₀ k₀ left p k = (k + left < 4294967296) × ((ls : List Loop) → Is (listC loopC) b end loops ls → NoneUpTo loopC b end at (disagrees ls) k left p)
 
 abbrev μ-loop : tie.MeasureT-loop
-μ-loop b at end loops left₀ p₀ k₀ left p k = left
+μ-loop b at end loops places left₀ p₀ k₀ left p k = left
 
 loop-holds : tie.Need-loop-holds Inv-loop μ-loop
 loop-holds c = (omega (arith, c .before .count-at .ensures .1), λ ls q. from-start _ _ _ _ _ _ _ (c .before .count-at .ensures .0) (c .le-at .ensures))

@@ -13,7 +13,7 @@ unfolding present
 returns c = past-says _ _ _ _ _ (λ (v : Loop). present (v .parent)) _ (c .before .count-at .ensures .0) (c .if1 .taken) refl
 
 returns-2 : tie.Need-returns-2
-returns-2 c = loop-says _ _ _ _ _ (λ (v : Loop). present (v .parent)) _ (c .before .before .before .count-at .ensures .0) _ (c .before .before .if1 .left) (c .before .loop-place .ensures) (λ v i. present-says _ _ _ _ _ (c .tag-at .ensures) _ (is-loop _ _ _ v i .parent))
+returns-2 c = loop-says _ _ _ _ _ (λ (v : Loop). present (v .parent)) _ (c .before .before .before .count-at .ensures .0) _ (c .before .before .if1 .left) (c .before .place-of .ensures) (λ v i. present-says _ _ _ _ _ (c .tag-at .ensures) _ (is-loop _ _ _ v i .parent))
 
 pub has-parent-spec : {M : Type 1} → statement M
 has-parent-spec = tie.close (tie.spec (λ c κs. search needs) returns (λ c κs. search needs) (λ c κs. search needs) returns-2)

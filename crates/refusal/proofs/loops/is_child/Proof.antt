@@ -11,10 +11,10 @@ use Rattle.refusal.proofs.loops.is_child.Tie as tie
 
 returns : tie.Need-returns
 unfolding memberOf
-returns c = past-says _ _ _ _ _ (λ (v : Loop). memberOf (c .before .before .before .args .i) (v .children)) _ (c .before .count-at .ensures .0) (c .if1 .taken) refl
+returns c = past-says _ _ _ _ _ (λ (v : Loop). memberOf (c .before .before .before .before .args .i) (v .children)) _ (c .before .count-at .ensures .0) (c .if1 .taken) refl
 
 returns-2 : tie.Need-returns-2
-returns-2 c = loop-says _ _ _ _ _ (λ (v : Loop). memberOf (c .before .before .before .before .before .before .args .i) (v .children)) _ (c .before .before .before .before .count-at .ensures .0) _ (c .before .before .before .if1 .left) (c .before .before .loop-place .ensures) (λ v i. says-at _ _ _ _ _ _ _ _ (c .member-at .ensures) (is-loop _ _ _ v i .children) (c .before .children-at .ensures))
+returns-2 c = loop-says _ _ _ _ _ (λ (v : Loop). memberOf (c .before .before .before .before .before .before .before .args .i) (v .children)) _ (c .before .before .before .before .count-at .ensures .0) _ (c .before .before .before .if1 .left) (c .before .before .place-of .ensures) (λ v i. says-at _ _ _ _ _ _ _ _ (c .member-at .ensures) (is-loop _ _ _ v i .children) (c .before .children-at .ensures))
 
 pub is-child-spec : {M : Type 1} → statement M
 is-child-spec = tie.close (tie.spec (λ c κs. search needs) returns (λ c κs. search needs) (λ c κs. search needs) (λ c κs. search needs) returns-2)

@@ -13,10 +13,10 @@ use Rattle.refusal.proofs.loops.items_misplaced.Statement.{statement}
 use Rattle.refusal.proofs.loops.items_misplaced.Tie as tie
 
 abbrev Inv-loop : tie.InvT-loop
-Inv-loop b at end loops bound k left₀ p₀ left p = (ls : List Loop) → Is (listC loopC) b bound loops ls → NoneYet itemC b end at (onLoop (λ l. notChild ls l k)) left p
+Inv-loop b at end loops bound places k left₀ p₀ left p = (ls : List Loop) → Is (listC loopC) b bound loops ls → NoneYet itemC b end at (onLoop (λ l. notChild ls l k)) left p
 
 abbrev μ-loop : tie.MeasureT-loop
-μ-loop b at end loops bound k left₀ p₀ left p = left
+μ-loop b at end loops bound places k left₀ p₀ left p = left
 
 loop-holds : tie.Need-loop-holds Inv-loop μ-loop
 loop-holds c = λ ls q. some-start _ _ _ _ _ _ _ (c .before .count-at .ensures .0) (c .le-at .ensures)

@@ -1,28 +1,15 @@
 -- `refusal::loops::order_repeats` meets its contract. Assumes nothing.
-use Rattle.format.specs.Layout.{itemC}
-use Rattle.refusal.specs.Says.{repeatsIn}
-use Rattle.refusal.proofs.Tree.{NoneBehind, behind-start, behind-again, behind-found, behind-none, repeat-in-step, repeat-in-nil}
+use native.Mathlib.Omega.{arith}
+use Rattle.refusal.proofs.Names.{order-twice, order-once}
 use borrow.Author.Needs.{needs}
 use Rattle.refusal.proofs.loops.order_repeats.Statement.{statement}
 use Rattle.refusal.proofs.loops.order_repeats.Tie as tie
 
-abbrev Inv-loop : tie.InvT-loop
-Inv-loop b at end left₀ p₀ left p = NoneBehind itemC b end at repeatsIn left p
+returns : tie.Need-returns
+returns c = order-twice _ _ _ _ _ (c .before .before .before .before .note-names .ensures .1 .1) _ (c .before .names-repeat .ensures) (c .if1 .taken)
 
-abbrev μ-loop : tie.MeasureT-loop
-μ-loop b at end left₀ p₀ left p = left
-
-loop-holds : tie.Need-loop-holds Inv-loop μ-loop
-loop-holds c = behind-start _ _ _ _ _ _ _ (c .before .count-at .ensures .0) (c .le-at .ensures)
-
-returns : tie.Need-returns Inv-loop μ-loop
-returns c = behind-found _ _ _ _ _ _ repeat-in-step _ _ _ _ (c .before .before .before .before .loop .inv) (c .before .before .before .loop-test .taken) (c .before .before .item-at .ensures) (c .before .item-again .ensures) (c .if1 .taken)
-
-loop-again : tie.Need-loop-again Inv-loop μ-loop
-loop-again c = behind-again _ _ _ _ _ _ repeat-in-step _ _ _ _ (c .before .before .before .before .loop .inv) (c .before .before .before .loop-test .taken) (c .before .before .item-at .ensures) (c .before .item-again .ensures) (c .if1 .left)
-
-returns-2 : tie.Need-returns-2 Inv-loop μ-loop
-returns-2 c = behind-none _ _ _ _ _ repeat-in-nil _ _ (c .before .loop .inv) (c .loop-test .left)
+returns-2 : tie.Need-returns-2
+returns-2 c = order-once _ _ _ _ _ (c .before .before .before .before .before .note-names .ensures .1 .1) _ (c .before .before .names-repeat .ensures) (c .before .if1 .left) (omega (arith, c .if2 .taken, c .before .before .before .before .before .note-names .ensures .0))
 
 pub order-repeats-spec : {M : Type 1} → statement M
-order-repeats-spec = tie.close (tie.spec Inv-loop μ-loop (λ c κs. search needs) (λ c κs. search needs) loop-holds (λ c κs. search needs) (λ c. search needs) (λ c κs. search needs) returns (λ c. search needs) (λ c. search needs) loop-again returns-2)
+order-repeats-spec = tie.close (tie.spec (λ c. search needs) (λ c κs. search needs) (λ c. search needs) (λ c κs. search needs) returns returns-2 (λ c κs. search needs) (λ c. search needs))

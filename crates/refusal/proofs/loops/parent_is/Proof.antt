@@ -11,10 +11,10 @@ use Rattle.refusal.proofs.loops.parent_is.Tie as tie
 
 returns : tie.Need-returns
 unfolding ifSome
-returns c = past-says _ _ _ _ _ (λ (v : Loop). ifSome (eqb (c .before .before .before .args .i)) (v .parent)) _ (c .before .count-at .ensures .0) (c .if1 .taken) refl
+returns c = past-says _ _ _ _ _ (λ (v : Loop). ifSome (eqb (c .before .before .before .before .args .i)) (v .parent)) _ (c .before .count-at .ensures .0) (c .if1 .taken) refl
 
 returns-2 : tie.Need-returns-2
-returns-2 c = loop-says _ _ _ _ _ (λ (v : Loop). ifSome (eqb (c .before .before .before .before .before .args .i)) (v .parent)) _ (c .before .before .before .count-at .ensures .0) _ (c .before .before .if1 .left) (c .before .loop-place .ensures) (λ v i. c .opt-same-at .ensures _ (is-loop _ _ _ v i .parent))
+returns-2 c = loop-says _ _ _ _ _ (λ (v : Loop). ifSome (eqb (c .before .before .before .before .before .before .args .i)) (v .parent)) _ (c .before .before .before .count-at .ensures .0) _ (c .before .before .if1 .left) (c .before .place-of .ensures) (λ v i. c .opt-same-at .ensures _ (is-loop _ _ _ v i .parent))
 
 pub parent-is-spec : {M : Type 1} → statement M
 parent-is-spec = tie.close (tie.spec (λ c κs. search needs) returns (λ c κs. search needs) (λ c κs. search needs) returns-2)

@@ -5,7 +5,7 @@ use Rattle.refusal.proofs.loops.parent_number.Statement.{statement}
 use Rattle.refusal.proofs.loops.parent_number.Tie as tie
 
 returns : tie.Need-returns
-returns c = parent-held _ _ _ _ _ _ _ (c .before .before .loop-place .ensures) (c .before .le-at .ensures) (c .count-at .ensures .0)
+returns c = parent-held _ _ _ _ _ _ _ (c .before .before .place-of .ensures) (c .before .le-at .ensures) (c .count-at .ensures .0)
 
 pub parent-number-spec : {M : Type 1} → statement M
 parent-number-spec = tie.close (tie.spec (λ c κs. search needs) (λ c κs. search needs) (λ c κs. search needs) returns)

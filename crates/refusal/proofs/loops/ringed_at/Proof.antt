@@ -5,10 +5,10 @@ use Rattle.refusal.proofs.loops.ringed_at.Statement.{statement}
 use Rattle.refusal.proofs.loops.ringed_at.Tie as tie
 
 abbrev Inv-loop : tie.InvT-loop
-Inv-loop b at end i left₀ l₀ left l = Climbs b end at i left l
+Inv-loop b at end places i left₀ l₀ left l = Climbs b end at i left l
 
 abbrev μ-loop : tie.MeasureT-loop
-μ-loop b at end i left₀ l₀ left l = left
+μ-loop b at end places i left₀ l₀ left l = left
 
 loop-holds : tie.Need-loop-holds Inv-loop μ-loop
 loop-holds c = ring-start _ _ _ _ _ (c .count-at .ensures .0)

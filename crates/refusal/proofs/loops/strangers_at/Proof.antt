@@ -11,10 +11,10 @@ use Rattle.refusal.proofs.loops.strangers_at.Statement.{statement}
 use Rattle.refusal.proofs.loops.strangers_at.Tie as tie
 
 abbrev Inv-loop : tie.InvT-loop
-Inv-loop b at end loops i left₀ p₀ left p = (ls : List Loop) → Is (listC loopC) b end loops ls → NoneYet numC b end at (notParent ls i) left p
+Inv-loop b at end loops places i left₀ p₀ left p = (ls : List Loop) → Is (listC loopC) b end loops ls → NoneYet numC b end at (notParent ls i) left p
 
 abbrev μ-loop : tie.MeasureT-loop
-μ-loop b at end loops i left₀ p₀ left p = left
+μ-loop b at end loops places i left₀ p₀ left p = left
 
 loop-holds : tie.Need-loop-holds Inv-loop μ-loop
 loop-holds c = λ ls q. some-start _ _ _ _ _ _ _ (c .before .count-at .ensures .0) (c .le-at .ensures)

@@ -1,0 +1,5 @@
+pub mod Tests
+pub mod Bridge
+pub mod Answers
+pub mod Whole
+pub mod Walks
