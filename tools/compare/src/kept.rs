@@ -2,7 +2,7 @@
 //! row above it lacks its parent, and without a delimiter finding the document is read as its segments.
 
 use crate::subject::{Agreed, Subject};
-use job::Job;
+use job::{Column, Job, SegmentPlan, Source, Value, Values};
 use native::Lists;
 use std::collections::HashMap;
 
@@ -91,11 +91,12 @@ fn adrift(job: &Job, records: &[u32], first: &[usize], table: usize, row: usize)
     true
 }
 
-/// The document as segments: as many as were traced, each with a name that the spec has and no trailing empty element.
+/// The document as segments: as many as were traced, each with a name that the spec has and no trailing empty element,
+/// and a row segment with the texts that are planned for it.
 fn reads(job: &Job, document: &[u8], segments: &[u64]) -> Result<(), String> {
     let envelope = &job.envelope;
     let mut rest = document;
-    for _ in segments.chunks(3) {
+    for traced in segments.chunks(3) {
         let end =
             rest.iter().position(|byte| *byte == envelope.segment).ok_or("a segment without terminator")?;
         let (body, behind) = (&rest[..end], &rest[end + 1..]);
@@ -104,13 +105,16 @@ fn reads(job: &Job, document: &[u8], segments: &[u64]) -> Result<(), String> {
             (true, Some((10, behind))) => behind,
             (true, _) => return Err("a segment without line feed".to_string()),
         };
-        let mut elements = body.split(|byte| *byte == envelope.element);
-        let name = elements.next().unwrap_or_default().to_vec();
-        if !known(job, &name) {
-            return Err(format!("a segment {:?}, which the spec lacks", String::from_utf8_lossy(&name)));
+        let read: Vec<&[u8]> = body.split(|byte| *byte == envelope.element).collect();
+        let (name, elements) = (read[0], &read[1..]);
+        if !known(job, name) {
+            return Err(format!("a segment {:?}, which the spec lacks", String::from_utf8_lossy(name)));
         }
-        if elements.next_back().is_some_and(|last| last.is_empty()) {
+        if elements.last().is_some_and(|last| last.is_empty()) {
             return Err("a trailing empty element".to_string());
+        }
+        if traced[1] > 0 {
+            texts(job, name, traced[1] as u32 - 1, traced[2] as usize, elements)?;
         }
     }
     if rest.is_empty() { Ok(()) } else { Err(format!("{} bytes behind the last segment", rest.len())) }
@@ -123,4 +127,66 @@ fn known(job: &Job, name: &[u8]) -> bool {
             || def.occurrences.iter().any(|occurrence| occurrence == name)
             || def.end.as_deref() == Some(name)
     })
+}
+
+/// A row segment whose name one planned segment of the table has alone: each planned place has its text, as far as it
+/// is a code, bytes or null, and every element that isn't planned is empty.
+fn texts(job: &Job, name: &[u8], table: u32, row: usize, elements: &[&[u8]]) -> Result<(), String> {
+    let named = |number: usize, segment: &&SegmentPlan| {
+        job.spec.loops[number].occurrences.get(segment.occurrence as usize).is_some_and(|id| id == name)
+            && matches!(segment.source, Source::Row(of) | Source::Repeat(of) if of == table)
+    };
+    let of_loop = |(number, plan): (usize, &'_ job::LoopPlan)| {
+        let segments: Vec<SegmentPlan> =
+            plan.segments.iter().filter(|segment| named(number, segment)).cloned().collect();
+        segments
+    };
+    let planned: Vec<SegmentPlan> = job.plan.iter().enumerate().flat_map(of_loop).collect();
+    let [SegmentPlan { source: Source::Row(_), elements: places, .. }] = planned.as_slice() else {
+        return Ok(());
+    };
+    for (at, element) in elements.iter().enumerate() {
+        if !element.is_empty() && places.iter().all(|place| place.element as usize != at + 1) {
+            return Err(format!("a text at element {}, where none is planned", at + 1));
+        }
+    }
+    for place in places {
+        let wanted = match &place.value {
+            Value::Code(code) => Some(code.clone()),
+            Value::Column(column) => text(job, table, *column, row),
+            Value::Group(_) => None,
+        };
+        let element = elements.get(place.element as usize - 1).copied().unwrap_or_default();
+        let got = match place.component {
+            None => element,
+            Some(at) => {
+                let mut components = element.split(|byte| *byte == job.envelope.component);
+                components.nth(at as usize - 1).unwrap_or_default()
+            }
+        };
+        if wanted.is_some_and(|wanted| wanted != got) {
+            return Err(format!("element {} has another text than planned", place.element));
+        }
+    }
+    Ok(())
+}
+
+/// The text of a cell of bytes, empty for null; none where it is a number, a date or a time.
+fn text(job: &Job, table: u32, column: u32, row: usize) -> Option<Vec<u8>> {
+    let column = job.data.get(table as usize).and_then(|table| table.columns.get(column as usize));
+    let Some(Some(Column { values, validity })) = column else {
+        return Some(Vec::new());
+    };
+    if validity.bit(row) != Some(true) {
+        return Some(Vec::new());
+    }
+    let Values::Binary(offsets, data) = values else {
+        return None;
+    };
+    let (start, end) = (*offsets.get(row)?, *offsets.get(row + 1)?);
+    Some(
+        data.get(usize::try_from(start).ok()?..usize::try_from(end).ok()?)
+            .map(<[u8]>::to_vec)
+            .unwrap_or_default(),
+    )
 }
