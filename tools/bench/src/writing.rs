@@ -2,7 +2,7 @@
 
 use crate::nanoseconds;
 use job::{Column, Job, encode};
-use native::Lists;
+use native::Room;
 use std::hint::black_box;
 use std::time::Duration;
 
@@ -124,18 +124,8 @@ pub fn table(length: Duration, rounds: usize) {
     for (name, job) in jobs() {
         let bytes = encode(&job);
         let rows: u32 = job.data.iter().map(|table| table.rows).sum();
-        let (mut document, mut segments) = (vec![0; 1 << 20], vec![0; 1 << 15]);
-        let (mut findings, mut stops, mut counts) = (vec![0; 1 << 16], vec![0; 1 << 15], [0; 4]);
-        let mut proved = || {
-            let lists = Lists {
-                document: &mut document,
-                segments: &mut segments,
-                findings: &mut findings,
-                stops: &mut stops,
-                counts: &mut counts,
-            };
-            native::write(black_box(&bytes), lists)
-        };
+        let mut room = Room::new(1 << 20, 1 << 14);
+        let mut proved = || native::write(black_box(&bytes), room.lists());
         assert_eq!(proved(), 0, "{name}");
         let (mut fast, mut slow) = (f64::MAX, f64::MAX);
         for _ in 0..rounds {
@@ -145,7 +135,7 @@ pub fn table(length: Duration, rounds: usize) {
         println!(
             "{name:34} {:>7} {rows:>6} {:>8} {fast:>10.0} {slow:>10.0} {:>7.2}",
             bytes.len(),
-            counts[1],
+            room.counts[1],
             slow / fast
         );
     }

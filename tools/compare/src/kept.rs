@@ -3,7 +3,7 @@
 
 use crate::subject::{Agreed, Subject};
 use job::{Column, Job, SegmentPlan, Source, Value, Values};
-use native::Lists;
+use native::Room;
 use std::collections::HashMap;
 
 /// `write` and `nest` against the demand's words.
@@ -22,20 +22,12 @@ impl Subject for Kept {
         if job::complete::gap(&job).is_some() {
             return seen(0, "plan not complete");
         }
-        let mut document = vec![0; DOCUMENT];
-        let (mut segments, mut findings) = (vec![0; ITEMS * 3], vec![0; ITEMS * 10]);
-        let (mut stops, mut counts) = (vec![0; ITEMS * 3], [0; 4]);
-        let lists = Lists {
-            document: &mut document,
-            segments: &mut segments,
-            findings: &mut findings,
-            stops: &mut stops,
-            counts: &mut counts,
-        };
-        match native::write(bytes, lists) {
+        let mut room = Room::new(DOCUMENT, ITEMS);
+        match native::write(bytes, room.lists()) {
             0 => {}
             number => return seen(number as u8, "not finished"),
         }
+        let Room { document, segments, findings, stops, counts } = room;
         let [length, written, found, stopped] = counts.map(|count| count as usize);
         stops_once(&job, bytes, &stops[..stopped * 3])?;
         if findings[..found * 10].chunks(10).any(|finding| finding[0] == 4) {

@@ -78,6 +78,37 @@ pub struct Lists<'a> {
     pub counts: &'a mut [u64],
 }
 
+/// Lists of its own to lend, for so many bytes and so many items of each other kind.
+pub struct Room {
+    pub document: Vec<u8>,
+    pub segments: Vec<u64>,
+    pub findings: Vec<u64>,
+    pub stops: Vec<u64>,
+    pub counts: [u64; 4],
+}
+
+impl Room {
+    pub fn new(bytes: usize, items: usize) -> Room {
+        Room {
+            document: vec![0; bytes],
+            segments: vec![0; items * 3],
+            findings: vec![0; items * 10],
+            stops: vec![0; items * 3],
+            counts: [0; 4],
+        }
+    }
+
+    pub fn lists(&mut self) -> Lists<'_> {
+        Lists {
+            document: &mut self.document,
+            segments: &mut self.segments,
+            findings: &mut self.findings,
+            stops: &mut self.stops,
+            counts: &mut self.counts,
+        }
+    }
+}
+
 /// Writes a job. Document 01's number, 0 to 7.
 #[cfg(linked)]
 pub fn write(job: &[u8], lists: Lists) -> u32 {

@@ -17,10 +17,12 @@
 //! and a line for each answer that isn't the wanted one; at the end of the input it prints `end`.
 
 mod content;
+mod files;
 mod pieces;
 mod replay;
 
 pub use content::{Group, groups};
+pub use files::program;
 pub use replay::replay;
 
 /// The refusal of a byte string by the independent reading of document 01, 0 for none.
