@@ -38,6 +38,8 @@ pub fn jobs() -> Vec<(&'static str, Vec<u8>)> {
         ("full: codes", filled(codes)),
         ("full: a planned segment", filled(elements)),
         ("full: one child again and again", filled(|job, size| below(job).children = vec![31; size])),
+        ("full: children, the last again", filled(|job, size| below(job).children = rising(1, size))),
+        ("full: roots, the last again", filled(|job, size| forest(job).roots = rising(0, size))),
         ("full: one root again and again", filled(|job, size| forest(job).roots = vec![0; size])),
         ("full: a table's loops", filled(|job, size| forest(job).tables[0].loops = vec![31; size])),
         ("full: an order of one loop", filled(|job, size| ordered(job, vec![Item::Loop(31); size]))),
@@ -46,6 +48,11 @@ pub fn jobs() -> Vec<(&'static str, Vec<u8>)> {
         ("full: deep loops, occurrences", filled(deep)),
         ("full: empty orders", filled(|job, size| job.layout.order = vec![Vec::new(); size])),
     ]
+}
+
+/// Loop numbers that rise to 31, which then stands again and again.
+fn rising(first: u32, size: usize) -> Vec<u32> {
+    (first..).map(|at| at.min(31)).take(size).collect()
 }
 
 /// The longest job of a make that has 65,536 bytes at most.
