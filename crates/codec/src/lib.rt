@@ -1,7 +1,7 @@
 // Reading by place: each function answers the place behind what it reads, or one past the end where it is bad.
 ghost use mathlib.Core.Path.{_≡_};
-ghost use Prim.Native.Nat.{ℕ, _+_, _<_};
-ghost use lib.ListN.{getD, set};
+ghost use Prim.Native.Nat.{ℕ, _+_, _≤_, _<_};
+ghost use lib.ListN.{getD, length, set};
 ghost use mathlib.Core.List.{[], _∷_};
 ghost use mathlib.Core.Bool.{true};
 ghost use mathlib.Core.Option.{Option};
@@ -23,6 +23,14 @@ pub fn byte_at(b: &[u8], at: usize) -> usize
     0
 }
 
+// A byte that is there.
+fn byte_in(b: &[u8], at: usize) -> usize
+    requires { ⌜ at < length (now b) ⌝ }
+    ensures { λ r. ⌜ (r ≡ getD (now (b .entry)) at 0) × (r < 256) ⌝ }
+{
+    b[at] as usize
+}
+
 // A number of w bytes.
 pub fn le_at(b: &[u8], w: u8, at: usize, end: u32) -> usize
     ensures { λ r. ⌜ r ≡ skip (leC w) (now (b .entry)) at end ⌝ }
@@ -37,8 +45,20 @@ pub fn le_at(b: &[u8], w: u8, at: usize, end: u32) -> usize
     at + w as usize
 }
 
-// The number in the four bytes at a place.
-pub fn num(b: &[u8], at: usize) -> usize
+// The number in four bytes that are all there: the compiler makes one load of it.
+fn num_in(b: &[u8], at: usize) -> usize
+    requires { ⌜ at + 4 ≤ length (now b) ⌝ }
+    ensures { λ r. ⌜ (r ≡ le 4 (now (b .entry)) at) × (r < 4294967296) ⌝ }
+{
+    let b0 = byte_in(b, at);
+    let b1 = byte_in(b, at + 1);
+    let b2 = byte_in(b, at + 2);
+    let b3 = byte_in(b, at + 3);
+    b0 + 256 * (b1 + 256 * (b2 + 256 * b3))
+}
+
+// The number in four bytes, those past the last being 0.
+fn num_past(b: &[u8], at: usize) -> usize
     requires { ⌜ at < 1152921504606846976 ⌝ }
     ensures { λ r. ⌜ (r ≡ le 4 (now (b .entry)) at) × (r < 4294967296) ⌝ }
 {
@@ -49,13 +69,29 @@ pub fn num(b: &[u8], at: usize) -> usize
     b0 + 256 * (b1 + 256 * (b2 + 256 * b3))
 }
 
+// The number in the four bytes at a place.
+pub fn num(b: &[u8], at: usize) -> usize
+    requires { ⌜ at < 1152921504606846976 ⌝ }
+    ensures { λ r. ⌜ (r ≡ le 4 (now (b .entry)) at) × (r < 4294967296) ⌝ }
+{
+    if at + 4 <= b.len() {
+        return num_in(b, at);
+    }
+    num_past(b, at)
+}
+
 // The number in the eight bytes at a place.
 pub fn long(b: &[u8], at: usize) -> u64
     requires { ⌜ at < 1152921504606846960 ⌝ }
     ensures { λ r. ⌜ r ≡ le 8 (now (b .entry)) at ⌝ }
 {
-    let low = num(b, at) as u64;
-    let high = num(b, at + 4) as u64;
+    if at + 8 <= b.len() {
+        let low = num_in(b, at) as u64;
+        let high = num_in(b, at + 4) as u64;
+        return low + 4294967296 * high;
+    }
+    let low = num_past(b, at) as u64;
+    let high = num_past(b, at + 4) as u64;
     low + 4294967296 * high
 }
 

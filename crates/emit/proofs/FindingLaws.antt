@@ -16,8 +16,8 @@ use Rattle.emit.specs.declared.findings.Repetition.the-variants.{Absent,
 use Rattle.emit.specs.declared.findings.Delimiters.{Delimiters}
 use native.Mathlib.Nat.{not-suc-le-zero}
 use Rattle.codec.specs.Codec.{pick as codec-pick}
-use Rattle.lent.specs.Fit.{cap, more, Stored}
-use Rattle.lent.proofs.Laws.{stored-append, stored-length}
+use Rattle.lent.specs.Fit.{wide, more, Noted}
+use Rattle.lent.proofs.Laws.{stored-none, stored-append, stored-length}
 use Rattle.segment.specs.Parts.{pick}
 use Rattle.segment.specs.Pen.{holds}
 use Rattle.nest.specs.Lists.{each}
@@ -42,12 +42,12 @@ unfolding wordsOf
 words-one x = append-nil (recordOf x)
 
 -- findings, and then others
-pub stored-findings : {d d₁ d₂ : List ℕ} {at p q : ℕ} (a b : List Finding) → length d ≤ cap → Stored d at (wordsOf a) p d₁ → Stored d₁ p (wordsOf b) q d₂ → Stored d at (wordsOf (a ++ b)) q d₂
+pub stored-findings : {d d₁ d₂ : List ℕ} {at p q : ℕ} (a b : List Finding) → length d ≤ wide → Noted d at (wordsOf a) p d₁ → Noted d₁ p (wordsOf b) q d₂ → Noted d at (wordsOf (a ++ b)) q d₂
 stored-findings a b h s t = rw (words-append a b) (stored-append (wordsOf a) (wordsOf b) h s t)
 
-pub none-stored : {d : List ℕ} {at n : ℕ} → n ≡ more at 0 → Stored d at (wordsOf []) n d
+pub none-stored : {d : List ℕ} {at n : ℕ} → n ≡ more at 0 → Noted d at (wordsOf []) n d
 unfolding wordsOf
-none-stored e = record { counted = e; stored = refl }
+none-stored {d} {at} e = rw e (stored-none d at)
 
 -- ---- one separator
 
@@ -83,37 +83,37 @@ module _ (o : Origin) (p : Place) (text : List ℕ) (role b : ℕ) where
 -- ---- as code goes
 
 pub stored-held : {d d₁ : List ℕ} {at n : ℕ} {w : Spot} (o : Origin) (p : Place) (text : List ℕ) (role b : ℕ) → w ≡ spotOf o p → holds b text ≡ true
-    → Stored d at (spotted 4 w b role) n d₁ → Stored d at (wordsOf (heldIn o p text role (b ∷ []))) n d₁
+    → Noted d at (spotted 4 w b role) n d₁ → Noted d at (wordsOf (heldIn o p text role (b ∷ []))) n d₁
 unfolding recordOf
 stored-held {w = w} o p text role b e h s = rw (is-held o p text role b h, words-one (delimiter o p b role)) (rw (spot-words w o p 4 b role e) at s)
 
 pub stored-not-held : {d : List ℕ} {at n : ℕ} (o : Origin) (p : Place) (text : List ℕ) (role b : ℕ) → holds b text ≡ false → n ≡ more at 0
-    → Stored d at (wordsOf (heldIn o p text role (b ∷ []))) n d
+    → Noted d at (wordsOf (heldIn o p text role (b ∷ []))) n d
 stored-not-held o p text role b h e = rw (not-held o p text role b h) (none-stored e)
 
-pub stored-next : {d d₁ d₂ : List ℕ} {at n m : ℕ} (o : Origin) (p : Place) (text : List ℕ) (role b : ℕ) (bs : List ℕ) → length d ≤ cap
-    → Stored d at (wordsOf (heldIn o p text role (b ∷ []))) n d₁ → Stored d₁ n (wordsOf (heldIn o p text (role + 1) bs)) m d₂ → Stored d at (wordsOf (heldIn o p text role (b ∷ bs))) m d₂
+pub stored-next : {d d₁ d₂ : List ℕ} {at n m : ℕ} (o : Origin) (p : Place) (text : List ℕ) (role b : ℕ) (bs : List ℕ) → length d ≤ wide
+    → Noted d at (wordsOf (heldIn o p text role (b ∷ []))) n d₁ → Noted d₁ n (wordsOf (heldIn o p text (role + 1) bs)) m d₂ → Noted d at (wordsOf (heldIn o p text role (b ∷ bs))) m d₂
 stored-next o p text role b bs h s t = rw (held-rest o p text role b bs) (stored-findings (heldIn o p text role (b ∷ [])) (heldIn o p text (role + 1) bs) h s t)
 
 -- none is left to try
-pub none-tried : {d : List ℕ} {at n : ℕ} (o : Origin) (p : Place) (text : List ℕ) (role : ℕ) → n ≡ more at 0 → Stored d at (wordsOf (heldIn o p text role [])) n d
+pub none-tried : {d : List ℕ} {at n : ℕ} (o : Origin) (p : Place) (text : List ℕ) (role : ℕ) → n ≡ more at 0 → Noted d at (wordsOf (heldIn o p text role [])) n d
 unfolding heldIn
 none-tried o p text role e = none-stored e
 
 -- ---- a reason
 
-pub stored-reason : {d d₁ : List ℕ} {at n : ℕ} {w : Spot} (o : Origin) (p : Place) (reason : ℕ) → w ≡ spotOf o p → 0 < reason → Stored d at (spotted 5 w reason 0) n d₁
-    → Stored d at (wordsOf (unwritten o p reason)) n d₁
+pub stored-reason : {d d₁ : List ℕ} {at n : ℕ} {w : Spot} (o : Origin) (p : Place) (reason : ℕ) → w ≡ spotOf o p → 0 < reason → Noted d at (spotted 5 w reason 0) n d₁
+    → Noted d at (wordsOf (unwritten o p reason)) n d₁
 unfolding unwritten recordOf
 stored-reason o p zero e h s = absurd (not-suc-le-zero h)
 stored-reason {w = w} o p (suc k) e h s = rw (words-one (notWritable o p (suc k))) (rw (spot-words w o p 5 (suc k) 0 e) at s)
 
-pub stored-no-reason : {d : List ℕ} {at n : ℕ} (o : Origin) (p : Place) (reason : ℕ) → reason ≤ 0 → n ≡ more at 0 → Stored d at (wordsOf (unwritten o p reason)) n d
+pub stored-no-reason : {d : List ℕ} {at n : ℕ} (o : Origin) (p : Place) (reason : ℕ) → reason ≤ 0 → n ≡ more at 0 → Noted d at (wordsOf (unwritten o p reason)) n d
 unfolding unwritten
 stored-no-reason o p zero h e = none-stored e
 stored-no-reason o p (suc k) h e = absurd (not-suc-le-zero h)
 
-pub still-fits : {d d₁ items : List ℕ} {at n : ℕ} → length d ≤ cap → Stored d at items n d₁ → length d₁ ≤ cap
+pub still-fits : {d d₁ items : List ℕ} {at n : ℕ} → length d ≤ wide → Noted d at items n d₁ → length d₁ ≤ wide
 still-fits {items = items} h s = rw (stored-length items s) h
 
 -- ---- the separators of a job

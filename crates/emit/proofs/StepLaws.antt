@@ -7,7 +7,7 @@ use native.Mathlib.Omega.{arith}
 use lib.ListN.{getD}
 use Rattle.format.specs.Spec.{Control}
 use Rattle.format.specs.Job.{Job}
-use Rattle.lent.specs.Fit.{cap, more, Stored}
+use Rattle.lent.specs.Fit.{cap, more, Stored, Noted}
 use Rattle.segment.specs.declared.Separators.{Separators}
 use Rattle.segment.specs.Parts.{Part, joined}
 use Rattle.nest.specs.Finding.{Finding}
@@ -27,7 +27,7 @@ unmoved h e = record { counted = omega arith; stored = refl }
 
 -- the bytes of a segment, its findings, its trace
 pub did-segment : {s n : State} {d d′ g g′ f f′ p : List ℕ} {b k : ℕ} (j : Job) (id : List ℕ) (parts : List Part) (fs : List Finding) (entries : ℕ) (from : From) → Small s
-    → Stored d (s .bytes) (joined (separatorsOf j) id parts) b d′ → Stored f (s .findings) (wordsOf fs) k f′ → Finished from entries b k s n g g′
+    → Stored d (s .bytes) (joined (separatorsOf j) id parts) b d′ → Noted f (s .findings) (wordsOf fs) k f′ → Finished from entries b k s n g g′
     → Did (segmentOut j id parts fs entries (rowIn from) (stateOf s)) s n d d′ g g′ f f′ p p
 unfolding stateOf stopWords
 did-segment j id parts fs entries from h x y z = record {
@@ -40,7 +40,7 @@ did-segment j id parts fs entries from h x y z = record {
 
 -- the findings on a row's order, and its stop; `m` is the state with those findings counted
 pub did-stop : {s n : State} {d g f f′ p p′ : List ℕ} (o : Outline) (l t r k : ℕ) → Small s
-    → Stored f (s .findings) (wordsOf (orderFindings o t r (getD ((stateOf s) .high) t none))) k f′
+    → Noted f (s .findings) (wordsOf (orderFindings o t r (getD ((stateOf s) .high) t none))) k f′
     → Stopped l t r (record { high = s .high; counter = s .counter; entries = s .entries; begun = s .begun; bytes = s .bytes; segments = s .segments; findings = k; stops = s .stops }) n p p′
     → Did (stopOut o l t r (stateOf s)) s n d d g g f f′ p p′
 unfolding stateOf stopOut tracedWords

@@ -4,7 +4,7 @@ use mathlib.Core.Path.{_≡_}
 use mathlib.Core.List.{List, [], _∷_, map}
 use mathlib.Core.Option.{Option, none, some}
 use lib.ListN.{length, getD, set}
-use Rattle.lent.specs.Fit.{cap, more, Stored}
+use Rattle.lent.specs.Fit.{cap, wide, more, Stored, Noted}
 use Rattle.segment.specs.Parts.{pick}
 use Rattle.nest.specs.Lists.{each}
 use Rattle.format.specs.Job.{Job}
@@ -52,14 +52,14 @@ pub record Did (o : F.Out) (s r : State) (d d′ g g′ f f′ p p′ : List ℕ
   pub state : stateOf r ≡ o .state
   pub document : Stored d (s .bytes) (o .bytes) (r .bytes) d′
   pub segments : Stored g (s .segments) (tracedWords (o .segments)) (r .segments) g′
-  pub findings : Stored f (s .findings) (wordsOf (o .findings)) (r .findings) f′
+  pub findings : Noted f (s .findings) (wordsOf (o .findings)) (r .findings) f′
   pub stops : Stored p (s .stops) (stopWords (o .stops)) (r .stops) p′
 
 -- the lists are no longer than the cap, as no slice is
 pub record Fit (d g f p : List ℕ) : Type 0 where
   pub document : length d ≤ cap
   pub segments : length g ≤ cap
-  pub findings : length f ≤ cap
+  pub findings : length f ≤ wide
   pub stops : length p ≤ cap
 
 -- the counts are within the cap

@@ -4,7 +4,7 @@ use segment::Value;
 ghost use mathlib.Core.Path.{_≡_};
 ghost use mathlib.Core.List.{List, [], _∷_, _++_};
 ghost use Prim.Native.Nat.{ℕ};
-ghost use Rattle.lent.specs.Fit.{Stored};
+ghost use Rattle.lent.specs.Fit.{Noted};
 ghost use Rattle.segment.specs.Pen.{valueText};
 ghost use Rattle.nest.specs.Finding.{Origin, Place};
 ghost use Rattle.emit.specs.Puts.{heldIn, unwritten};
@@ -43,7 +43,7 @@ fn widened(b: u8) -> u64
 
 // A finding of that kind on a text.
 fn note(findings: &mut [u64], at: usize, kind: u64, w: Spot, a: u64, b: u64) -> usize
-    ensures { λ r. ⌜ Stored (now (findings .entry)) at (spotted kind w a b) r (now (findings .exit)) ⌝ }
+    ensures { λ r. ⌜ Noted (now (findings .entry)) at (spotted kind w a b) r (now (findings .exit)) ⌝ }
 {
     let words = [
         kind,
@@ -57,7 +57,7 @@ fn note(findings: &mut [u64], at: usize, kind: u64, w: Spot, a: u64, b: u64) -> 
         a,
         b,
     ];
-    lent::put_words(findings, at, words, 10)
+    lent::note_words(findings, at, words, 10)
 }
 
 // Whether a text holds a separator.
@@ -71,7 +71,7 @@ fn try_one(
     role: u64,
 ) -> usize
     ensures { λ r. ⌜ ((o : Origin) (p : Place) → w ≡ spotOf o p
-        → Stored (now (findings .entry)) at (wordsOf (heldIn o p (valueText (now (job .entry)) v) role (b ∷ []))) r (now (findings .exit))) ⌝ }
+        → Noted (now (findings .entry)) at (wordsOf (heldIn o p (valueText (now (job .entry)) v) role (b ∷ []))) r (now (findings .exit))) ⌝ }
 {
     if segment::holds(job, v, b) {
         return note(findings, at, 4, w, widened(b), role);
@@ -81,7 +81,7 @@ fn try_one(
 
 fn try_last(findings: &mut [u64], at: usize, job: &[u8], v: Value, w: Spot, r: Repetition) -> usize
     ensures { λ n. ⌜ ((o : Origin) (p : Place) → w ≡ spotOf o p
-        → Stored (now (findings .entry)) at (wordsOf (heldIn o p (valueText (now (job .entry)) v) 3 (triedLast r))) n (now (findings .exit))) ⌝ }
+        → Noted (now (findings .entry)) at (wordsOf (heldIn o p (valueText (now (job .entry)) v) 3 (triedLast r))) n (now (findings .exit))) ⌝ }
 {
     match r {
         Repetition::Absent => lent::more(at, 0),
@@ -99,7 +99,7 @@ fn try_from_segment(
     r: Repetition,
 ) -> usize
     ensures { λ n. ⌜ ((o : Origin) (p : Place) → w ≡ spotOf o p
-        → Stored (now (findings .entry)) at (wordsOf (heldIn o p (valueText (now (job .entry)) v) 2 (b ∷ triedLast r))) n (now (findings .exit))) ⌝ }
+        → Noted (now (findings .entry)) at (wordsOf (heldIn o p (valueText (now (job .entry)) v) 2 (b ∷ triedLast r))) n (now (findings .exit))) ⌝ }
 {
     let a = try_one(findings, at, job, v, w, b, 2);
     try_last(findings, a, job, v, w, r)
@@ -115,7 +115,7 @@ pub fn try_delimiters(
     d: Delimiters,
 ) -> usize
     ensures { λ n. ⌜ ((o : Origin) (p : Place) → w ≡ spotOf o p
-        → Stored (now (findings .entry)) at (wordsOf (heldIn o p (valueText (now (job .entry)) v) 0 (tried d))) n (now (findings .exit))) ⌝ }
+        → Noted (now (findings .entry)) at (wordsOf (heldIn o p (valueText (now (job .entry)) v) 0 (tried d))) n (now (findings .exit))) ⌝ }
 {
     let a = try_one(findings, at, job, v, w, d.element, 0);
     let b = try_one(findings, a, job, v, w, d.component, 1);
@@ -125,7 +125,7 @@ pub fn try_delimiters(
 
 // A finding for a reason other than 0.
 pub fn note_reason(findings: &mut [u64], at: usize, w: Spot, reason: u64) -> usize
-    ensures { λ n. ⌜ ((o : Origin) (p : Place) → w ≡ spotOf o p → Stored (now (findings .entry)) at (wordsOf (unwritten o p reason)) n (now (findings .exit))) ⌝ }
+    ensures { λ n. ⌜ ((o : Origin) (p : Place) → w ≡ spotOf o p → Noted (now (findings .entry)) at (wordsOf (unwritten o p reason)) n (now (findings .exit))) ⌝ }
 {
     if 0 < reason {
         return note(findings, at, 5, w, reason, 0);
@@ -143,7 +143,7 @@ pub fn note_cell(
     d: Delimiters,
 ) -> usize
     ensures { λ n. ⌜ ((o : Origin) (p : Place) → w ≡ spotOf o p
-        → Stored (now (findings .entry)) at (wordsOf (unwritten o p (x .reason) ++ heldIn o p (valueText (now (job .entry)) (x .value)) 0 (tried d))) n (now (findings .exit))) ⌝ }
+        → Noted (now (findings .entry)) at (wordsOf (unwritten o p (x .reason) ++ heldIn o p (valueText (now (job .entry)) (x .value)) 0 (tried d))) n (now (findings .exit))) ⌝ }
 {
     let a = note_reason(findings, at, w, x.reason);
     let v = x.value;

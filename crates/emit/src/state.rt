@@ -7,7 +7,7 @@ ghost use mathlib.Core.List.{[], _∷_};
 ghost use mathlib.Core.Option.{none};
 ghost use Prim.Native.Nat.{_+_, _%_, _^_, _<_};
 ghost use lib.ListN.{getD, take};
-ghost use Rattle.lent.specs.Fit.{more, Stored};
+ghost use Rattle.lent.specs.Fit.{more, Noted};
 ghost use Rattle.nest.specs.Finding.{outOfOrder};
 ghost use Rattle.emit.specs.Fold.{higher, counterUp, taken};
 ghost use Rattle.emit.specs.Written.{wordsOf};
@@ -91,7 +91,7 @@ pub fn note_order(
     reference: u64,
     highest: u32,
 ) -> usize
-    ensures { λ n. ⌜ Stored (now (findings .entry)) at (wordsOf (outOfOrder (t .0) (r .0) above reference highest ∷ [])) n (now (findings .exit)) ⌝ }
+    ensures { λ n. ⌜ Noted (now (findings .entry)) at (wordsOf (outOfOrder (t .0) (r .0) above reference highest ∷ [])) n (now (findings .exit)) ⌝ }
 {
     let words = [
         3,
@@ -105,7 +105,7 @@ pub fn note_order(
         0,
         0,
     ];
-    lent::put_words(findings, at, words, 10)
+    lent::note_words(findings, at, words, 10)
 }
 
 // A stop: the row is entered, and listed.

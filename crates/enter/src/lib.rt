@@ -11,7 +11,7 @@ ghost use mathlib.Core.List.{List, [], _∷_};
 ghost use mathlib.Core.Option.{none};
 ghost use Prim.Native.Nat.{ℕ, _+_, _*_, _<_};
 ghost use lib.ListN.{length, getD};
-ghost use Rattle.lent.specs.Fit.{Stored};
+ghost use Rattle.lent.specs.Fit.{Noted};
 ghost use Rattle.spec.specs.Answers.{numberOf};
 ghost use Rattle.nest.specs.Lists.{on};
 ghost use Rattle.nest.specs.Outline.{rowCount};
@@ -73,7 +73,7 @@ fn note_lower(
     highest: u32,
 ) -> usize
     requires { ⌜ Ready (now job) (now index) ⌝ }
-    ensures { λ n. ⌜ Stored (now (findings .entry)) at (wordsOf (on (numberOf table) (λ u. outOfOrder (t .0) (r .0) u (on (outlineAt (now (job .entry)) .reference (t .0) u (r .0)) (λ v. v) 0) highest ∷ []) [])) n (now (findings .exit)) ⌝ }
+    ensures { λ n. ⌜ Noted (now (findings .entry)) at (wordsOf (on (numberOf table) (λ u. outOfOrder (t .0) (r .0) u (on (outlineAt (now (job .entry)) .reference (t .0) u (r .0)) (λ v. v) 0) highest ∷ []) [])) n (now (findings .exit)) ⌝ }
 {
     match table {
         Number::Is(u) => {
@@ -97,7 +97,7 @@ fn note_order(
     r: RowId,
 ) -> usize
     requires { ⌜ Nested (now job) (now index) (now nest) × (t .0 < 16) × (r .0 < rowCount (outlineAt (now job)) (t .0)) ⌝ }
-    ensures { λ n. ⌜ Stored (now (findings .entry)) (s .findings) (wordsOf (orderFindings (outlineAt (now (job .entry))) (t .0) (r .0) (getD ((stateOf s) .high) (t .0) none))) n (now (findings .exit)) ⌝ }
+    ensures { λ n. ⌜ Noted (now (findings .entry)) (s .findings) (wordsOf (orderFindings (outlineAt (now (job .entry))) (t .0) (r .0) (getD ((stateOf s) .high) (t .0) none))) n (now (findings .exit)) ⌝ }
 {
     let m = state::highest(s, t);
     if m.seen {

@@ -1,5 +1,5 @@
 -- How long nest's array is, and the two ways of `baktuven_nest`.
-use Prim.Native.Nat.{ℕ, zero, suc, _+_, _*_, _≤_, _<_}
+use Prim.Native.Nat.{ℕ, zero, suc, _+_, _*_, _-_, _≤_, _<_}
 use mathlib.Core.Path.{_≡_, refl, sym, ap, _∙_}
 use mathlib.Core.List.{List, [], _∷_}
 use mathlib.Core.Bool.{Bool, true, false}
@@ -17,7 +17,7 @@ use Rattle.format.specs.Sections.{planStart, jobOf}
 use Rattle.format.specs.Ask as A
 use Rattle.format.specs.Job.{Job}
 use Rattle.format.specs.Refusal.{refusalOf, rowsOfAll}
-use Rattle.lent.specs.Fit.{cap, Stored}
+use Rattle.lent.specs.Fit.{base, wide, Noted}
 use Rattle.lent.proofs.Laws.{sets-turn}
 use Rattle.tables.specs.Parts as T
 use Rattle.nest.specs.Nest.{nestArray}
@@ -82,7 +82,7 @@ module _ (b idx : List ℕ) (bytes : Bytes b) (r : Ready b idx) where
           let z : length ((getD (jobOf b .spec .tables) t S.noTable) .ancestors) ≡ 0 = ap (λ (s : S.Table). length (s .ancestors)) (List·getD-eq-default (jobOf b .spec .tables) S.noTable {n = t} (ltb-false _ _ q)) in
           omega (arith, z)
 
-  pub findings-few : length (words (nestFindings (outlineAt b))) < cap
+  pub findings-few : length (words (nestFindings (outlineAt b))) < wide
   findings-few =
       let n = array-long (jobOf b) _ _ (r .tables .few-rows) refl refl in
       let l = array-length (outlineAt b) in
@@ -90,10 +90,10 @@ module _ (b idx : List ℕ) (bytes : Bytes b) (r : Ready b idx) where
       omega (arith, words-long (nestFindings (outlineAt b)), f, l, n .0, n .1)
 
 -- ---- the two ways
-pub nested : (b n f n′ f′ : List ℕ) (k m : ℕ) → refusalOf b ≡ 0 → n′ ≡ sets n 0 (nestArray (outlineAt b)) → Stored f 0 (words (nestFindings (outlineAt b))) k f′ → length (words (nestFindings (outlineAt b))) < cap → m ≡ 16 + k
+pub nested : (b n f n′ f′ : List ℕ) (k m : ℕ) → refusalOf b ≡ 0 → n′ ≡ sets n 0 (nestArray (outlineAt b)) → Noted f base (words (nestFindings (outlineAt b))) k f′ → length (words (nestFindings (outlineAt b))) < wide → m ≡ 16 + (k - base)
     → (m ≡ nestAnswer b) × ((n′ ≡ nestLent b n) × (f′ ≡ findingsLent b f))
 unfolding nestAnswer nestLent findingsLent
-nested b n f n′ f′ k m z q s h e = let c : k ≡ length (words (nestFindings (outlineAt b))) = omega (arith, s .counted) in (rw (z, e, c), (rw z q, rw z (s .stored)))
+nested b n f n′ f′ k m z q s h e = let c : k - base ≡ length (words (nestFindings (outlineAt b))) = omega (arith, s .counted) in (rw (z, e, c), (rw z q, rw z (s .stored)))
 
 pub refused : (b n f : List ℕ) (k : ℕ) → k ≡ refusalOf b → (k ≡ 0 → ⊥) → (k ≡ nestAnswer b) × ((n ≡ nestLent b n) × (f ≡ findingsLent b f))
 unfolding nestAnswer nestLent findingsLent

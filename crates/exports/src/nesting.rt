@@ -3,7 +3,7 @@ ghost use mathlib.Core.Path.{_≡_};
 ghost use Prim.Native.Nat.{_≤_};
 ghost use lib.ListN.{length, take};
 ghost use lib.Seq.{sets};
-ghost use Rattle.lent.specs.Fit.{Stored};
+ghost use Rattle.lent.specs.Fit.{base, Noted};
 ghost use Rattle.nest.specs.Nest.{nestArray};
 ghost use Rattle.nest.specs.NestFindings.{nestFindings};
 ghost use Rattle.nest.specs.Ready.{Ready, outlineAt, words};
@@ -37,7 +37,7 @@ fn nest_count(job: &[u8], index: &[u32]) -> usize
 // Nest with lists of any length.
 fn nested(job: &[u8], index: &[u32], nest: &mut [u32], findings: &mut [u64]) -> usize
     requires { ⌜ Ready (now job) (now index) ⌝ }
-    ensures { λ n. ⌜ (now (nest .exit) ≡ sets (now (nest .entry)) 0 (nestArray (outlineAt (now (job .entry))))) × Stored (now (findings .entry)) 0 (words (nestFindings (outlineAt (now (job .entry))))) n (now (findings .exit)) ⌝ }
+    ensures { λ n. ⌜ (now (nest .exit) ≡ sets (now (nest .entry)) 0 (nestArray (outlineAt (now (job .entry))))) × Noted (now (findings .entry)) base (words (nestFindings (outlineAt (now (job .entry))))) n (now (findings .exit)) ⌝ }
 {
     let mut all = [0u32; 12288];
     let n = nest::nest(job, index, &mut all, findings);
@@ -58,7 +58,7 @@ pub extern "C" fn baktuven_nest(job: &[u8], nest: &mut [u32], findings: &mut [u6
         let mut index = [0u32; 10752];
         index::fill_index(job, &mut index);
         let n = nested(job, &index, nest, findings);
-        return 16 + n as u64;
+        return 16 + (n - 4611686018427387904) as u64;
     }
     refused as u64
 }

@@ -4,6 +4,7 @@ ghost use mathlib.Core.List.{[], _∷_};
 ghost use lib.Seq.{sets};
 ghost use Rattle.writer.specs.Answer.{numberOf, valuesOf};
 ghost use Rattle.exports.specs.Writing.{WroteOut};
+use finding::Finding;
 use writer::Answer;
 
 // Four counts at the front of a list, as far as they fit.
@@ -63,14 +64,14 @@ pub extern "C" fn baktuven_write(
     job: &[u8],
     document: &mut [u8],
     segments: &mut [u64],
-    findings: &mut [u64],
+    findings: &mut [Finding],
     stops: &mut [u64],
     counts: &mut [u64],
 ) -> u32
     ensures { λ r. ⌜ WroteOut (now (job .entry)) (now (document .entry)) (now (document .exit)) (now (segments .entry)) (now (segments .exit))
         (now (findings .entry)) (now (findings .exit)) (now (stops .entry)) (now (stops .exit)) (now (counts .entry)) (now (counts .exit)) r ⌝ }
 {
-    let a = writer::write(job, document, segments, findings, stops);
+    let a = baktuven::write(job, document, segments, findings, stops);
     put_values(counts, a);
     number(a)
 }

@@ -3,22 +3,25 @@ use Prim.Native.Nat.{ℕ, _+_, _-_, _≤_, _<_}
 use mathlib.Core.Path.{_≡_, refl, sym, ap, ap₂, _∙_, subst}
 use mathlib.Core.Bool.{Bool, true, false, false≢true}
 use mathlib.Core.List.{List, [], _∷_, map}
-use mathlib.Core.Option.{some, Option·some-injective}
+use mathlib.Core.Option.{some, Option·some-injective, Option·none-ne-some}
 use native.Mathlib.Omega.{arith}
 use lib.ListN.{length}
 use lib.Dec.{eqb}
 use borrow.Author.Tests.{eq-eqb, ne-eqb, eqb-true}
-use Rattle.nest.specs.Outline.{Outline, rowCount}
+use Rattle.nest.specs.Lists.{keep, upTo}
+use Rattle.nest.specs.Outline.{Outline, tableParent, rowCount}
+use Rattle.nest.proofs.Scan.{keep-alike}
 use Rattle.spec.specs.declared.ids.LoopId.{LoopId}
 use Rattle.walk.specs.declared.Context.{Context as Kept}
-use Rattle.walk.specs.Instances.{Context, Piece, pieces, at, inRow, inPiece}
+use Rattle.walk.specs.Instances.{Context, Run, Piece, heldBy, pieces, at, offset, inRow, inPiece}
 use Rattle.walk.specs.Contexts.{contextBy, startBy, keptRow, keptPiece}
 use Rattle.walk.specs.Nested.{Sound}
-use Rattle.walk.proofs.ContextLaws.{stands-in-row, stands-in-piece}
+use Rattle.walk.proofs.ContextLaws.{stands-start, stands-in-row, stands-in-piece}
+use Rattle.walk.proofs.RowLaws.{held-apart}
 use Rattle.instances.specs.declared.Cursor.{Cursor}
 use Rattle.instances.specs.declared.Next.{Next}
 use Rattle.instances.specs.declared.rows.RowAhead.{RowAhead}
-use Rattle.instances.specs.Cursor.{startOf, left, piecesAt, runs, coming, Inside, Going, moved, rowless, Here, Ahead, RunEnds, Came}
+use Rattle.instances.specs.Cursor.{passes, startOf, left, piecesAt, runs, coming, Inside, Going, moved, rowless, Here, Ahead, RunEnds, Came}
 use Rattle.instances.proofs.Runs.{left-moved}
 
 -- ---- by kind
@@ -54,10 +57,23 @@ module _ (o : Outline) (c : Context) (t r : ℕ) (s : Sound o c) (h : r < rowCou
       go false q = s .there u p (rw q at e)
 
   pub sound-in-row : Sound o (inRow t c r)
-  sound-in-row = record { there = inner-row }
+  sound-in-row = record { there = inner-row; begun = λ p k e q d. absurd (Option·none-ne-some p e) }
 
-  pub sound-in-piece : (p : Piece) → p .head ≡ r → Sound o (inPiece t c p)
-  sound-in-piece p e = record { there = λ u q z. inner-row u q (rw e at z) }
+  -- its run begins at its table's row
+  run-begun : (start : ℕ) → length (keep (heldBy o t (c .row)) (upTo 0 r)) ≡ start → (k : ℕ) → at t r (c .row) t ≡ some k → (tableParent o t ≡ some t → ⊥)
+      → length (keep (heldBy o t (at t r (c .row))) (upTo 0 k)) ≡ start
+  run-begun start e k z d =
+      let y : r ≡ k = Option·some-injective r k (rw (eq-eqb t t refl) at z) in
+      rw (← y) (ap length (keep-alike (heldBy o t (at t r (c .row))) (heldBy o t (c .row)) 0 r (λ i q. held-apart o t r (c .row) i d)) ∙ e)
+
+  pub sound-in-piece : (start end : ℕ) → length (keep (heldBy o t (c .row)) (upTo 0 r)) ≡ offset t (c .run) + start → Sound o (inPiece t c (record { head = r; start = start; end = end }))
+  sound-in-piece start end e = record { there = inner-row; begun = λ p k q. subst (begun-at k) (Option·some-injective it p q) (run-begun (offset t (c .run) + start) e k) }
+    where
+      it : Run
+      it = record { table = t; start = offset t (c .run) + start; end = offset t (c .run) + end }
+
+      begun-at : ℕ → Run → Type 0
+      begun-at k p = at t r (c .row) (p .table) ≡ some k → (tableParent o (p .table) ≡ some (p .table) → ⊥) → length (keep (heldBy o (p .table) (at t r (c .row))) (upTo 0 k)) ≡ p .start
 
 -- ---- contexts as code keeps them
 
@@ -76,15 +92,16 @@ over o n cur r m e = record { ended = λ z. e; came = λ z. absurd (false≢true
 module _ (o : Outline) (n : List ℕ) where
   pub going-rowless : (kind : ℕ) (l : LoopId) (c : Kept) → l .0 < 32 → Sound o (contextBy c) → Going o n (rowless kind l c)
   going-rowless kind l c h s = record {
-    inner = record { room = omega arith; few = omega arith; small = omega arith; behind = omega arith; within = omega arith };
+    inner = record { room = omega arith; few = omega arith; small = omega arith; counted = refl; behind = omega arith; within = omega arith };
     a-table = omega arith;
     a-loop = h;
     there = omega arith;
+    list = λ r q. absurd (omega (arith, q));
     sound = s;
   }
 
-  going-moved : (cur : Cursor) (seen k : ℕ) → Going o n cur → Inside n (moved cur seen k) → Going o n (moved cur seen k)
-  going-moved cur seen k g i = record { inner = i; a-table = g .a-table; a-loop = g .a-loop; there = g .there; sound = g .sound }
+  pub going-moved : (cur : Cursor) (seen k : ℕ) → Going o n cur → Inside n (moved cur seen k) → Going o n (moved cur seen k)
+  going-moved cur seen k g i = record { inner = i; a-table = g .a-table; a-loop = g .a-loop; there = g .there; list = g .list; sound = g .sound }
 
   pub further : (cur : Cursor) (seen k : ℕ) (d : Cursor) → d ≡ moved cur seen k → Going o n cur → Inside n (moved cur seen k) → Inside n d × (d .l .0 < 32)
   further cur seen k d e g i = subst (λ (x : Cursor). Inside n x × (x .l .0 < 32)) (sym e) (i, g .a-loop)
@@ -136,6 +153,9 @@ module _ (o : Outline) (n : List ℕ) where
         let from-here : a .seen - 1 ≡ startOf cur + start = omega (arith, h .place) in
         let to-there : e .seen ≡ startOf cur + (e .seen - startOf cur) = omega (arith, h .place, on) in
         let stands : contextBy d ≡ inPiece t c it = q it refl from-here to-there in
+        let same-list = keep-alike (heldBy o t (c .row)) (passes n (cur .base) (cur .above)) 0 (a .row .0) (λ r x. sym (g .list r (omega (arith, x, h .exists)))) in
+        let before : length (keep (heldBy o t (c .row)) (upTo 0 (a .row .0))) ≡ offset t (c .run) + start =
+        ap length same-list ∙ omega (arith, h .before, from-here) ∙ ap (λ m. m + start) (sym (stands-start (cur .context) t)) in
         let place : start + 1 ≡ a .seen - startOf cur = omega (arith, h .place) in
         let all : runs o n cur ≡ it ∷ runs o n (moved cur (e .seen) (e .next)) =
         ap (piecesAt same start) (h .rest)
@@ -145,6 +165,6 @@ module _ (o : Outline) (n : List ℕ) where
           ended = λ z. absurd (false≢true (sym z));
           came = λ z. coming-runs o n cur k ∙ ap (map (inPiece t c)) all
               ∙ ap₂ (λ x xs. x ∷ xs) (sym stands) (sym (coming-runs o n (moved cur (e .seen) (e .next)) k) ∙ ap (coming o n) (sym p));
-          sound = λ z. subst (Sound o) (sym stands) (sound-in-piece o c t (a .row .0) (g .sound) (omega (arith, h .exists, g .there)) it refl);
+          sound = λ z. subst (Sound o) (sym stands) (sound-in-piece o c t (a .row .0) (g .sound) (omega (arith, h .exists, g .there)) start (e .seen - startOf cur) before);
           still = λ z. subst (Going o n) (sym p) (going-moved cur (e .seen) (e .next) g (run .inner));
         }

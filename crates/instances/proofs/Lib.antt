@@ -1,5 +1,6 @@
 pub mod RowsLeft
 pub mod Runs
 pub mod Cursors
+pub mod FromRun
 pub mod Made
 pub mod Some

@@ -41,17 +41,18 @@ use Rattle.nest.proofs.Sizes.{rows-past}
 use Rattle.nest.proofs.Hanging.{plain-in, plain-not}
 use Rattle.nest.proofs.Scan.{window, keep-alike, keep-none}
 use Rattle.walk.specs.declared.Context.{Context as Kept}
-use Rattle.walk.specs.Instances.{Context, inRow, inPiece, piecesOf, rowsIn, shown, instances}
+use Rattle.walk.specs.Instances.{Context, heldBy, inRow, inPiece, piecesOf, rowsIn, shown, instances}
 use Rattle.walk.specs.Contexts.{contextBy, rowBy, startBy, endBy}
 use Rattle.walk.specs.Nested.{Nested, Sound}
 use Rattle.walk.proofs.ContextLaws.{stands-row, stands-start, stands-end}
-use Rattle.walk.proofs.RowLaws.{heldBy, held-top, held-outside, rows-window, rows-none}
+use Rattle.walk.proofs.RowLaws.{held-top, held-outside, rows-window, rows-none}
 use Rattle.walk.proofs.NestedLaws.{lent-held}
 use Rattle.walk.proofs.TourLaws.{inst-absent, inst-envelope, inst-rows, inst-groups, inst-rowless, inst-shown, inst-hidden}
 use Rattle.instances.specs.declared.Cursor.{Cursor}
-use Rattle.instances.specs.Cursor.{passes, leftAt, left, piecesAt, runs, coming, Going, rowless, rowsFrom, aboveIn, isImplied, shownIn, Lists, OfLoop}
+use Rattle.instances.specs.Cursor.{passes, leftAt, left, piecesAt, runs, coming, Going, rowless, rowsFrom, fromRun, aboveIn, isImplied, shownIn, Lists, OfLoop}
 use Rattle.instances.proofs.RowsLeft.{passes-all, passes-held}
 use Rattle.instances.proofs.Cursors.{coming-none, coming-one, coming-rows, coming-runs, going-rowless}
+use Rattle.instances.proofs.FromRun.{from-run-same}
 
 -- ---- whether a table is plain
 
@@ -206,21 +207,26 @@ module _ {b idx n : List ℕ} (N : Nested b idx n) (kind : ℕ) (l : LoopId) (t 
         room = let d = rows-is (jobOf b) (t .0) in omega (arith, d, rows-room (jobOf b .tables) (t .0), N .ready .tables .few-rows, N .room);
         few = rows-few (jobOf b) (t .0) (N .ready .tables .few-rows);
         small = above-small s;
+        counted = refl;
         behind = omega arith;
         within = omega arith;
       };
       a-table = let d = plain-in o (t .0) f in let k = few (jobOf b) (N .ready .passed .limits) .tables in let z = table-count-is (jobOf b) in omega (arith, d, k, z);
       a-loop = h;
       there = omega arith;
+      list = passes-is;
       sound = s;
     }
 
-    pub lists-rows : (r : Cursor) → Sound o (contextBy c) → l .0 < 32 → r ≡ it above → Lists o n kind (l .0) (t .0) (contextBy c) r
-    lists-rows r s h q = record {
-      each-row = λ z. ap (coming o n) q ∙ coming-rows o n (it above) z ∙ ap (map (inRow (t .0) (contextBy c))) all-left;
-      each-run = λ z. ap (coming o n) q ∙ coming-runs o n (it above) (omega (arith, z)) ∙ ap (map (inPiece (t .0) (contextBy c))) runs-are;
-      going = subst (Going o n) (sym q) (going-rows s h);
-    }
+    pub lists-rows : (all r : Cursor) → Sound o (contextBy c) → l .0 < 32 → all ≡ it above → r ≡ fromRun o all → Lists o n kind (l .0) (t .0) (contextBy c) r
+    lists-rows all r s h q₀ q₁ =
+        let q : r ≡ fromRun o (it above) = q₁ ∙ ap (fromRun o) q₀ in
+        let same = from-run-same o n (it above) (going-rows s h) (refl, refl) (omega arith) in
+        record {
+          each-row = λ z. ap (coming o n) q ∙ same .0 ∙ coming-rows o n (it above) z ∙ ap (map (inRow (t .0) (contextBy c))) all-left;
+          each-run = λ z. ap (coming o n) q ∙ same .0 ∙ coming-runs o n (it above) (omega (arith, z)) ∙ ap (map (inPiece (t .0) (contextBy c))) runs-are;
+          going = subst (Going o n) (sym q) (same .1);
+        }
       where
         from-start : (xs : List ℕ) → piecesAt (o .sameGroup (l .0)) (0 - startBy c (t .0)) xs ≡ piecesOf (o .sameGroup (l .0)) xs
         from-start xs = let z : 0 - startBy c (t .0) ≡ 0 = omega arith in rw z (both xs)

@@ -2,12 +2,14 @@
 use Prim.Native.Nat.{ℕ, _+_, _-_, _≤_, _<_}
 use mathlib.Core.Path.{_≡_, refl, sym, ap, _∙_}
 use mathlib.Core.Bool.{Bool, true, false, false≢true}
-use mathlib.Core.List.{List, []}
+use mathlib.Core.List.{List, [], _∷_}
 use native.Mathlib.Omega.{arith}
+use lib.ListN.{length, length-append}
 use lib.Dec.{eqb}
 use borrow.Author.Tests.{eq-eqb, ne-eqb}
 use Rattle.nest.specs.Found.{nestAt, heldAt}
-use Rattle.nest.proofs.Scan.{window-no, window-skip, window-yes, window-past, window-end}
+use Rattle.nest.specs.Lists.{keep, upTo}
+use Rattle.nest.proofs.Scan.{keep-more, keep-same, window-no, window-skip, window-yes, window-past, window-end}
 use Rattle.walk.specs.Contexts.{startBy}
 use Rattle.instances.specs.declared.Cursor.{Cursor}
 use Rattle.instances.specs.declared.rows.RowAhead.{RowAhead}
@@ -27,19 +29,24 @@ passes-held n base above r d = rw (ne-eqb above 0 d) (ap (eqb (nestAt n base r 0
 
 pub record Looking (n : List ℕ) (cur : Cursor) (seen k : ℕ) : Type 0 where
   pub rest : left n cur ≡ leftAt n cur seen k
+  pub counted : length (keep (passes n (cur .base) (cur .above)) (upTo 0 k)) ≡ seen
   pub behind : seen ≤ k
   pub within : k ≤ cur .rows
   pub later : cur .next ≤ k
   pub place : startOf cur + (cur .seen - startOf cur) ≡ startOf cur + (seen - startOf cur)
 
 pub looking : (n : List ℕ) (cur : Cursor) → Inside n cur → Looking n cur (cur .seen) (cur .next)
-looking n cur i = record { rest = refl; behind = i .behind; within = i .within; later = omega arith; place = refl }
+looking n cur i = record { rest = refl; counted = i .counted; behind = i .behind; within = i .within; later = omega arith; place = refl }
 
 module _ (n : List ℕ) (cur : Cursor) (seen k : ℕ) (s : Looking n cur seen k) where
+  one-more : passes n (cur .base) (cur .above) k ≡ true → length (keep (passes n (cur .base) (cur .above)) (upTo 0 (k + 1))) ≡ seen + 1
+  one-more e = ap length (keep-more _ 0 k (omega arith) e) ∙ length-append (keep (passes n (cur .base) (cur .above)) (upTo 0 k)) (k ∷ []) ∙ ap (λ m. m + 1) (s .counted)
+
   pub looking-no : (b : Bool) → k < cur .rows → b ≡ passes n (cur .base) (cur .above) k → b ≡ false → Looking n cur seen (k + 1)
   unfolding leftAt
   looking-no b h e f = record {
     rest = s .rest ∙ window-no _ _ (startOf cur) (endOf cur) seen k h (sym e ∙ f);
+    counted = ap length (keep-same _ 0 k (omega arith) (sym e ∙ f)) ∙ s .counted;
     behind = omega (arith, s .behind);
     within = omega arith;
     later = omega (arith, s .later);
@@ -52,6 +59,7 @@ module _ (n : List ℕ) (cur : Cursor) (seen k : ℕ) (s : Looking n cur seen k)
       let q₁ : startBy (cur .context) (cur .table .0) ≡ start = sym q in
       record {
         rest = s .rest ∙ window-skip _ _ (startOf cur) (endOf cur) seen k h (sym e ∙ f) (omega (arith, q₁));
+        counted = one-more (sym e ∙ f);
         behind = omega (arith, s .behind);
         within = omega arith;
         later = omega (arith, s .later);
@@ -68,8 +76,9 @@ module _ (n : List ℕ) (cur : Cursor) (seen k : ℕ) (s : Looking n cur seen k)
         rest = s .rest ∙ window-yes _ _ (startOf cur) (endOf cur) seen k h (sym e ∙ f) (omega (arith, q)) (omega (arith, r));
         exists = h;
         later = omega (arith, s .later);
-        inner = record { room = i .room; few = i .few; small = i .small; behind = omega (arith, s .behind); within = omega arith };
+        inner = record { room = i .room; few = i .few; small = i .small; counted = one-more (sym e ∙ f); behind = omega (arith, s .behind); within = omega arith };
         place = omega (arith, s .place, q);
+        before = ap (λ m. m + 1) (s .counted);
       }
 
   none-ahead : (r : RowAhead) → r .more ≡ false → left n cur ≡ [] → Ahead n cur r

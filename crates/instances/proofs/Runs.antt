@@ -27,7 +27,7 @@ pub record Running (o : Outline) (n : List ℕ) (cur : Cursor) (head seen k : �
   pub inner : Inside n (moved cur seen k)
 
 pub running : (o : Outline) (n : List ℕ) (cur : Cursor) (head : ℕ) → Inside n cur → Running o n cur head (cur .seen) (cur .next)
-running o n cur head i = record { run = λ start. refl; on = omega arith; inner = record { room = i .room; few = i .few; small = i .small; behind = i .behind; within = i .within } }
+running o n cur head i = record { run = λ start. refl; on = omega arith; inner = record { room = i .room; few = i .few; small = i .small; counted = i .counted; behind = i .behind; within = i .within } }
 
 pub run-inside : (o : Outline) (n : List ℕ) (cur : Cursor) (head seen k : ℕ) → Running o n cur head seen k → (at : Cursor) → at ≡ moved cur seen k → Inside n at
 run-inside o n cur head seen k s at e = subst (Inside n) (sym e) (s .inner)

@@ -6,11 +6,11 @@ use mathlib.Core.List.{List, [], _∷_, map}
 use mathlib.Core.Option.{Option, none, some}
 use lib.ListN.{length, take, drop}
 use lib.Dec.{eqb}
-use Rattle.nest.specs.Lists.{keep, on, upTo}
+use Rattle.nest.specs.Lists.{keep, on, is, upTo}
 use Rattle.nest.specs.Found.{nestAt}
 use Rattle.nest.specs.Outline.{Outline, Kind, rows, absent, envelope, implied, inside, groups, rowCount, tableParent}
 use Rattle.walk.specs.declared.Context.{Context as Kept}
-use Rattle.walk.specs.Instances.{Context, Piece, pieces, piecesOf, inRow, inPiece, rowsIn, shown, instances}
+use Rattle.walk.specs.Instances.{Context, Piece, heldBy, pieces, piecesOf, inRow, inPiece, rowsIn, shown, instances}
 use Rattle.walk.specs.Contexts.{contextBy, startBy, endBy}
 use Rattle.walk.specs.Nested.{Sound}
 use Rattle.spec.specs.declared.ids.LoopId.{LoopId}
@@ -60,11 +60,12 @@ coming o n cur =
 
 -- ---- what a cursor needs
 
--- to look for rows: they stand in nest's array
+-- to look for rows: they stand in nest's array, and so many of the parent's list stand before `next`
 pub record Inside (n : List ℕ) (cur : Cursor) : Type 0 where
   pub room : (cur .base + cur .rows) * 3 ≤ length n
   pub few : cur .rows ≤ 4096
   pub small : cur .above ≤ 4096
+  pub counted : length (keep (passes n (cur .base) (cur .above)) (upTo 0 (cur .next))) ≡ cur .seen
   pub behind : cur .seen ≤ cur .next
   pub within : cur .next ≤ cur .rows
 
@@ -74,6 +75,7 @@ pub record Going (o : Outline) (n : List ℕ) (cur : Cursor) : Type 0 where
   pub a-table : cur .table .0 < 16
   pub a-loop : cur .l .0 < 32
   pub there : cur .rows ≤ rowCount o (cur .table .0)
+  pub list : (r : ℕ) → r < cur .rows → passes n (cur .base) (cur .above) r ≡ heldBy o (cur .table .0) ((contextBy (cur .context)) .row) r
   pub sound : Sound o (contextBy (cur .context))
 
 -- ---- what code makes of one
@@ -98,6 +100,12 @@ rowless kind l c = record { kind = kind; l = l; table = record { 0 = 0 }; contex
 -- of kind 2 or 3
 abbrev pub rowsFrom : ℕ → LoopId → TableId → Kept → ℕ → ℕ → ℕ → Cursor
 rowsFrom kind l t c base count above = record { kind = kind; l = l; table = t; context = c; base = base; rows = count; above = above; seen = 0; next = 0 }
+
+-- the same at the first row of the context's run: the rows before it stand before the run. A table that is its own parent has another list in the run
+unfoldable pub fromRun : Outline → Cursor → Cursor
+fromRun o cur =
+    cond (eqb (startOf cur) 0 || is (tableParent o (cur .table .0)) (cur .table .0)) cur
+    (on ((contextBy (cur .context)) .row (cur .table .0)) (moved cur (startOf cur)) cur)
 
 -- the row that the rows of a table hang on in a context, plus one; 0 where the table has no parent; none where the context has no row of the parent
 unfoldable pub aboveIn : Outline → ℕ → Context → Option ℕ
@@ -135,6 +143,7 @@ pub record Here (n : List ℕ) (cur : Cursor) (r : RowAhead) : Type 0 where
   pub later : cur .next < r .next
   pub inner : Inside n (moved cur (r .seen) (r .next))
   pub place : startOf cur + (cur .seen - startOf cur) + 1 ≡ r .seen
+  pub before : length (keep (passes n (cur .base) (cur .above)) (upTo 0 (r .row .0))) + 1 ≡ r .seen
 
 pub record Ahead (n : List ℕ) (cur : Cursor) (r : RowAhead) : Type 0 where
   pub over : r .more ≡ false → left n cur ≡ []

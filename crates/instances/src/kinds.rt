@@ -1,20 +1,21 @@
 // The instances of a loop by its kind: none, the context itself, or a list of rows.
 ghost use mathlib.Core.Path.{_≡_};
 ghost use mathlib.Core.Bool.{false};
-ghost use Rattle.nest.specs.Lists.{once};
+ghost use Rattle.nest.specs.Lists.{once, is};
 ghost use Prim.Native.Nat.{_<_};
 ghost use Rattle.spec.specs.Answers.{numberOf};
 ghost use Rattle.plan.specs.Answers.{instancesOf};
 ghost use Rattle.nest.specs.Found.{foundBy};
 ghost use Rattle.nest.specs.OfJob.{kindIn};
 ghost use Rattle.nest.specs.Ready.{Ready, outlineAt};
-ghost use Rattle.nest.specs.Outline.{kindOf, plain, rowCount};
+ghost use Rattle.nest.specs.Outline.{kindOf, tableParent, plain, rowCount};
 ghost use Rattle.format.specs.Sections.{jobOf};
 ghost use Rattle.tables.specs.Parts.{rowsBefore};
 ghost use Rattle.walk.specs.Nested.{Nested, Sound};
 ghost use Rattle.walk.specs.Contexts.{contextBy};
-ghost use Rattle.instances.specs.Cursor.{rowless, rowsFrom, aboveIn, isImplied, shownIn, Lists, OfLoop};
+ghost use Rattle.instances.specs.Cursor.{rowless, rowsFrom, fromRun, aboveIn, isImplied, shownIn, Lists, OfLoop};
 use crate::Cursor;
+use crate::rows::moved;
 use due::shown;
 use nest::Found;
 use plan::answers::Instances;
@@ -135,6 +136,48 @@ fn all_rows(
     }
 }
 
+// Whether table t is its own parent.
+fn own_parent(job: &[u8], index: &[u32], t: TableId) -> bool
+    requires { ⌜ Ready (now job) (now index) ⌝ }
+    ensures { λ b. ⌜ b ≡ is (tableParent (outlineAt (now (job .entry))) (t .0)) (t .0) ⌝ }
+{
+    let parent = spec::tables::table_parent(job, index, t);
+    match parent {
+        Number::Is(u) => {
+            return t.0 == u;
+        }
+        Number::None => {
+            return false;
+        }
+    }
+}
+
+// The same rows, looked for from the first of the context's run on. A table that is its own parent has another list in the run, and is gone through from its start.
+fn from_run(job: &[u8], index: &[u32], all: Cursor) -> Cursor
+    requires { ⌜ Ready (now job) (now index) ⌝ }
+    ensures { λ r. ⌜ r ≡ fromRun (outlineAt (now (job .entry))) all ⌝ }
+{
+    let c = all.context;
+    let t = all.table;
+    let start = walk::start_in(c, t);
+    if start == 0 {
+        return all;
+    }
+    let own = own_parent(job, index, t);
+    if own {
+        return all;
+    }
+    let head = row_of(c, t);
+    match head {
+        Found::Row(r) => {
+            return moved(all, start, r.0 as usize);
+        }
+        Found::Nothing => {
+            return all;
+        }
+    }
+}
+
 // The rows of table t in context c: an instance in each (kind 2), or in each run of them (kind 3).
 fn listed(
     job: &[u8],
@@ -153,7 +196,8 @@ fn listed(
         let above = above_in(job, index, t, c);
         match above {
             Number::Is(a) => {
-                return all_rows(job, index, kind, l, t, c, a);
+                let all = all_rows(job, index, kind, l, t, c, a);
+                return from_run(job, index, all);
             }
             Number::None => {
                 return no_instance(l, c);

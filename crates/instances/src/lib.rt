@@ -13,6 +13,7 @@ use crate::kinds::context_itself;
 use crate::kinds::implied;
 use crate::kinds::no_instance;
 use crate::pieces::next_piece;
+use crate::rows::ended;
 use crate::rows::next_of_rows;
 use spec::ids::LoopId;
 use spec::ids::TableId;
@@ -26,22 +27,22 @@ mod rows;
 // 3: one in each run of those. Left are the rows from `next` on, below `rows`, that hang on the row `above` less one, or all where it is 0, as far as
 // the context's run has them; `seen` of them stood before. The numbers of the table's rows start at `base` in nest's array.
 pub struct Cursor {
-    pub kind: u32,
-    pub l: LoopId,
-    pub table: TableId,
     pub context: Context,
     pub base: usize,
     pub rows: usize,
-    pub above: u32,
     pub seen: usize,
     pub next: usize,
+    pub above: u32,
+    pub kind: u32,
+    pub l: LoopId,
+    pub table: TableId,
 }
 
 // The next instance, if there is one, and the cursor behind it.
 pub struct Next {
-    pub more: bool,
     pub context: Context,
     pub cursor: Cursor,
+    pub more: bool,
 }
 
 // The next of the instances still to come.
@@ -52,11 +53,7 @@ pub fn next_instance(job: &[u8], index: &[u32], nest: &[u32], cur: Cursor) -> Ne
     let c = cur.context;
     let l = cur.l;
     if cur.kind == 0 {
-        return Next {
-            more: false,
-            context: c,
-            cursor: cur,
-        };
+        return ended();
     }
     if cur.kind == 1 {
         let over = no_instance(l, c);

@@ -8,6 +8,7 @@ ghost use Rattle.instances.specs.Cursor.{Inside, Came, Going, RunEnds};
 use crate::Cursor;
 use crate::Next;
 use crate::rows::RowAhead;
+use crate::rows::ended;
 use crate::rows::moved;
 use crate::rows::next_row;
 use due::same_group;
@@ -81,9 +82,5 @@ pub fn next_piece(job: &[u8], index: &[u32], nest: &[u32], cur: Cursor) -> Next
             cursor: behind,
         };
     }
-    Next {
-        more: false,
-        context: c,
-        cursor: cur,
-    }
+    ended()
 }

@@ -9,6 +9,8 @@ ghost use Rattle.walk.specs.Contexts.{contextBy};
 ghost use Rattle.instances.specs.Cursor.{passes, Ahead, Inside, Came, Going, moved};
 use crate::Cursor;
 use crate::Next;
+use crate::kinds::no_instance;
+use spec::ids::LoopId;
 use spec::ids::RowId;
 use spec::ids::TableId;
 use walk::Context;
@@ -96,6 +98,19 @@ fn row_context(c: Context, t: TableId, r: RowId) -> Context
     walk::in_row(c, t, r)
 }
 
+// No instance is left: what stands beside that is not looked at.
+pub fn ended() -> Next
+    ensures { λ r. ⌜ r .more ≡ false ⌝ }
+{
+    let c = walk::outside();
+    let over = no_instance(LoopId(0), c);
+    Next {
+        context: c,
+        cursor: over,
+        more: false,
+    }
+}
+
 // The next instance of a `Rows` loop.
 pub fn next_of_rows(nest: &[u32], cur: Cursor) -> Next
     requires { ⌜ Inside (now nest) cur × (cur .table .0 < 16) × (cur .kind ≡ 2) ⌝ }
@@ -115,9 +130,5 @@ pub fn next_of_rows(nest: &[u32], cur: Cursor) -> Next
             cursor: behind,
         };
     }
-    Next {
-        more: false,
-        context: c,
-        cursor: cur,
-    }
+    ended()
 }

@@ -1,40 +1,69 @@
 -- The five conditions from the answers to their tests.
 use Prim.Native.Nat.{ℕ, suc}
-use mathlib.Core.Path.{_≡_, sym, ap, _∙_}
-use mathlib.Core.Bool.{Bool, true, false, true≢false}
-use mathlib.Core.List.{List, map}
+use mathlib.Core.Path.{_≡_, refl, sym, ap, _∙_}
+use mathlib.Core.Bool.{Bool, true, false, _&&_, true≢false}
+use mathlib.Core.List.{List}
 use native.Mathlib.Omega.{arith}
 use lib.ListN.{length}
 use Rattle.format.specs.Job.{Job}
 use Rattle.format.specs.Sections.{jobOf}
 use Rattle.format.specs.Refusal.{refusalOf}
-use Rattle.nest.specs.OfJob.{outlineOf, loopIn, planIn, itemIn}
+use Rattle.nest.specs.OfJob.{outlineOf, loopIn}
 use Rattle.nest.proofs.Bridge.{length-map}
 use Rattle.walk.specs.Complete.{Tree, Complete}
 use Rattle.complete.specs.Complete.{CompletePlan}
 use Rattle.complete.specs.Decides.{Decides}
-use Rattle.paths.specs.Entries.{Entries4}
+use Rattle.walk.proofs.Tests.{both, and-true}
+use Rattle.paths.specs.Tests.{condition1, condition3, condition4}
+use Rattle.paths.specs.Entries.{Entries4, Orders}
+use Rattle.paths.proofs.Bridge.{plan-count-is, order-count-is}
+use Rattle.paths.proofs.Walks.{conditions-walk, walk-conditions}
 use Rattle.places.specs.Fits.{Fits5}
 use Rattle.judge.specs.declared.Plan.{Plan}
 use Rattle.judge.specs.declared.Plan.the-variants as P
 use Rattle.judge.specs.Judged.{numberOf, Judged}
 
--- a complete plan has one entry a loop
-entries-of : (j : Job) → Tree (outlineOf j) → CompletePlan j → Entries4 j
-unfolding outlineOf
-entries-of j T c =
-    let w = c .walked T in
-    record {
-      entries = c .entries;
-      plan = sym (length-map planIn (j .plan)) ∙ w .plan-entries ∙ length-map loopIn (j .spec .loops);
-      order = sym (length-map (map itemIn) (j .layout .order)) ∙ w .order-entries ∙ length-map loopIn (j .spec .loops);
-    }
+-- ---- conditions 1 to 4, by the answers to each
 
-pub no-entries : (j : Job) (r : Bool) → Tree (outlineOf j) → r ≡ false → Decides r (Entries4 j) → Decides false (CompletePlan j)
-no-entries j r T h d = ((λ e. absurd (true≢false (sym e))), (λ e c. d .1 h (entries-of j T c)))
+decided : (P : Type 0) (b : Bool) → Decides b P → P → b ≡ true
+decided P true d p = refl
+decided P false d p = absurd (d .1 refl p)
 
-pub no-paths : (j : Job) (r : Bool) → r ≡ false → Decides r (Tree (outlineOf j) → Complete (outlineOf j)) → Decides false (CompletePlan j)
-no-paths j r h d = ((λ e. absurd (true≢false (sym e))), (λ e c. d .1 h (c .walked)))
+module _ (j : Job) (T : Tree (outlineOf j)) (a b c d : Bool) (one : a ≡ condition1 (outlineOf j)) (two : Decides b (Orders j)) (three : c ≡ condition3 (outlineOf j)) (four : d ≡ condition4 (outlineOf j)) (x y z : Bool) (u : x ≡ c && d) (v : y ≡ b && x) (w : z ≡ a && y) where
+  -- one entry a loop, as the outline has it
+  loop-count-is : length (outlineOf j .loops) ≡ length (j .spec .loops)
+  unfolding outlineOf
+  loop-count-is = length-map loopIn (j .spec .loops)
+
+  plan-entries : Entries4 j → length (outlineOf j .plan) ≡ length (outlineOf j .loops)
+  plan-entries e = plan-count-is j ∙ e .plan ∙ sym loop-count-is
+
+  order-entries : Entries4 j → length (outlineOf j .order) ≡ length (outlineOf j .loops)
+  order-entries e = order-count-is j ∙ e .order ∙ sym loop-count-is
+
+  pub all-walked : z ≡ true → Entries4 j × (Tree (outlineOf j) → Complete (outlineOf j))
+  all-walked h =
+      let p = both a y (sym w ∙ h) in
+      let q = both b x (sym v ∙ p .1) in
+      let r = both c d (sym u ∙ q .1) in
+      let o = two .0 (q .0) in
+      (o .entries, conditions-walk (outlineOf j) (plan-entries (o .entries)) (order-entries (o .entries)) (sym one ∙ p .0) (o .ordered) (sym three ∙ r .0) (sym four ∙ r .1))
+
+  -- a complete plan has one entry a loop
+  entries-of : CompletePlan j → Entries4 j
+  entries-of C =
+      let k = C .walked T in
+      record { entries = C .entries; plan = sym (plan-count-is j) ∙ k .plan-entries ∙ loop-count-is; order = sym (order-count-is j) ∙ k .order-entries ∙ loop-count-is }
+
+  pub one-lacks : z ≡ false → Decides false (CompletePlan j)
+  one-lacks h = (
+    (λ e. absurd (true≢false (sym e))),
+    (λ e C.
+        let k = walk-conditions (outlineOf j) (C .walked T) in
+        let m : x ≡ true = u ∙ and-true c d (three ∙ k .2) (four ∙ k .3) in
+        let n : y ≡ true = v ∙ and-true b x (decided (Orders j) b two (record { entries = entries-of C; ordered = k .1 })) m in
+        true≢false (sym (w ∙ and-true a y (one ∙ k .0) n) ∙ h)),
+  )
 
 pub by-places : (j : Job) (r : Bool) → Entries4 j → (Tree (outlineOf j) → Complete (outlineOf j)) → Decides r (Fits5 j) → Decides r (CompletePlan j)
 by-places j r e w d = (

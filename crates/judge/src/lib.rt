@@ -1,5 +1,6 @@
 // Whether a job's plan is complete.
 ghost use mathlib.Core.Path.{_≡_};
+ghost use mathlib.Core.Bool.{_&&_};
 ghost use Rattle.format.specs.Refusal.{refusalOf};
 ghost use Rattle.format.specs.Sections.{jobOf};
 ghost use Rattle.nest.specs.Ready.{Ready};
@@ -7,8 +8,10 @@ ghost use Rattle.complete.specs.Decides.{Decides};
 ghost use Rattle.complete.specs.Complete.{CompletePlan};
 ghost use Rattle.judge.specs.Judged.{Judged};
 use index::fill_index;
-use paths::entries_fit;
+use paths::orders_fit;
 use paths::paths_fit;
+use paths::repeats_fit;
+use paths::rows_fit;
 use places::places_fit;
 use refusal::Checked;
 
@@ -23,18 +26,27 @@ pub enum Plan {
     Text,
 }
 
-// The five conditions, of a job that passed.
+fn both(x: bool, y: bool) -> bool
+    ensures { λ r. ⌜ r ≡ x && y ⌝ }
+{
+    if x {
+        return y;
+    }
+    false
+}
+
+// The five conditions, of a job that passed. The fifth asks for the second's entries.
 fn fits(job: &[u8], index: &[u32]) -> bool
     requires { ⌜ Ready (now job) (now index) ⌝ }
     ensures { λ r. ⌜ Decides r (CompletePlan (jobOf (now (job .entry)))) ⌝ }
 {
-    let entries = entries_fit(job, index);
-    if entries {
-        let paths = paths_fit(job, index);
-        if paths {
-            return places_fit(job, index);
-        }
-        return false;
+    let one = rows_fit(job, index);
+    let two = orders_fit(job, index);
+    let three = paths_fit(job, index);
+    let four = repeats_fit(job, index);
+    let walked = both(one, both(two, both(three, four)));
+    if walked {
+        return places_fit(job, index);
     }
     false
 }

@@ -5,12 +5,12 @@ use mathlib.Core.List.{List, [], _∷_, _++_, append-assoc}
 use mathlib.Core.Bool.{Bool, true, false}
 use native.Mathlib.Omega.{arith}
 use native.Mathlib.Numerals.{add-one}
-use native.Mathlib.Nat.{le-of-lt, min-eq-left, min-eq-right, add-zero, not-suc-le-zero, zero-mul, suc-mul, add-comm, mul-sub, mul-comm, le-refl}
-use lib.ListN.{length, getD, set, take, drop, replicate, length-append, length-set, length-take, length-drop, length-replicate}
-use lib.Seq.{sets, set-out, length-sets, take-set-le, drop-set-lt, take-all, take-suc, take-take, take-nil, take-append-add}
+use native.Mathlib.Nat.{le-of-lt, min-eq-left, min-eq-right, add-zero, not-suc-le-zero, zero-mul, suc-mul, add-comm, mul-sub, mul-comm, le-refl, zero-sub, sub-zero}
+use lib.ListN.{length, getD, set, take, drop, replicate, length-append, length-set, length-take, length-drop, length-replicate, drop-of-length-le}
+use lib.Seq.{sets, set-out, length-sets, take-set-le, drop-set-lt, take-all, take-suc, take-take, take-nil, take-append-add, drop-nil, drop-append-le, drop-append-add}
 use lib.Dec.{leb}
 use borrow.Author.Tests.{leb-true, leb-false}
-use Rattle.lent.specs.Fit.{cap, more, stretch, Stored}
+use Rattle.lent.specs.Fit.{cap, more, stretch, base, placed, StoredAt, Stored, Noted}
 
 -- nothing is stored past the end
 pub sets-past : (d : List ℕ) (p : ℕ) (bs : List ℕ) → length d ≤ p → sets d p bs ≡ d
@@ -52,24 +52,66 @@ sets-more d p n bs h = go (leb (p + n) cap) refl
 pub more-more : (at n m : ℕ) → more (more at n) m ≡ more at (n + m)
 more-more at n m = omega arith
 
+-- ---- a list that begins at place k
+
+placed-is : (k : ℕ) (d : List ℕ) (at : ℕ) (items : List ℕ) → placed k d at items ≡ sets d (at - k) (drop (k - at) items)
+placed-is zero d at items = rw (zero-sub at, sub-zero at)
+placed-is (suc k) d at items = refl
+
+placed-length : (k : ℕ) (d : List ℕ) (at : ℕ) (items : List ℕ) → length (placed k d at items) ≡ length d
+placed-length k d at items = rw (placed-is k d at items) (length-sets d (at - k) (drop (k - at) items))
+
+drop-append : (n : ℕ) (xs ys : List ℕ) → drop n (xs ++ ys) ≡ drop n xs ++ drop (n - length xs) ys
+drop-append zero xs ys = rw (zero-sub (length xs))
+drop-append (suc n) [] ys = rw (sub-zero (suc n))
+drop-append (suc n) (x ∷ xs) ys = let e : suc n - suc (length xs) ≡ n - length xs = omega arith in rw e (drop-append n xs ys)
+
+-- a place at the cap stores what the true place would: both are past the end
+placed-more : (k : ℕ) (d : List ℕ) (p n : ℕ) (bs : List ℕ) → length d ≤ cap - k → placed k d (more p n) bs ≡ placed k d (p + n) bs
+placed-more k d p n bs h = go (leb (p + n) cap) refl
+  where
+    go : (t : Bool) → leb (p + n) cap ≡ t → placed k d (min (p + n) cap) bs ≡ placed k d (p + n) bs
+    go true e = rw (min-eq-left (leb-true _ _ e))
+    go false e =
+        let q : cap < p + n = leb-false _ _ e in
+        let l : length d ≤ p + n - k = omega arith in
+        rw (min-eq-right (le-of-lt q)) (placed-is k d cap bs ∙ sets-past d (cap - k) (drop (k - cap) bs) h ∙ sym (sets-past d (p + n - k) (drop (k - (p + n)) bs) l) ∙ sym (placed-is k d (p + n) bs))
+
+-- where xs ends in the list, and how much of bs lies before place k
+placed-append : (k : ℕ) (d : List ℕ) (at : ℕ) (xs bs : List ℕ) → placed k (placed k d at xs) (at + length xs) bs ≡ placed k d at (xs ++ bs)
+placed-append k d at xs bs =
+    let a : k - (at + length xs) ≡ k - at - length xs = omega arith in
+    rw (placed-is k d at xs, placed-is k (sets d (at - k) (drop (k - at) xs)) (at + length xs) bs, placed-is k d at (xs ++ bs), drop-append (k - at) xs bs, a)
+    (go (leb (k - at) (length xs)) refl)
+  where
+    go : (t : Bool) → leb (k - at) (length xs) ≡ t → sets (sets d (at - k) (drop (k - at) xs)) (at + length xs - k) (drop (k - at - length xs) bs) ≡ sets d (at - k) (drop (k - at) xs ++ drop (k - at - length xs) bs)
+    go true e =
+        let q : k - at ≤ length xs = leb-true _ _ e in
+        let p : at + length xs - k ≡ at - k + length (drop (k - at) xs) = omega (arith, length-drop (k - at) xs) in
+        rw p (sets-append d (at - k) (drop (k - at) xs) (drop (k - at - length xs) bs))
+    go false e =
+        let q : length xs < k - at = leb-false _ _ e in
+        let p : at + length xs - k ≡ at - k = omega arith in
+        rw (p, drop-of-length-le xs (le-of-lt q))
+
 -- nothing stored
-pub stored-none : (d : List ℕ) (at : ℕ) → Stored d at [] (more at 0) d
-stored-none d at = record { counted = refl; stored = refl }
+pub stored-none : {k : ℕ} (d : List ℕ) (at : ℕ) → StoredAt k d at [] (more at 0) d
+stored-none {k} d at = record { counted = refl; stored = sym (placed-is k d at [] ∙ rw (drop-nil {A = ℕ} (k - at))) }
 
 -- a, and then b behind it
-pub stored-append : {d d₁ d₂ : List ℕ} {at p q : ℕ} (a b : List ℕ) → length d ≤ cap → Stored d at a p d₁ → Stored d₁ p b q d₂ → Stored d at (a ++ b) q d₂
-stored-append {d} {d₁} {d₂} {at} {p} {q} a b h s t = record {
+pub stored-append : {k : ℕ} {d d₁ d₂ : List ℕ} {at p q : ℕ} (a b : List ℕ) → length d ≤ cap - k → StoredAt k d at a p d₁ → StoredAt k d₁ p b q d₂ → StoredAt k d at (a ++ b) q d₂
+stored-append {k} {d} {d₁} {d₂} {at} {p} {q} a b h s t = record {
   counted = rw length-append (t .counted ∙ rw (s .counted) (more-more at (length a) (length b)));
-  stored = t .stored ∙ rw (s .stored, s .counted) (sets-more (sets d at a) at (length a) b (rw length-sets h) ∙ sets-append d at a b);
+  stored = t .stored ∙ rw (s .stored, s .counted) (placed-more k (placed k d at a) at (length a) b (rw placed-length h) ∙ placed-append k d at a b);
 }
 
 -- the list keeps its length
-pub stored-length : {d d₁ : List ℕ} {at p : ℕ} (a : List ℕ) → Stored d at a p d₁ → length d₁ ≡ length d
-stored-length {d} {d₁} {at} {p} a s = rw (s .stored) (length-sets d at a)
+pub stored-length : {k : ℕ} {d d₁ : List ℕ} {at p : ℕ} (a : List ℕ) → StoredAt k d at a p d₁ → length d₁ ≡ length d
+stored-length {k} {d} {d₁} {at} {p} a s = rw (s .stored) (placed-length k d at a)
 
 -- the place behind what was stored is at most the cap
-pub stored-small : {d d₁ : List ℕ} {at p : ℕ} (a : List ℕ) → Stored d at a p d₁ → p ≤ cap
-stored-small {d} {d₁} {at} {p} a s = rw (s .counted) (omega arith)
+pub stored-small : {k : ℕ} {d d₁ : List ℕ} {at p : ℕ} (a : List ℕ) → StoredAt k d at a p d₁ → p ≤ cap
+stored-small {k} {d} {d₁} {at} {p} a s = rw (s .counted) (omega arith)
 
 -- one more item of a run
 pub sets-snoc : (d : List ℕ) (p : ℕ) (xs : List ℕ) (n b : ℕ) → length xs ≡ n → set (sets d p xs) (p + n) b ≡ sets d p (xs ++ (b ∷ []))
@@ -108,6 +150,39 @@ stored-fit d at ys len {n} {k} en ek es eq = record {
   stored = es ∙ fits-take d at ys len k (rw (← en) ek);
 }
 
+drop-take : (m n : ℕ) (l : List ℕ) → drop m (take n l) ≡ take (n - m) (drop m l)
+drop-take zero n l = rw (sub-zero n)
+drop-take (suc m) zero l = rw (zero-sub (suc m))
+drop-take (suc m) (suc n) [] = sym (take-nil (suc n - suc m))
+drop-take (suc m) (suc n) (x ∷ l) = let e : suc n - suc m ≡ n - m = omega arith in rw e (drop-take m n l)
+
+drop-min : (l : List ℕ) (m : ℕ) → drop (min (length l) m) l ≡ drop m l
+drop-min l m = go (leb (length l) m) refl
+  where
+    go : (t : Bool) → leb (length l) m ≡ t → drop (min (length l) m) l ≡ drop m l
+    go true e = let q : length l ≤ m = leb-true _ _ e in rw (min-eq-left q, drop-of-length-le l q, drop-of-length-le l (le-refl (length l)))
+    go false e = let q : m < length l = leb-false _ _ e in rw (min-eq-right (le-of-lt q))
+
+-- so many of ten numbers fit in the list and are there
+pub fits-both : (count n before len k : ℕ) → n ≡ min count (10 - 0) → k ≡ min (n - before) len → (k ≤ len) × (k ≤ 10 - before)
+fits-both count n before len k e f = (omega arith, omega arith)
+
+pub sized : (ys : List ℕ) (count n : ℕ) → n ≡ min count (10 - 0) → length ys ≡ 10 → n ≡ length (take count ys)
+sized ys count n e l = let q : length (take count ys) ≡ min count (length ys) = length-take count ys in omega arith
+
+-- the same of a list that begins at place p: `before` of them lie before it, and the first of the others comes to `start`
+pub noted-fit : (p : ℕ) (d : List ℕ) (at : ℕ) (ys : List ℕ) (len : ℕ) {n before start k q : ℕ} {d′ : List ℕ}
+    → n ≡ length (take len ys) → before ≡ min n (p - at) → start ≡ at - p → k ≡ min (n - before) (length d - start) → d′ ≡ sets d start (stretch ys before k) → q ≡ more at n
+    → StoredAt p d at (take len ys) q d′
+noted-fit p d at ys len {n} {before} {start} {k} {q} {d′} en eb es ek ed eq =
+    let b : before ≡ min (length (take len ys)) (p - at) = rw (← en) eb in
+    let r : drop (p - at) (take len ys) ≡ take (len - before) (drop before ys) = sym (drop-min (take len ys) (p - at)) ∙ rw (← b) (drop-take before len ys) in
+    let l : length (take (len - before) (drop before ys)) ≡ n - before = ap length (sym (drop-take before len ys)) ∙ length-drop before (take len ys) ∙ rw (← en) in
+    record {
+      counted = rw (← en) eq;
+      stored = ed ∙ fits-take d start (drop before ys) (len - before) k (rw l ek) ∙ rw (← r, es) (sym (placed-is p d at (take len ys)));
+    }
+
 pub stored-run : (d : List ℕ) (at b n : ℕ) {k q : ℕ} {d′ : List ℕ}
     → k ≡ min n (length d - at) → d′ ≡ sets d at (replicate k b) → q ≡ more at n → Stored d at (replicate n b) q d′
 stored-run d at b n {k} {q} {d′} ek es eq =
@@ -117,19 +192,22 @@ stored-run d at b n {k} {q} {d′} ek es eq =
 
 -- ---- a whole that is stored piece by piece
 
--- from `start` on the list d₀ was to take the whole; it is d by now, the next place is `at`, and `rest` is still to come
-pub record SoFar (whole d₀ : List ℕ) (start : ℕ) (d : List ℕ) (at : ℕ) (rest : List ℕ) : Type 0 where
+-- from `start` on the list d₀, which begins at place k, was to take the whole; it is d by now, the next place is `at`, and `rest` is still to come
+pub record SoFarAt (k : ℕ) (whole d₀ : List ℕ) (start : ℕ) (d : List ℕ) (at : ℕ) (rest : List ℕ) : Type 0 where
   pub written : List ℕ
-  pub stored : Stored d₀ start written at d
+  pub stored : StoredAt k d₀ start written at d
   pub adds-up : written ++ rest ≡ whole
 
-pub nothing-yet : {whole d : List ℕ} {start at : ℕ} (written rest : List ℕ) {d₁ : List ℕ} → Stored d start written at d₁ → whole ≡ written ++ rest
-    → SoFar whole d start d₁ at rest
+abbrev pub SoFar : List ℕ → List ℕ → ℕ → List ℕ → ℕ → List ℕ → Type 0
+SoFar = SoFarAt 0
+
+pub nothing-yet : {k : ℕ} {whole d : List ℕ} {start at : ℕ} (written rest : List ℕ) {d₁ : List ℕ} → StoredAt k d start written at d₁ → whole ≡ written ++ rest
+    → SoFarAt k whole d start d₁ at rest
 nothing-yet written rest s e = record { written = written; stored = s; adds-up = sym e }
 
 -- the next piece
-pub go-on : {whole d₀ d d₁ : List ℕ} {start at next : ℕ} {rest : List ℕ} (piece rest′ : List ℕ) → length d₀ ≤ cap
-    → SoFar whole d₀ start d at rest → rest ≡ piece ++ rest′ → Stored d at piece next d₁ → SoFar whole d₀ start d₁ next rest′
+pub go-on : {k : ℕ} {whole d₀ d d₁ : List ℕ} {start at next : ℕ} {rest : List ℕ} (piece rest′ : List ℕ) → length d₀ ≤ cap - k
+    → SoFarAt k whole d₀ start d at rest → rest ≡ piece ++ rest′ → StoredAt k d at piece next d₁ → SoFarAt k whole d₀ start d₁ next rest′
 go-on piece rest′ h w e s = record {
   written = w .written ++ piece;
   stored = stored-append (w .written) piece h (w .stored) s;
@@ -137,8 +215,8 @@ go-on piece rest′ h w e s = record {
 }
 
 -- the last piece
-pub all-there : {whole d₀ d d₁ : List ℕ} {start at next : ℕ} {rest : List ℕ} → length d₀ ≤ cap
-    → SoFar whole d₀ start d at rest → Stored d at rest next d₁ → Stored d₀ start whole next d₁
+pub all-there : {k : ℕ} {whole d₀ d d₁ : List ℕ} {start at next : ℕ} {rest : List ℕ} → length d₀ ≤ cap - k
+    → SoFarAt k whole d₀ start d at rest → StoredAt k d at rest next d₁ → StoredAt k d₀ start whole next d₁
 all-there {rest = rest} h w s = rw (w .adds-up) at (stored-append (w .written) rest h (w .stored) s)
 
 -- ---- records of k numbers each

@@ -4,7 +4,7 @@ ghost use mathlib.Core.List.{[], _∷_};
 ghost use Prim.Native.Nat.{_+_, _-_, _≤_, _<_, min};
 ghost use lib.ListN.{length, take, replicate};
 ghost use lib.Seq.{sets};
-ghost use Rattle.lent.specs.Fit.{more, stretch, Stored};
+ghost use Rattle.lent.specs.Fit.{more, stretch, base, Stored, Noted};
 
 // A count goes on by n, up to a cap that no slice's length reaches.
 pub fn more(at: usize, n: usize) -> usize
@@ -82,13 +82,13 @@ fn copy(d: &mut [u8], at: usize, source: &[u8], start: usize, n: usize)
     }
 }
 
-fn copy_words(d: &mut [u64], at: usize, words: [u64; 10], n: usize)
-    requires { ⌜ (n ≤ length (now d) - at) × (n ≤ 10) ⌝ }
-    ensures { λ _. ⌜ now (d .exit) ≡ sets (now (d .entry)) at (take n words) ⌝ }
+fn copy_words(d: &mut [u64], at: usize, words: [u64; 10], start: usize, n: usize)
+    requires { ⌜ (n ≤ length (now d) - at) × (n ≤ 10 - start) ⌝ }
+    ensures { λ _. ⌜ now (d .exit) ≡ sets (now (d .entry)) at (stretch words start n) ⌝ }
 {
     let mut i = 0;
     while i < n {
-        d[at + i] = words[i];
+        d[at + i] = words[start + i];
         i += 1;
     }
 }
@@ -118,6 +118,28 @@ pub fn put_words(d: &mut [u64], at: usize, words: [u64; 10], count: usize) -> us
 {
     let n = fitting(10, 0, count);
     let fits = fitting(d.len(), at, n);
-    copy_words(d, at, words, fits);
+    copy_words(d, at, words, 0, fits);
     more(at, n)
+}
+
+// The place in a window of findings, whose first is 2^62.
+pub fn in_window(at: usize) -> usize
+    ensures { λ r. ⌜ r ≡ at - base ⌝ }
+{
+    if at < 4611686018427387904 {
+        return 0;
+    }
+    at - 4611686018427387904
+}
+
+// The first `count` numbers of a finding, at most ten: those that lie in the window.
+pub fn note_words(d: &mut [u64], at: usize, words: [u64; 10], count: usize) -> usize
+    ensures { λ r. ⌜ Noted (now (d .entry)) at (take count words) r (now (d .exit)) ⌝ }
+{
+    let all = fitting(10, 0, count);
+    let before = fitting(4611686018427387904, at, all);
+    let start = in_window(at);
+    let fits = fitting(d.len(), start, all - before);
+    copy_words(d, start, words, before, fits);
+    more(at, all)
 }

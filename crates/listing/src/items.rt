@@ -1,12 +1,10 @@
-// The lists of a finished job, a line for each item.
-use crate::finding::finding;
+// The stops and segments of a finished job, a line for each item.
 use crate::words::end;
 use crate::words::number;
 use crate::words::text;
 use crate::words::word;
 
 pub enum List {
-    Findings,
     Stops,
     Segments,
 }
@@ -37,7 +35,6 @@ fn segment(list: &[u64], at: usize) {
 fn item(list: &[u64], what: List, i: usize) {
     if i < 512 {
         match what {
-            List::Findings => finding(list, i * 10),
             List::Stops => stop(list, i * 3),
             List::Segments => segment(list, i * 3),
         }

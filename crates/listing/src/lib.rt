@@ -1,10 +1,11 @@
 // Document 01's listing of a job.
 use crate::items::List;
 use crate::items::items;
+use crate::lines::findings;
 use writer::Answer;
 
-mod finding;
 mod items;
+mod lines;
 mod words;
 
 // Lends 65,536 bytes and 512 places in each other list, and prints the listing or `refused` and a number; where it is 7, the sizes that it would take
@@ -12,13 +13,14 @@ mod words;
 pub fn print(job: &[u8]) {
     let mut document = [0u8; 65536];
     let mut segments = [0u64; 1536];
-    let mut findings = [0u64; 5120];
     let mut stops = [0u64; 1536];
-    let answer = writer::write(job, &mut document, &mut segments, &mut findings, &mut stops);
+    let listing = baktuven::listed(job, &mut document, &mut segments, &mut stops);
+    let answer = listing.answer;
     match answer {
         Answer::Done(bytes, s, f, p) => {
             words::counts(1, b"done", bytes, s, f, p);
-            items(&findings, List::Findings, f);
+            let list = listing.findings;
+            findings(list, f);
             items(&stops, List::Stops, p);
             items(&segments, List::Segments, s);
             words::bytes(&document, bytes);

@@ -4,7 +4,7 @@ use mathlib.Core.Path.{_≡_, refl, sym, ap, _∙_}
 use mathlib.Core.Logic.{inl}
 use mathlib.Core.Bool.{true, false}
 use mathlib.Core.List.{List, [], _∷_}
-use mathlib.Core.Option.{none, Option·none-ne-some}
+use mathlib.Core.Option.{none, some, Option·none-ne-some}
 use native.Mathlib.Omega.{arith}
 use Rattle.format.specs.Spec.{Loop, noLoop}
 use Rattle.format.specs.Ask as A
@@ -30,7 +30,7 @@ use Rattle.walk.specs.Check.{fits, treeTests, planTests, completeOk}
 use Rattle.walk.proofs.CheckRight.{check-right}
 use Rattle.emit.specs.Puts.{cellText, putCell, rowPut}
 use Rattle.complete.specs.Complete.{CompletePlan}
-use Rattle.lossless.specs.Due.{rowDue, stepDue, stepCounters, stepsDue, dueSegments, duesOf}
+use Rattle.lossless.specs.Due.{rowDue, stepDue, stepCounters, stepsDue, dueSegments, duesOf, sourcesOf}
 use Rattle.lossless.specs.Separators.{separatorHeld}
 use Rattle.lossless.specs.NothingLost.{walkedOut, ReadsDue}
 use Rattle.lossless.proofs.Words.{all-get}
@@ -80,6 +80,11 @@ pub dues : duesOf (dueSegments listing)
     ≡ record { id = CLP; parts = at 1 (65 ∷ 49 ∷ []) ∷ [] } ∷ record { id = SVC; parts = at 1 (72 ∷ 67 ∷ []) ∷ at 2 (49 ∷ 48 ∷ 48 ∷ []) ∷ [] } ∷ record { id = CLP; parts = at 1 (66 ∷ 50 ∷ []) ∷ [] } ∷ []
 unfolding dueSegments stepsDue stepDue stepCounters rowDue rowPut putCell cellText A.identifierOf A.loopOf A.planOf A.plannedOf A.dataOf C.optGet C.get C.bitOf C.valueOf C.held C.cellIn C.bytesOf C.between intText signed countText figures size firstFrom
 dues = rw steps refl
+
+-- table and row of the listing's lines S
+pub sources : sourcesOf (dueSegments listing) ≡ some (0, 0) ∷ some (1, 0) ∷ some (0, 1) ∷ []
+unfolding dueSegments stepsDue stepDue stepCounters rowDue
+sources = rw steps refl
 
 no-separator : separatorHeld listing ≡ false
 unfolding separatorHeld separators memberOf dueSegments stepsDue stepDue stepCounters rowDue cellText A.identifierOf A.loopOf A.planOf A.plannedOf A.dataOf C.optGet C.get C.bitOf C.valueOf C.held C.cellIn C.bytesOf C.between intText signed countText figures size firstFrom

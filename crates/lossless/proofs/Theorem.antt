@@ -31,7 +31,7 @@ use Rattle.lossless.specs.Due.{DueSegment, rowCells, chunkCells, fieldTe
 use Rattle.lossless.specs.Separators.{holdsSeparator, segmentHolds, separatorHeld}
 use Rattle.lossless.specs.NothingLost.{walkedOut, ReadsDue, NothingLost}
 use Rattle.lossless.proofs.Words.{none-left, none-append}
-use Rattle.lossless.proofs.Bytes.{dues-append, walked-bytes, walked-stops}
+use Rattle.lossless.proofs.Bytes.{dues-append, walked-bytes, walked-sources, walked-stops}
 use Rattle.lossless.proofs.Tours.{Closed, tour-so}
 use Rattle.lossless.proofs.Found.{due-append, due-one, chunk-steps, all-found}
 use Rattle.lossless.proofs.Forest.{passed-tree}
@@ -153,6 +153,7 @@ module _ (b : List ℕ) (p : Passed b) (C : CompletePlan (jobOf b)) where
 pub nothing-lost : (b : List ℕ) → Passed b → NothingLost (jobOf b)
 nothing-lost b p = record {
   document = λ C h. reads-due b p C h;
+  sources = walked-sources (jobOf b);
   stops = λ C. rw (walked-stops (jobOf b)) (stops-once (outlineOf (jobOf b)) (C .walked (passed-tree b p)));
   stop-order = walked-stops (jobOf b);
   found = all-found (jobOf b);

@@ -1,10 +1,10 @@
 -- A job's due segments (document 01: "those that the definitions of nest, walk and skipping give, in order, from the job alone"): for each step of
--- the walk that writes, the identifier, the parts, and the texts of its cells and envelope fields. The one thing that a step needs to know of those
--- before it is the next control number of its loop.
+-- the walk that writes, the identifier, the parts, the source, and the texts of its cells and envelope fields. The one thing that a step needs to know
+-- of those before it is the next control number of its loop.
 use Prim.Native.Nat.{ℕ, zero, suc, _+_, _*_, _-_, _%_, _^_}
 use mathlib.Core.Bool.{Bool}
 use mathlib.Core.List.{List, [], _∷_, _++_, map}
-use mathlib.Core.Option.{Option}
+use mathlib.Core.Option.{Option, none, some}
 use lib.ListN.{getD, set, replicate}
 use Rattle.format.specs.Spec.{ElementDef}
 use Rattle.format.specs.Plan.{Value, fromColumn, fromGroup, fromCode, ElementPlan}
@@ -18,14 +18,15 @@ use Rattle.nest.specs.OfJob.{outlineOf}
 use Rattle.walk.specs.Tour.{Step, enters, stop, opener, rowSegment, fill, chunk, closer, tour}
 use Rattle.emit.specs.Puts.{maxIn, cellText, rowPut, chunkPuts}
 use Rattle.emit.specs.Envelope.{Sourced, sourceAt, paddedTo, openerPut, closerPut, controlIn}
-use Rattle.emit.specs.Fold.{next, countOf}
+use Rattle.emit.specs.Fold.{firstRow, next, countOf}
 
 pub record DueSegment : Type 0 where
   pub due : Due  -- identifier and parts
   pub tried : List (List ℕ)  -- its cell and envelope texts, those of codes and closers aside
+  pub source : Option (ℕ × ℕ)  -- the table and row that it comes from, of a repeat segment the first of its rows; none: the envelope
 
-abbrev pub dueWith : List ℕ → List Part → List (List ℕ) → DueSegment
-dueWith id parts tried = record { due = record { id = id; parts = parts }; tried = tried }
+abbrev pub dueWith : List ℕ → List Part → List (List ℕ) → Option (ℕ × ℕ) → DueSegment
+dueWith id parts tried source = record { due = record { id = id; parts = parts }; tried = tried; source = source }
 
 -- ---- cell texts
 
@@ -70,19 +71,19 @@ openerDue j l cs = on ((loopOf j l) .control) (λ c.
     let trigger = (loopOf j l) .trigger in
     let number = getD cs l 0 in
     dueWith trigger ((openerPut j l c number) .parts)
-    (fieldTexts j trigger (depthOf j l) (c .opener) (controlIn j l c number) (on (segmentDef j trigger) (λ d. d) [])) ∷ []) []
+    (fieldTexts j trigger (depthOf j l) (c .opener) (controlIn j l c number) (on (segmentDef j trigger) (λ d. d) [])) none ∷ []) []
 
 unfoldable pub rowDue : Job → ℕ → ℕ → ℕ → ℕ → DueSegment
 rowDue j l i t r =
     let id = identifierOf j l i in
     let es = (plannedOf j l i) .elements in
-    dueWith id ((rowPut j id t r es) .parts) (rowCells j id t r es)
+    dueWith id ((rowPut j id t r es) .parts) (rowCells j id t r es) (some (t, r))
 
 unfoldable pub chunkDue : Job → ℕ → ℕ → ℕ → List ℕ → DueSegment
 chunkDue j l i t rs =
     let id = identifierOf j l i in
     let es = (plannedOf j l i) .elements in
-    dueWith id (sorted ((chunkPuts j id t (stepOf j t) 0 es rs) .parts)) (chunkCells j id t (stepOf j t) 0 es rs)
+    dueWith id (sorted ((chunkPuts j id t (stepOf j t) 0 es rs) .parts)) (chunkCells j id t (stepOf j t) 0 es rs) (firstRow t rs)
 
 -- the number that the last opener took
 abbrev pub lastTaken : ℕ → List ℕ → ℕ
@@ -90,7 +91,7 @@ lastTaken l cs = (getD cs l 0 + (2 ^ 64 - 1)) % 2 ^ 64
 
 unfoldable pub closerDue : Job → ℕ → Bool → ℕ → ℕ → List ℕ → List DueSegment
 closerDue j l opened children count cs = on ((loopOf j l) .control) (λ c. on ((loopOf j l) .end) (λ id.
-    dueWith id ((closerPut c (pick opened (controlIn j l c (lastTaken l cs)) []) (countOf (c .counted) children count)) .parts) [] ∷ []) []) []
+    dueWith id ((closerPut c (pick opened (controlIn j l c (lastTaken l cs)) []) (countOf (c .counted) children count)) .parts) [] none ∷ []) []) []
 
 unfoldable pub stepDue : Job → Step → List ℕ → List DueSegment
 stepDue j (enters l) cs = []
@@ -124,3 +125,7 @@ dueSegments j = stepsDue j (tour (outlineOf j)) (replicate 32 (j .envelope .cont
 -- identifiers and parts alone
 abbrev pub duesOf : List DueSegment → List Due
 duesOf = map (λ (d : DueSegment). d .due)
+
+-- sources alone
+abbrev pub sourcesOf : List DueSegment → List (Option (ℕ × ℕ))
+sourcesOf = map (λ (d : DueSegment). d .source)

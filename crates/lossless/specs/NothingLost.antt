@@ -3,7 +3,7 @@ use Prim.Native.Nat.{ℕ, _<_}
 use mathlib.Core.Path.{_≡_}
 use mathlib.Core.Logic.{_⊎_}
 use mathlib.Core.Bool.{false, _&&_}
-use mathlib.Core.List.{List, _++_}
+use mathlib.Core.List.{List, _++_, map}
 use mathlib.Core.Option.{Option, none, some}
 use lib.ListN.{length}
 use lib.Dec.{eqb}
@@ -20,14 +20,18 @@ use Rattle.nest.specs.OfJob.{outlineOf}
 use Rattle.nest.specs.NestFindings.{nestFindings}
 use Rattle.walk.specs.Tour.{Stop, stopList, tour}
 use Rattle.walk.specs.Stops.{RowLoop}
-use Rattle.emit.specs.Fold.{Out, start, stepsOut, separatorsOf}
+use Rattle.emit.specs.Fold.{Out, Traced, start, stepsOut, separatorsOf}
 use Rattle.complete.specs.Complete.{CompletePlan}
-use Rattle.lossless.specs.Due.{dueSegments, duesOf}
+use Rattle.lossless.specs.Due.{dueSegments, duesOf, sourcesOf}
 use Rattle.lossless.specs.Separators.{separatorHeld, delimiterFound}
 
 -- what the whole walk writes and reports
 abbrev pub walkedOut : Job → Out
 walkedOut j = stepsOut j (tour (outlineOf j)) (start j)
+
+-- the sources in a trace list: table and row, or none
+abbrev pub tracedSources : List Traced → List (Option (ℕ × ℕ))
+tracedSources = map (λ (x : Traced). x .row)
 
 -- ---- the document
 
@@ -67,7 +71,9 @@ pub record StopsOnce (o : Outline) (stops : List Stop) : Type 0 where
 pub record NothingLost (j : Job) : Type 0 where
   -- without a delimiter finding the document reads back
   pub document : CompletePlan j → separatorHeld j ≡ false → ReadsDue j
-  -- delimiter findings or not, the rows are stopped at as they should
+  -- delimiter findings or not, the trace list has an item for each due segment, in order, with its source
+  pub sources : tracedSources ((walkedOut j) .segments) ≡ sourcesOf (dueSegments j)
+  -- and the rows are stopped at as they should
   pub stops : CompletePlan j → StopsOnce (outlineOf j) ((walkedOut j) .stops)
   -- the list of stops is the walk's
   pub stop-order : (walkedOut j) .stops ≡ stopList (tour (outlineOf j))

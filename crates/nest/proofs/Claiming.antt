@@ -6,8 +6,10 @@ use mathlib.Core.List.{List, [], _∷_}
 use mathlib.Core.Option.{Option, none, some}
 use native.Mathlib.Omega.{arith}
 use native.Mathlib.Nat.{suc-mul}
-use lib.ListN.{length, getD, List·getD-eq-default}
+use lib.ListN.{length, getD, set, replicate, length-set, List·getD-eq-default}
+use lib.Seq.{getD-set-same, getD-set-other}
 use lib.Dec.{eqb, leb, ltb}
+use borrow.Author.Count.{below-more}
 use borrow.Author.Tests.{eq-eqb, ne-eqb, eqb-true, eqb-false, ltb-true, ltb-false, leb-false}
 use Rattle.codec.specs.Limits.{none-of, none-in}
 use Rattle.format.specs.Spec as S
@@ -35,8 +37,9 @@ use Rattle.nest.specs.Outline.{Outline, rowTable, kindOf, tableOf}
 use Rattle.nest.specs.Nest.{Anchor, depthOf, anchors, claimIn, claimOn}
 use Rattle.nest.specs.NestFindings.{lastTable}
 use Rattle.nest.specs.Claims.{claimBy, anchorTable}
+use Rattle.nest.specs.Keys.{Deep}
 use Rattle.nest.specs.OfJob.{outlineOf, kindIn}
-use Rattle.nest.proofs.Anchors.{left, left-all, left-other, left-no-rows, left-anchor, left-down, left-end, claim-here, claim-next, claim-none}
+use Rattle.nest.proofs.Anchors.{depth-small, left, left-all, left-other, left-no-rows, left-anchor, left-down, left-end, claim-here, claim-next, claim-none}
 use Rattle.nest.proofs.Bridge.{kind-is, loops-is, loop-count-is, reference-is}
 use Rattle.nest.proofs.Ways.{refers, refers-not}
 
@@ -64,6 +67,29 @@ loop-small b w t k n l c h e = go (ltb t (length (jobOf b .spec .tables))) refl
     go false q =
         let z : length ((getD (jobOf b .spec .tables) t S.noTable) .loops) ≡ 0 = ap (λ (s : S.Table). length (s .loops)) (List·getD-eq-default (jobOf b .spec .tables) S.noTable {n = t} (ltb-false _ _ q)) in
         absurd (omega (arith, z, c′))
+
+-- ---- the depths of all loops: those of the first n
+pub record Sounded (j : Outline) (n : ℕ) (ds : List ℕ) : Type 0 where
+  pub done : (p : ℕ) → p < n → getD ds p 0 ≡ depthOf j p
+  pub size : length ds ≡ 32
+
+pub sounded-none : (j : Outline) → Sounded j 0 (replicate 32 0)
+sounded-none j = record { done = λ p h. absurd (omega arith); size = refl }
+
+pub sounded-next : (j : Outline) (n : ℕ) (ds : List ℕ) (d : ℕ) → n < 32 → Sounded j n ds → d ≡ depthOf j n → Sounded j (n + 1) (set ds n d)
+sounded-next j n ds d h w e = record {
+  done = below-more (λ p. getD (set ds n d) p 0 ≡ depthOf j p) n
+      (λ p l. getD-set-other ds n p d 0 (λ z. omega (arith, l, z)) ∙ w .done p l)
+      (getD-set-same ds n d 0 (omega (arith, h, w .size)) ∙ e);
+  size = (simp length-set) ∙ w .size;
+}
+
+pub sounded-end : (j : Outline) (n : ℕ) (ds : List ℕ) → Sounded j n ds → 32 ≤ n → Deep j ds
+sounded-end j n ds w h = record { of = λ l k. w .done l (omega arith) }
+
+-- a depth is small
+pub depth-fits : (j : Job) (l d : ℕ) → length (j .spec .loops) ≤ 32 → d ≡ depthOf (outlineOf j) l → d ≤ 32
+depth-fits j l d h e = omega (arith, depth-small (outlineOf j) (length (outlineOf j .loops)) l, loop-count-is j, h, e)
 
 -- ---- an anchor
 pub rows-kind : (k : Instances) (t : TableId) → k ≡ Rows t → some (t .0) ≡ rowTable (kindIn (instancesOf k))

@@ -13,7 +13,7 @@ use Rattle.column.specs.Cell.{referenceOf}
 use Rattle.column.specs.Answers.{intIs}
 use Rattle.column.specs.declared.OptInt.{OptInt}
 use Rattle.column.specs.declared.OptInt.the-variants.{Number, NoNumber}
-use Rattle.lent.specs.Fit.{cap, Stored}
+use Rattle.lent.specs.Fit.{wide, Noted}
 use Rattle.lent.proofs.Laws.{stored-append}
 use Rattle.spec.specs.Answers.{numberOf}
 use Rattle.spec.specs.declared.ids.Number.{Number as Numbered}
@@ -69,7 +69,7 @@ module _ (j : Job) (t r u p : ℕ) where
   pub against-all : contradictions (outlineOf j) t r (rowOf u p) ≡ each against (upTo 0 (length ((A.tableOf j u) .ancestors)))
   against-all = contradictions-all (outlineOf j) t r (rowOf u p) ∙ rw (ancestors-is j u) (each-from (contradictionAt (outlineOf j) t r (rowOf u p)) ((A.tableOf j u) .ancestors) (length ((A.tableOf j u) .ancestors) - 0) 0 (omega arith))
 
-  pub against-one : (d d′ : List ℕ) (at n k a : ℕ) → a ≡ getD ((A.tableOf j u) .ancestors) k 0 → Stored d at (words (contradictionAt (outlineOf j) t r (rowOf u p) a)) n d′ → Stored d at (words (against k)) n d′
+  pub against-one : (d d′ : List ℕ) (at n k a : ℕ) → a ≡ getD ((A.tableOf j u) .ancestors) k 0 → Noted d at (words (contradictionAt (outlineOf j) t r (rowOf u p) a)) n d′ → Noted d at (words (against k)) n d′
   against-one d d′ at n k a e s = rw (← e) s
 
 -- ---- missing parents
@@ -111,7 +111,7 @@ module _ (j : Job) (t r : ℕ) (again : repeated (outlineOf j) t ≡ true) (a : 
       missing-unclaimed (outlineOf j) t r again c ∙ ap (λ n. missing t r n none ∷ []) (sym l)
 
 -- ---- a row, by where it hangs
-pub stored-as : (d d′ : List ℕ) (at n : ℕ) (fs gs : List Finding) → fs ≡ gs → Stored d at (words gs) n d′ → Stored d at (words fs) n d′
+pub stored-as : (d d′ : List ℕ) (at n : ℕ) (fs gs : List Finding) → fs ≡ gs → Noted d at (words gs) n d′ → Noted d at (words fs) n d′
 stored-as d d′ at n fs gs e s = rw e s
 
 module _ (j : Job) (t r : ℕ) (p : Place) (h : Hung (outlineOf j) t r p) where
@@ -126,10 +126,10 @@ module _ (j : Job) (t r : ℕ) (p : Place) (h : Hung (outlineOf j) t r p) where
       row-loose (outlineOf j) t r (sym (h .row) ∙ ap (λ n. rowPlaced n (p .table .0)) q)
 
 -- ---- duplicate keys, then the rows
-pub findings-both : (o : Outline) (d d₁ d₂ : List ℕ) (at p q : ℕ) → length d ≤ cap
-    → Stored d at (words (each (duplicates o) (upTo 0 (length (o .rowCounts))))) p d₁
-    → Stored d₁ p (words (each (tableFindings o) (upTo 0 (length (o .tables))))) q d₂
-    → Stored d at (words (nestFindings o)) q d₂
+pub findings-both : (o : Outline) (d d₁ d₂ : List ℕ) (at p q : ℕ) → length d ≤ wide
+    → Noted d at (words (each (duplicates o) (upTo 0 (length (o .rowCounts))))) p d₁
+    → Noted d₁ p (words (each (tableFindings o) (upTo 0 (length (o .tables))))) q d₂
+    → Noted d at (words (nestFindings o)) q d₂
 findings-both o d d₁ d₂ at p q h s t =
     let fs = each (duplicates o) (upTo 0 (length (o .rowCounts))) in
     let gs = each (tableFindings o) (upTo 0 (length (o .tables))) in

@@ -17,3 +17,4 @@ pub mod Reports
 pub mod Claiming
 pub mod Placing
 pub mod Lacking
+pub mod Rising

@@ -25,7 +25,7 @@ use Rattle.nest.specs.Nest.{hasKeys, firstRow, referred, depth, depthOf}
 use Rattle.nest.specs.Found.{foundBy}
 use Rattle.nest.specs.OfJob.{outlineOf}
 use Rattle.nest.proofs.Scan.{some-at, some-not-at, some-past, first-here, first-next, first-end}
-use Rattle.nest.proofs.NestLaws.{keysFrom, keys-all, keys-at, keys-next, keys-end, keyless, keyed, referred-null, referred-by}
+use Rattle.nest.proofs.NestLaws.{keysFrom, keys-all, keys-at, keys-next, keys-end, referred-null, referred-by}
 use Rattle.nest.proofs.Anchors.{depth-top, depth-up, depth-spent}
 use Rattle.nest.proofs.Bridge.{key-is, reference-is, rows-is, table-count-is, loop-count-is, ancestors-is, parent-is}
 
@@ -79,12 +79,6 @@ module _ (j : Job) (u v : ℕ) where
 
   pub row-nowhere : (k n : ℕ) → n ≡ (A.dataOf j u) .rows → n ≤ k → sought 0 ≡ sought k → foundBy none ≡ foundBy (sought 0)
   row-nowhere k n c h i = ap foundBy (sym (i ∙ first-end _ k _ (rw (rows-is j u) (omega arith))))
-
-  pub row-keyed : (x : Bool) (f : Found) → x ≡ hasKeys (outlineOf j) u → x ≡ true → f ≡ foundBy (sought 0) → f ≡ foundBy (firstRow (outlineOf j) u v)
-  row-keyed x f e q h = h ∙ ap foundBy (sym (keyed (outlineOf j) u v (sym e ∙ q)))
-
-  pub row-keyless : (x : Bool) → x ≡ hasKeys (outlineOf j) u → x ≡ false → Nothing ≡ foundBy (firstRow (outlineOf j) u v)
-  row-keyless x e q = ap foundBy (sym (keyless (outlineOf j) u v (sym e ∙ q)))
 
 -- ---- the row that a reference names
 module _ (j : Job) (t r u : ℕ) (x : OptInt) (e : intIs x ≡ referenceOf (A.dataOf j t) u r) where

@@ -7,3 +7,4 @@ pub mod Found
 pub mod OfJob
 pub mod Ready
 pub mod Claims
+pub mod Keys

@@ -1,6 +1,6 @@
 // Duplicate keys: each row whose key an earlier row of its table has.
 ghost use mathlib.Core.Path.{_≡_};
-ghost use Rattle.lent.specs.Fit.{Stored};
+ghost use Rattle.lent.specs.Fit.{Noted};
 ghost use Rattle.nest.specs.Lists.{each, upTo};
 ghost use Rattle.nest.specs.Outline.{rowCount};
 ghost use Rattle.nest.specs.Nest.{hasKeys};
@@ -10,7 +10,7 @@ ghost use mathlib.Core.Bool.{true};
 ghost use lib.ListN.{length};
 use crate::Found;
 use crate::keys::first_with;
-use crate::keys::has_keys;
+use crate::keys::may_repeat;
 use spec::ids::RowId;
 use spec::ids::TableId;
 
@@ -24,14 +24,14 @@ pub fn duplicate_at(
     r: RowId,
 ) -> usize
     requires { ⌜ Ready (now job) (now index) × (hasKeys (outlineAt (now job)) (t .0) ≡ true) ⌝ }
-    ensures { λ n. ⌜ Stored (now (findings .entry)) at (words (duplicateAt (outlineAt (now (job .entry))) (t .0) (r .0))) n (now (findings .exit)) ⌝ }
+    ensures { λ n. ⌜ Noted (now (findings .entry)) at (words (duplicateAt (outlineAt (now (job .entry))) (t .0) (r .0))) n (now (findings .exit)) ⌝ }
 {
     let key = tables::data::key(job, index, t, r);
     let found = first_with(job, index, t, key);
     match found {
         Found::Row(f) => {
             if f.0 < r.0 {
-                return lent::put_words(
+                return lent::note_words(
                     findings,
                     at,
                     [0, t.0 as u64, r.0 as u64, key, f.0 as u64, 0, 0, 0, 0, 0],
@@ -55,11 +55,11 @@ pub fn table_duplicates(
     t: TableId,
 ) -> usize
     requires { ⌜ Ready (now job) (now index) ⌝ }
-    ensures { λ n. ⌜ Stored (now (findings .entry)) at (words (duplicates (outlineAt (now (job .entry))) (t .0))) n (now (findings .exit)) ⌝ }
+    ensures { λ n. ⌜ Noted (now (findings .entry)) at (words (duplicates (outlineAt (now (job .entry))) (t .0))) n (now (findings .exit)) ⌝ }
 {
-    let keyed = has_keys(job, index, t);
+    let doubtful = may_repeat(job, index, t);
     let mut next = lent::more(at, 0);
-    if keyed {
+    if doubtful {
         let n = tables::data::row_count(job, index, t);
         let mut r: u32 = 0;
         while r < n {
@@ -74,7 +74,7 @@ pub fn table_duplicates(
 // The duplicate keys of all tables of data, table by table.
 pub fn all_duplicates(job: &[u8], index: &[u32], findings: &mut [u64], at: usize) -> usize
     requires { ⌜ Ready (now job) (now index) ⌝ }
-    ensures { λ n. ⌜ Stored (now (findings .entry)) at (words (each (duplicates (outlineAt (now (job .entry)))) (upTo 0 (length (outlineAt (now (job .entry)) .rowCounts))))) n (now (findings .exit)) ⌝ }
+    ensures { λ n. ⌜ Noted (now (findings .entry)) at (words (each (duplicates (outlineAt (now (job .entry)))) (upTo 0 (length (outlineAt (now (job .entry)) .rowCounts))))) n (now (findings .exit)) ⌝ }
 {
     let count = tables::data::data_count(job, index);
     let mut next = lent::more(at, 0);

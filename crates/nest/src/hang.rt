@@ -9,8 +9,10 @@ ghost use Rattle.nest.specs.Nest.{depthOf, claimIn, anchors};
 ghost use Rattle.nest.specs.NestFindings.{lastTable};
 ghost use Rattle.nest.specs.OfJob.{kindIn};
 ghost use Rattle.nest.specs.Claims.{claimBy, anchorTable, Hung};
+ghost use Rattle.nest.specs.Keys.{Keyed, Deep};
 ghost use Rattle.nest.specs.Ready.{Ready, outlineAt};
 use crate::Found;
+use crate::keys::Keys;
 use crate::keys::first_row;
 use crate::keys::referred;
 use column::OptInt;
@@ -78,12 +80,29 @@ pub fn row_table(kind: Instances) -> Number
     }
 }
 
+// How many loops stand above each loop.
+pub fn all_depths(job: &[u8], index: &[u32]) -> [u8; 32]
+    requires { ⌜ Ready (now job) (now index) ⌝ }
+    ensures { λ ds. ⌜ Deep (outlineAt (now (job .entry))) ds ⌝ }
+{
+    let mut depths = [0u8; 32];
+    let mut l: u32 = 0;
+    while l < 32 {
+        let d = depth(job, index, LoopId(l));
+        let i = l as usize;
+        depths[i] = d as u8;
+        l = l + 1;
+    }
+    depths
+}
+
 // The table whose rows loop l enters, if it stands at depth d.
-pub fn anchor(job: &[u8], index: &[u32], l: LoopId, d: u32) -> Number
-    requires { ⌜ Ready (now job) (now index) × (l .0 < 32) ⌝ }
+pub fn anchor(job: &[u8], index: &[u32], depths: [u8; 32], l: LoopId, d: u32) -> Number
+    requires { ⌜ Ready (now job) (now index) × Deep (outlineAt (now job)) depths × (l .0 < 32) ⌝ }
     ensures { λ r. ⌜ numberOf r ≡ anchorTable (outlineAt (now (job .entry))) (l .0) d ⌝ }
 {
-    let n = depth(job, index, l);
+    let i = l.0 as usize;
+    let n = depths[i] as u32;
     if n == d {
         return row_table(plan::planned::instances(job, index, l));
     }
@@ -91,8 +110,8 @@ pub fn anchor(job: &[u8], index: &[u32], l: LoopId, d: u32) -> Number
 }
 
 // The first anchor, the deepest first and equal depths in list order, whose reference row r of the repeat table t has.
-pub fn claim(job: &[u8], index: &[u32], t: TableId, r: RowId) -> Anchored
-    requires { ⌜ Ready (now job) (now index) ⌝ }
+pub fn claim(job: &[u8], index: &[u32], depths: [u8; 32], t: TableId, r: RowId) -> Anchored
+    requires { ⌜ Ready (now job) (now index) × Deep (outlineAt (now job)) depths ⌝ }
     ensures { λ c. ⌜ c ≡ claimBy (claimIn (outlineAt (now (job .entry))) (t .0) (r .0) (anchors (outlineAt (now (job .entry))) (t .0))) (lastTable (t .0) (anchors (outlineAt (now (job .entry))) (t .0))) ⌝ }
 {
     let n = spec::tables::table_loop_count(job, index, t);
@@ -102,7 +121,7 @@ pub fn claim(job: &[u8], index: &[u32], t: TableId, r: RowId) -> Anchored
     loop {
         if i < n {
             let l = spec::tables::table_loop(job, index, t, i);
-            let above = anchor(job, index, l, d);
+            let above = anchor(job, index, depths, l, d);
             i = i + 1;
             match above {
                 Number::Is(u) => {
@@ -133,16 +152,23 @@ pub fn claim(job: &[u8], index: &[u32], t: TableId, r: RowId) -> Anchored
 }
 
 // Where row r of the repeat table t hangs.
-pub fn repeat_place(job: &[u8], index: &[u32], t: TableId, r: RowId) -> Place
-    requires { ⌜ Ready (now job) (now index) × (repeated (outlineAt (now job)) (t .0) ≡ true) ⌝ }
+pub fn repeat_place(
+    job: &[u8],
+    index: &[u32],
+    keys: [Keys; 16],
+    depths: [u8; 32],
+    t: TableId,
+    r: RowId,
+) -> Place
+    requires { ⌜ Ready (now job) (now index) × Keyed (outlineAt (now job)) keys × Deep (outlineAt (now job)) depths × (repeated (outlineAt (now job)) (t .0) ≡ true) ⌝ }
     ensures { λ p. ⌜ Hung (outlineAt (now (job .entry))) (t .0) (r .0) p ⌝ }
 {
-    let anchored = claim(job, index, t, r);
+    let anchored = claim(job, index, depths, t, r);
     match anchored {
         Anchored::Is(k) => {
             let l = k.l;
             let table = k.table;
-            let found = first_row(job, index, table, k.value);
+            let found = first_row(job, index, keys, table, k.value);
             match found {
                 Found::Row(p) => {
                     return Place {
@@ -171,14 +197,14 @@ pub fn repeat_place(job: &[u8], index: &[u32], t: TableId, r: RowId) -> Place
 }
 
 // Where row r of another table t hangs.
-pub fn parent_place(job: &[u8], index: &[u32], t: TableId, r: RowId) -> Place
-    requires { ⌜ Ready (now job) (now index) × (repeated (outlineAt (now job)) (t .0) ≡ false) ⌝ }
+pub fn parent_place(job: &[u8], index: &[u32], keys: [Keys; 16], t: TableId, r: RowId) -> Place
+    requires { ⌜ Ready (now job) (now index) × Keyed (outlineAt (now job)) keys × (repeated (outlineAt (now job)) (t .0) ≡ false) ⌝ }
     ensures { λ p. ⌜ Hung (outlineAt (now (job .entry))) (t .0) (r .0) p ⌝ }
 {
     let parent = spec::tables::table_parent(job, index, t);
     match parent {
         Number::Is(u) => {
-            let found = referred(job, index, t, r, TableId(u));
+            let found = referred(job, index, keys, t, r, TableId(u));
             match found {
                 Found::Row(p) => {
                     return Place {
@@ -207,13 +233,20 @@ pub fn parent_place(job: &[u8], index: &[u32], t: TableId, r: RowId) -> Place
 }
 
 // Where row r of table t hangs.
-pub fn place_of(job: &[u8], index: &[u32], t: TableId, r: RowId) -> Place
-    requires { ⌜ Ready (now job) (now index) ⌝ }
+pub fn place_of(
+    job: &[u8],
+    index: &[u32],
+    keys: [Keys; 16],
+    depths: [u8; 32],
+    t: TableId,
+    r: RowId,
+) -> Place
+    requires { ⌜ Ready (now job) (now index) × Keyed (outlineAt (now job)) keys × Deep (outlineAt (now job)) depths ⌝ }
     ensures { λ p. ⌜ Hung (outlineAt (now (job .entry))) (t .0) (r .0) p ⌝ }
 {
     let again = spec::tables::repeats(job, index, t);
     if again {
-        return repeat_place(job, index, t, r);
+        return repeat_place(job, index, keys, depths, t, r);
     }
-    parent_place(job, index, t, r)
+    parent_place(job, index, keys, t, r)
 }

@@ -6,7 +6,7 @@ ghost use lib.ListN.{length};
 ghost use lib.Seq.{sets};
 ghost use Rattle.nest.specs.Lists.{keep, first, upTo};
 ghost use Rattle.nest.specs.Found.{foundBy, rowAbove, heldAt, hookedAt};
-ghost use Rattle.lent.specs.Fit.{Stored};
+ghost use Rattle.lent.specs.Fit.{base, Noted};
 ghost use Rattle.nest.specs.Nest.{nestArray};
 ghost use Rattle.nest.specs.NestFindings.{nestFindings};
 ghost use Rattle.nest.specs.Ready.{Ready, outlineAt, words};
@@ -127,9 +127,9 @@ pub fn next_hooked(
 // Where each row hangs, three numbers a row, and what is found of the rows: duplicate keys first, then row by row.
 pub fn nest(job: &[u8], index: &[u32], nest: &mut [u32], findings: &mut [u64]) -> usize
     requires { ⌜ Ready (now job) (now index) × (12288 ≤ length (now nest)) ⌝ }
-    ensures { λ n. ⌜ (now (nest .exit) ≡ sets (now (nest .entry)) 0 (nestArray (outlineAt (now (job .entry))))) × Stored (now (findings .entry)) 0 (words (nestFindings (outlineAt (now (job .entry))))) n (now (findings .exit)) ⌝ }
+    ensures { λ n. ⌜ (now (nest .exit) ≡ sets (now (nest .entry)) 0 (nestArray (outlineAt (now (job .entry))))) × Noted (now (findings .entry)) base (words (nestFindings (outlineAt (now (job .entry))))) n (now (findings .exit)) ⌝ }
 {
     nest_rows(job, index, nest);
-    let next = all_duplicates(job, index, findings, 0);
+    let next = all_duplicates(job, index, findings, 4611686018427387904);
     all_findings(job, index, findings, next)
 }

@@ -1,16 +1,20 @@
 // What is found of a row: contradictions with the row that it hangs on, or that it hangs on none.
 ghost use mathlib.Core.Path.{_≡_};
 ghost use mathlib.Core.Bool.{true, false};
-ghost use Rattle.lent.specs.Fit.{Stored};
+ghost use Rattle.lent.specs.Fit.{Noted};
 ghost use Rattle.nest.specs.Outline.{repeated};
 ghost use Rattle.nest.specs.Nest.{rowOf};
 ghost use lib.ListN.{length};
 ghost use Rattle.nest.specs.Lists.{each, upTo};
 ghost use Rattle.nest.specs.NestFindings.{contradictionAt, contradictions, missingAt, rowFindings, tableFindings};
+ghost use Rattle.nest.specs.Keys.{Keyed, Deep};
 ghost use Rattle.nest.specs.Ready.{Ready, outlineAt, words};
 use crate::hang::Anchored;
+use crate::hang::all_depths;
 use crate::hang::claim;
 use crate::hang::place_of;
+use crate::keys::Keys;
+use crate::keys::all_keys;
 use column::OptInt;
 use spec::ids::Number;
 use spec::ids::RowId;
@@ -29,7 +33,7 @@ pub fn contradiction_at(
     a: u32,
 ) -> usize
     requires { ⌜ Ready (now job) (now index) ⌝ }
-    ensures { λ n. ⌜ Stored (now (findings .entry)) at (words (contradictionAt (outlineAt (now (job .entry))) (t .0) (r .0) (rowOf (u .0) (p .0)) a)) n (now (findings .exit)) ⌝ }
+    ensures { λ n. ⌜ Noted (now (findings .entry)) at (words (contradictionAt (outlineAt (now (job .entry))) (t .0) (r .0) (rowOf (u .0) (p .0)) a)) n (now (findings .exit)) ⌝ }
 {
     let own = tables::data::reference(job, index, t, a, r);
     let above = tables::data::reference(job, index, u, a, p);
@@ -40,7 +44,7 @@ pub fn contradiction_at(
                     if v == w {
                         return lent::more(at, 0);
                     }
-                    return lent::put_words(
+                    return lent::note_words(
                         findings,
                         at,
                         [
@@ -81,7 +85,7 @@ pub fn contradictions(
     p: RowId,
 ) -> usize
     requires { ⌜ Ready (now job) (now index) ⌝ }
-    ensures { λ n. ⌜ Stored (now (findings .entry)) at (words (contradictions (outlineAt (now (job .entry))) (t .0) (r .0) (rowOf (u .0) (p .0)))) n (now (findings .exit)) ⌝ }
+    ensures { λ n. ⌜ Noted (now (findings .entry)) at (words (contradictions (outlineAt (now (job .entry))) (t .0) (r .0) (rowOf (u .0) (p .0)))) n (now (findings .exit)) ⌝ }
 {
     let count = spec::tables::ancestor_count(job, index, u);
     let mut next = lent::more(at, 0);
@@ -100,17 +104,18 @@ pub fn repeat_missing(
     index: &[u32],
     findings: &mut [u64],
     at: usize,
+    depths: [u8; 32],
     t: TableId,
     r: RowId,
 ) -> usize
-    requires { ⌜ Ready (now job) (now index) × (repeated (outlineAt (now job)) (t .0) ≡ true) ⌝ }
-    ensures { λ n. ⌜ Stored (now (findings .entry)) at (words (missingAt (outlineAt (now (job .entry))) (t .0) (r .0))) n (now (findings .exit)) ⌝ }
+    requires { ⌜ Ready (now job) (now index) × Deep (outlineAt (now job)) depths × (repeated (outlineAt (now job)) (t .0) ≡ true) ⌝ }
+    ensures { λ n. ⌜ Noted (now (findings .entry)) at (words (missingAt (outlineAt (now (job .entry))) (t .0) (r .0))) n (now (findings .exit)) ⌝ }
 {
-    let anchored = claim(job, index, t, r);
+    let anchored = claim(job, index, depths, t, r);
     match anchored {
         Anchored::Is(k) => {
             let table = k.table;
-            return lent::put_words(
+            return lent::note_words(
                 findings,
                 at,
                 [
@@ -129,7 +134,7 @@ pub fn repeat_missing(
             );
         }
         Anchored::Nothing(last) => {
-            return lent::put_words(
+            return lent::note_words(
                 findings,
                 at,
                 [1, t.0 as u64, r.0 as u64, last.0 as u64, 0, 0, 0, 0, 0, 0],
@@ -149,7 +154,7 @@ pub fn parent_missing(
     r: RowId,
 ) -> usize
     requires { ⌜ Ready (now job) (now index) × (repeated (outlineAt (now job)) (t .0) ≡ false) ⌝ }
-    ensures { λ n. ⌜ Stored (now (findings .entry)) at (words (missingAt (outlineAt (now (job .entry))) (t .0) (r .0))) n (now (findings .exit)) ⌝ }
+    ensures { λ n. ⌜ Noted (now (findings .entry)) at (words (missingAt (outlineAt (now (job .entry))) (t .0) (r .0))) n (now (findings .exit)) ⌝ }
 {
     let parent = spec::tables::table_parent(job, index, t);
     match parent {
@@ -157,7 +162,7 @@ pub fn parent_missing(
             let value = tables::data::reference(job, index, t, u, r);
             match value {
                 OptInt::Number(v) => {
-                    return lent::put_words(
+                    return lent::note_words(
                         findings,
                         at,
                         [1, t.0 as u64, r.0 as u64, u as u64, 1, v, 0, 0, 0, 0],
@@ -165,7 +170,7 @@ pub fn parent_missing(
                     );
                 }
                 OptInt::NoNumber => {
-                    return lent::put_words(
+                    return lent::note_words(
                         findings,
                         at,
                         [1, t.0 as u64, r.0 as u64, u as u64, 0, 0, 0, 0, 0, 0],
@@ -186,15 +191,16 @@ pub fn missing(
     index: &[u32],
     findings: &mut [u64],
     at: usize,
+    depths: [u8; 32],
     t: TableId,
     r: RowId,
 ) -> usize
-    requires { ⌜ Ready (now job) (now index) ⌝ }
-    ensures { λ n. ⌜ Stored (now (findings .entry)) at (words (missingAt (outlineAt (now (job .entry))) (t .0) (r .0))) n (now (findings .exit)) ⌝ }
+    requires { ⌜ Ready (now job) (now index) × Deep (outlineAt (now job)) depths ⌝ }
+    ensures { λ n. ⌜ Noted (now (findings .entry)) at (words (missingAt (outlineAt (now (job .entry))) (t .0) (r .0))) n (now (findings .exit)) ⌝ }
 {
     let again = spec::tables::repeats(job, index, t);
     if again {
-        return repeat_missing(job, index, findings, at, t, r);
+        return repeat_missing(job, index, findings, at, depths, t, r);
     }
     parent_missing(job, index, findings, at, t, r)
 }
@@ -205,19 +211,21 @@ pub fn row_findings(
     index: &[u32],
     findings: &mut [u64],
     at: usize,
+    keys: [Keys; 16],
+    depths: [u8; 32],
     t: TableId,
     r: RowId,
 ) -> usize
-    requires { ⌜ Ready (now job) (now index) ⌝ }
-    ensures { λ n. ⌜ Stored (now (findings .entry)) at (words (rowFindings (outlineAt (now (job .entry))) (t .0) (r .0))) n (now (findings .exit)) ⌝ }
+    requires { ⌜ Ready (now job) (now index) × Keyed (outlineAt (now job)) keys × Deep (outlineAt (now job)) depths ⌝ }
+    ensures { λ n. ⌜ Noted (now (findings .entry)) at (words (rowFindings (outlineAt (now (job .entry))) (t .0) (r .0))) n (now (findings .exit)) ⌝ }
 {
-    let place = place_of(job, index, t, r);
+    let place = place_of(job, index, keys, depths, t, r);
     let above = place.above;
     let table = place.table;
     if 0 < above {
         return contradictions(job, index, findings, at, t, r, table, RowId(above - 1));
     }
-    missing(job, index, findings, at, t, r)
+    missing(job, index, findings, at, depths, t, r)
 }
 
 // The findings of the rows of table t.
@@ -226,16 +234,18 @@ pub fn table_findings(
     index: &[u32],
     findings: &mut [u64],
     at: usize,
+    keys: [Keys; 16],
+    depths: [u8; 32],
     t: TableId,
 ) -> usize
-    requires { ⌜ Ready (now job) (now index) ⌝ }
-    ensures { λ n. ⌜ Stored (now (findings .entry)) at (words (tableFindings (outlineAt (now (job .entry))) (t .0))) n (now (findings .exit)) ⌝ }
+    requires { ⌜ Ready (now job) (now index) × Keyed (outlineAt (now job)) keys × Deep (outlineAt (now job)) depths ⌝ }
+    ensures { λ n. ⌜ Noted (now (findings .entry)) at (words (tableFindings (outlineAt (now (job .entry))) (t .0))) n (now (findings .exit)) ⌝ }
 {
     let n = tables::data::row_count(job, index, t);
     let mut next = lent::more(at, 0);
     let mut r: u32 = 0;
     while r < n {
-        next = row_findings(job, index, findings, next, t, RowId(r));
+        next = row_findings(job, index, findings, next, keys, depths, t, RowId(r));
         r = r + 1;
     }
     next
@@ -244,13 +254,15 @@ pub fn table_findings(
 // The findings of the rows of the spec's tables, table by table.
 pub fn all_findings(job: &[u8], index: &[u32], findings: &mut [u64], at: usize) -> usize
     requires { ⌜ Ready (now job) (now index) ⌝ }
-    ensures { λ n. ⌜ Stored (now (findings .entry)) at (words (each (tableFindings (outlineAt (now (job .entry)))) (upTo 0 (length (outlineAt (now (job .entry)) .tables))))) n (now (findings .exit)) ⌝ }
+    ensures { λ n. ⌜ Noted (now (findings .entry)) at (words (each (tableFindings (outlineAt (now (job .entry)))) (upTo 0 (length (outlineAt (now (job .entry)) .tables))))) n (now (findings .exit)) ⌝ }
 {
+    let keys = all_keys(job, index);
+    let depths = all_depths(job, index);
     let count = spec::tables::table_count(job, index);
     let mut next = lent::more(at, 0);
     let mut t: u32 = 0;
     while t < count {
-        next = table_findings(job, index, findings, next, TableId(t));
+        next = table_findings(job, index, findings, next, keys, depths, TableId(t));
         t = t + 1;
     }
     next

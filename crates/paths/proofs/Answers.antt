@@ -32,12 +32,12 @@ use Rattle.nest.specs.OfJob.{outlineOf, kindIn, sourceIn}
 use Rattle.nest.proofs.Bridge.{table-is, kind-is, parent-is, table-parent-is, loops-is}
 use Rattle.walk.specs.Check.{each-below, each-of, rowsOf, named, repeatTable, planned, if-there, past, fits}
 use Rattle.complete.specs.Decides.{Decides}
-use Rattle.paths.specs.Tests.{sameItem, segmentBelow, orderRight, onlyPlanned, rowFits, rowLoops, repeatsIn, plannedOnce, anchorsIn, namesPlain, segmentTest, loopTest, tableTest}
+use Rattle.paths.specs.Tests.{sameItem, segmentBelow, eachLoop, orderRight, onlyPlanned, rowFits, rowLoops, repeatsIn, plannedOnce, anchorsIn, namesPlain, segmentOrdered, loopOrdered}
 use Rattle.paths.specs.Upward.{outcome}
 use Rattle.paths.specs.declared.up.Up.{Up}
 use Rattle.paths.specs.declared.up.Up.the-variants.{No, Top, On}
 use Rattle.paths.proofs.Tests.{Counting, count-start, count-done, Summing, sum-done, every, unlike, some-times, each-every, loop-times, segment-times, segments-below}
-use Rattle.paths.proofs.Bridge.{plan-count-is, order-count-is, planned-is, segment-is, order-is, children-is, occurrences-is}
+use Rattle.paths.proofs.Bridge.{planned-is, segment-is, order-is, children-is, occurrences-is}
 
 -- ---- tests put together
 
@@ -54,62 +54,31 @@ pub unless-not : (a x y : Bool) → a ≡ x → a ≡ false → true ≡ not x |
 unless-not a x y e h = rw (sym e ∙ h)
 
 module _ (j : Outline) (l i : ℕ) (a : Bool) (p : a ≡ eqb (times i (itemSegments (orderOf j l))) 1) where
-  pub segment-unordered : not a ≡ true → false ≡ segmentTest j l i
-  unfolding segmentTest
+  pub segment-unordered : not a ≡ true → false ≡ segmentOrdered j l i
+  unfolding segmentOrdered
   segment-unordered h = first-no a (eqb (times i (itemSegments (orderOf j l))) 1) _ p h
 
-  module _ (h : not a ≡ false) (b : Bool) (q : b ≡ ltb ((segmentOf j l i) .occurrence) ((loopOf j l) .occurrences)) where
-    pub segment-lacking : not b ≡ true → false ≡ segmentTest j l i
-    unfolding segmentTest
-    segment-lacking g = first-yes a (eqb (times i (itemSegments (orderOf j l))) 1) _ false p h (first-no b (ltb ((segmentOf j l i) .occurrence) ((loopOf j l) .occurrences)) _ q g)
+  pub segment-last : (x : Bool) → not a ≡ false → x ≡ ltb ((segmentOf j l i) .occurrence) ((loopOf j l) .occurrences) → x ≡ segmentOrdered j l i
+  unfolding segmentOrdered
+  segment-last x h e = first-yes a (eqb (times i (itemSegments (orderOf j l))) 1) _ x p h e
 
-    pub segment-last : (x : Bool) → not b ≡ false → x ≡ if-there (repeatTable ((segmentOf j l i) .source)) (anchorsIn j l) → x ≡ segmentTest j l i
-    unfolding segmentTest
-    segment-last x g e = first-yes a (eqb (times i (itemSegments (orderOf j l))) 1) _ x p h (first-yes b (ltb ((segmentOf j l i) .occurrence) ((loopOf j l) .occurrences)) _ x q g e)
+pub names-in : (j : Outline) (l : ℕ) (k : Kind) (a : Bool) → k ≡ kindOf j l → a ≡ if-there (named k) (plain j) → a ≡ namesPlain j l
+unfolding namesPlain
+names-in j l k a f e = e ∙ ap (λ v. if-there (named v) (plain j)) f
 
-module _ (j : Outline) (l : ℕ) (k : Kind) (a : Bool) (f : k ≡ kindOf j l) (e : a ≡ if-there (named k) (plain j)) where
-  names-in : a ≡ namesPlain j l
-  unfolding namesPlain
-  names-in = e ∙ ap (λ v. if-there (named v) (plain j)) f
+module _ (j : Outline) (l : ℕ) (a : Bool) (p : a ≡ eachLoop j (orderRight j l)) where
+  pub loop-1 : not a ≡ true → false ≡ loopOrdered j l
+  unfolding loopOrdered
+  loop-1 h = first-no a (eachLoop j (orderRight j l)) _ p h
 
-  pub loop-1 : not a ≡ true → false ≡ loopTest j l
-  unfolding loopTest
-  loop-1 h = first-no a (namesPlain j l) _ names-in h
+  module _ (h : not a ≡ false) (b : Bool) (q : b ≡ each-below (planned j l) (segmentOrdered j l)) where
+    pub loop-2 : not b ≡ true → false ≡ loopOrdered j l
+    unfolding loopOrdered
+    loop-2 g = first-yes a (eachLoop j (orderRight j l)) _ false p h (first-no b (each-below (planned j l) (segmentOrdered j l)) (onlyPlanned j l) q g)
 
-  module _ (h : not a ≡ false) (b : Bool) (p : b ≡ each-below (length (j .loops)) (orderRight j l)) where
-    pub loop-2 : not b ≡ true → false ≡ loopTest j l
-    unfolding loopTest
-    loop-2 g = first-yes a (namesPlain j l) _ false names-in h (first-no b (each-below (length (j .loops)) (orderRight j l)) _ p g)
-
-    module _ (g : not b ≡ false) (c : Bool) (q : c ≡ each-below (planned j l) (segmentTest j l)) where
-      pub loop-3 : not c ≡ true → false ≡ loopTest j l
-      unfolding loopTest
-      loop-3 u = first-yes a (namesPlain j l) _ false names-in h (first-yes b (each-below (length (j .loops)) (orderRight j l)) _ false p g (first-no c (each-below (planned j l) (segmentTest j l)) _ q u))
-
-      module _ (u : not c ≡ false) (d : Bool) (r : d ≡ onlyPlanned j l) where
-        to-last : (x : Bool) → x ≡ onlyPlanned j l && rowFits j l → x ≡ loopTest j l
-        unfolding loopTest
-        to-last x y = first-yes a (namesPlain j l) _ x names-in h (first-yes b (each-below (length (j .loops)) (orderRight j l)) _ x p g (first-yes c (each-below (planned j l) (segmentTest j l)) _ x q u y))
-
-        pub loop-4 : not d ≡ true → false ≡ loopTest j l
-        loop-4 v = to-last false (first-no d (onlyPlanned j l) (rowFits j l) r v)
-
-        pub loop-5 : (x : Bool) → not d ≡ false → x ≡ rowFits j l → x ≡ loopTest j l
-        loop-5 x v y = to-last x (first-yes d (onlyPlanned j l) (rowFits j l) x r v y)
-
-module _ (j : Outline) (t : ℕ) (a : Bool) (p : a ≡ not (plain j t) || eqb (rowLoops j t) 1) where
-  pub table-1 : not a ≡ true → false ≡ tableTest j t
-  unfolding tableTest
-  table-1 h = first-no a (not (plain j t) || eqb (rowLoops j t) 1) _ p h
-
-  module _ (h : not a ≡ false) (b : Bool) (q : b ≡ if-there (tableParent j t) (plain j)) where
-    pub table-2 : not b ≡ true → false ≡ tableTest j t
-    unfolding tableTest
-    table-2 g = first-yes a (not (plain j t) || eqb (rowLoops j t) 1) _ false p h (first-no b (if-there (tableParent j t) (plain j)) _ q g)
-
-    pub table-3 : (x : Bool) → not b ≡ false → x ≡ not (repeated j t) || each-of ((tableOf j t) .loops) (plannedOnce j t) → x ≡ tableTest j t
-    unfolding tableTest
-    table-3 x g e = first-yes a (not (plain j t) || eqb (rowLoops j t) 1) _ x p h (first-yes b (if-there (tableParent j t) (plain j)) _ x q g e)
+    pub loop-3 : (x : Bool) → not b ≡ false → x ≡ onlyPlanned j l → x ≡ loopOrdered j l
+    unfolding loopOrdered
+    loop-3 x g e = first-yes a (eachLoop j (orderRight j l)) _ x p h (first-yes b (each-below (planned j l) (segmentOrdered j l)) (onlyPlanned j l) x q g e)
 
 -- ---- tables
 
@@ -334,12 +303,6 @@ module _ (b idx : List ℕ) (x : PlanIndexed b idx) (n : ℕ) where
 
   pub order-count : n ≡ le 4 b (getD idx 1057 0) → n ≡ length (jobOf b .layout .order)
   order-count e = count-of b _ n (getD idx 1057 0) (getD idx 1057 0) _ _ e refl (x .order .list)
-
-  pub plans-count : n ≡ le 4 b (getD idx 1024 0) → n ≡ length (outlineOf (jobOf b) .plan)
-  plans-count e = plan-count e ∙ sym (plan-count-is (jobOf b))
-
-  pub orders-count : n ≡ le 4 b (getD idx 1057 0) → n ≡ length (outlineOf (jobOf b) .order)
-  orders-count e = order-count e ∙ sym (order-count-is (jobOf b))
 
   pub forced-count : n ≡ le 4 b (getD idx 1090 0) → n ≡ length (jobOf b .layout .forced)
   forced-count e = count-of b _ n (getD idx 1090 0) (getD idx 1090 0) _ _ e refl (x .forced .list)

@@ -1,15 +1,16 @@
--- Where the loops are a tree, as those of a job that passed are, the tests decide whether the plan is complete, conditions 1 to 4.
-use mathlib.Core.Path.{_≡_, sym, _∙_}
-use mathlib.Core.Bool.{Bool, true, false, true≢false}
+-- Where the loops are a tree, as those of a job that passed are, conditions 1 to 4 are those of a complete plan.
+use mathlib.Core.Path.{_≡_}
+use mathlib.Core.Bool.{true}
+use lib.ListN.{length}
 use Rattle.nest.specs.Outline.{Outline}
 use Rattle.walk.specs.Complete.{Tree, Complete}
-use Rattle.walk.specs.Check.{all-pass, planTests}
 use Rattle.walk.proofs.CheckRight.{plan-passed, passed-plan}
-use Rattle.complete.specs.Decides.{Decides}
+use Rattle.paths.specs.Tests.{condition1, condition2, condition3, condition4}
+use Rattle.paths.proofs.Whole.{conditions-pass, pass-conditions}
 
-pub plan-walks : (j : Outline) → Tree j → Decides (all-pass (planTests j)) (Tree j → Complete j)
-plan-walks j T = ((λ e t. plan-passed j t e), (λ e C. true≢false (sym (passed-plan j (C T)) ∙ e)))
+pub conditions-walk : (j : Outline) → length (j .plan) ≡ length (j .loops) → length (j .order) ≡ length (j .loops)
+    → condition1 j ≡ true → condition2 j ≡ true → condition3 j ≡ true → condition4 j ≡ true → Tree j → Complete j
+conditions-walk j p o a b c d T = plan-passed j T (conditions-pass j p o a b c d)
 
--- so does an answer that is the tests, as that of `paths_fit`
-pub answer-walks : (j : Outline) (r : Bool) → Tree j → r ≡ all-pass (planTests j) → Decides r (Tree j → Complete j)
-answer-walks j r T e = rw e (plan-walks j T)
+pub walk-conditions : (j : Outline) → Complete j → (condition1 j ≡ true) × (condition2 j ≡ true) × (condition3 j ≡ true) × (condition4 j ≡ true)
+walk-conditions j C = pass-conditions j (passed-plan j C)

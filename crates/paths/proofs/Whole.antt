@@ -1,177 +1,142 @@
--- The tests put together by loop and by table are the tests of the plan check.
+-- The tests put together by condition are the tests of the plan check.
 use Prim.Native.Nat.{ℕ, _<_}
-use mathlib.Core.Path.{_≡_, refl, sym, ap, ap₂, _∙_}
-use borrow.Author.Tests.{eq-eqb, ne-eqb}
-use mathlib.Core.Bool.{Bool, true, false, not, _&&_, _||_}
+use mathlib.Core.Path.{_≡_, sym, _∙_}
+use borrow.Author.Tests.{eq-eqb, not-true, not-false}
+use mathlib.Core.Bool.{Bool, true, false, not, _&&_, true≢false}
 use lib.ListN.{length}
 use lib.Dec.{eqb, ltb}
+use Rattle.format.specs.Job.{Job}
 use Rattle.nest.specs.Lists.{times, All}
-use Rattle.nest.specs.Outline.{Outline, itemSegments, loopOf, tableOf, orderOf, segmentOf, tableParent, plain, repeated}
-use Rattle.walk.specs.Check.{each-below, each-of, repeatTable, planned, if-there, all-pass, planTests}
+use Rattle.nest.specs.Outline.{Outline, itemSegments, loopOf, orderOf, segmentOf}
+use Rattle.nest.specs.OfJob.{outlineOf}
+use Rattle.walk.specs.Check.{each-below, planned, all-pass, planTests}
 use Rattle.walk.proofs.Tests.{both, and-true, below-true, true-below, tests-all, that-is-all, _⨾_, all-tests}
-use Rattle.paths.proofs.Answers.{first-no, first-yes}
-use Rattle.paths.specs.Tests.{rowLoops, repeatsIn, namesPlain, orderRight, onlyPlanned, rowFits, anchorsIn, plannedOnce, segmentTest, loopTest, tableTest}
+use Rattle.complete.specs.Decides.{Decides}
+use Rattle.paths.proofs.Answers.{first-no, first-yes, decides-no}
+use Rattle.paths.specs.Tests.{rowLoops, repeatsIn, eachTable, eachLoop, oneRowLoop, namesPlain, condition1, parentPlain, orderRight, onlyPlanned, segmentOrdered, loopOrdered, condition2, rowFits, condition3, anchorsIn, plannedOnce, repeatPlanned, segmentAnchored, loopAnchored, condition4}
+use Rattle.paths.specs.Entries.{Entries4, Orders}
 
--- two tests that pass together are the same
-same : (a b : Bool) → (a ≡ true → b ≡ true) → (b ≡ true → a ≡ true) → a ≡ b
-same true b f g = sym (f refl)
-same false true f g = g refl
-same false false f g = refl
+-- ---- the ways through the conditions
 
--- the tests that the code makes, one after the other
+module _ (j : Outline) (a : Bool) (p : a ≡ eachTable j (oneRowLoop j)) where
+  pub one-no : not a ≡ true → false ≡ condition1 j
+  unfolding condition1
+  one-no h = first-no a (eachTable j (oneRowLoop j)) _ p h
+
+  pub one-by : (x : Bool) → not a ≡ false → x ≡ eachLoop j (namesPlain j) → x ≡ condition1 j
+  unfolding condition1
+  one-by x h e = first-yes a (eachTable j (oneRowLoop j)) _ x p h e
+
+pub two-entries : (j : Job) (a : Bool) → Decides a (Entries4 j) → not a ≡ true → Decides false (Orders j)
+two-entries j a d h = decides-no _ (λ o. d .1 (not-true a h) (o .entries))
+
+pub two-parents : (j : Job) (b : Bool) → b ≡ eachTable (outlineOf j) (parentPlain (outlineOf j)) → not b ≡ true → Decides false (Orders j)
+unfolding condition2
+two-parents j b q h = decides-no _ (λ o. true≢false (sym (o .ordered) ∙ sym (first-no b (eachTable (outlineOf j) (parentPlain (outlineOf j))) _ q h)))
+
+pub two-orders : (j : Job) (a : Bool) → Decides a (Entries4 j) → not a ≡ false → (b : Bool) → b ≡ eachTable (outlineOf j) (parentPlain (outlineOf j)) → not b ≡ false
+    → (x : Bool) → x ≡ eachLoop (outlineOf j) (loopOrdered (outlineOf j)) → Decides x (Orders j)
+unfolding condition2
+two-orders j a d h b q g x e =
+    let r : x ≡ condition2 (outlineOf j) = first-yes b (eachTable (outlineOf j) (parentPlain (outlineOf j))) _ x q g e in
+    ((λ y. record { entries = d .0 (not-false a h); ordered = sym r ∙ y }), (λ y o. true≢false (sym (o .ordered) ∙ sym r ∙ y)))
+
+pub three-by : (j : Outline) (x : Bool) → x ≡ eachLoop j (rowFits j) → x ≡ condition3 j
+unfolding condition3
+three-by j x e = e
+
+module _ (j : Outline) (a : Bool) (p : a ≡ eachTable j (repeatPlanned j)) where
+  pub four-no : not a ≡ true → false ≡ condition4 j
+  unfolding condition4
+  four-no h = first-no a (eachTable j (repeatPlanned j)) _ p h
+
+  pub four-by : (x : Bool) → not a ≡ false → x ≡ eachLoop j (loopAnchored j) → x ≡ condition4 j
+  unfolding condition4
+  four-by x h e = first-yes a (eachTable j (repeatPlanned j)) _ x p h e
+
+-- ---- all of them
+
 module _ (j : Outline) where
-  abbrev counts : Bool
-  counts = eqb (length (j .plan)) (length (j .loops))
-
-  abbrev orders : Bool
-  orders = eqb (length (j .order)) (length (j .loops))
-
-  abbrev byLoop : Bool
-  byLoop = each-below (length (j .loops)) (loopTest j)
-
-  abbrev byTable : Bool
-  byTable = each-below (length (j .tables)) (tableTest j)
-
-  abbrev pub pathsTest : Bool
-  pathsTest = counts && (orders && (byTable && byLoop))
-
   abbrev ordered : ℕ → ℕ → Bool
   ordered l i = eqb (times i (itemSegments (orderOf j l))) 1
 
   abbrev occurring : ℕ → ℕ → Bool
   occurring l i = ltb ((segmentOf j l i) .occurrence) ((loopOf j l) .occurrences)
 
-  abbrev anchored : ℕ → ℕ → Bool
-  anchored l i = if-there (repeatTable ((segmentOf j l i) .source)) (anchorsIn j l)
-
-  segment-parts : (l i : ℕ) → segmentTest j l i ≡ true → (ordered l i ≡ true) × (occurring l i ≡ true) × (anchored l i ≡ true)
-  unfolding segmentTest
-  segment-parts l i e =
-      let p = both (ordered l i) (occurring l i && anchored l i) e in
-      let q = both (occurring l i) (anchored l i) (p .1) in
-      (p .0, q .0, q .1)
-
-  segment-all : (l i : ℕ) → ordered l i ≡ true → occurring l i ≡ true → anchored l i ≡ true → segmentTest j l i ≡ true
-  unfolding segmentTest
-  segment-all l i a b c = and-true (ordered l i) (occurring l i && anchored l i) a (and-true (occurring l i) (anchored l i) b c)
-
   abbrev kids : ℕ → Bool
-  kids l = each-below (length (j .loops)) (orderRight j l)
+  kids l = eachLoop j (orderRight j l)
 
   abbrev segments : ℕ → Bool
-  segments l = each-below (planned j l) (segmentTest j l)
+  segments l = each-below (planned j l) (segmentOrdered j l)
 
-  loop-parts : (l : ℕ) → loopTest j l ≡ true → (namesPlain j l ≡ true) × (kids l ≡ true) × (segments l ≡ true) × (onlyPlanned j l ≡ true) × (rowFits j l ≡ true)
-  unfolding loopTest
+  segment-parts : (l i : ℕ) → segmentOrdered j l i ≡ true → (ordered l i ≡ true) × (occurring l i ≡ true)
+  unfolding segmentOrdered
+  segment-parts l i e = both (ordered l i) (occurring l i) e
+
+  segment-all : (l i : ℕ) → ordered l i ≡ true → occurring l i ≡ true → segmentOrdered j l i ≡ true
+  unfolding segmentOrdered
+  segment-all l i a b = and-true (ordered l i) (occurring l i) a b
+
+  loop-parts : (l : ℕ) → loopOrdered j l ≡ true → (kids l ≡ true) × (segments l ≡ true) × (onlyPlanned j l ≡ true)
+  unfolding loopOrdered
   loop-parts l e =
-      let p = both (namesPlain j l) (kids l && (segments l && (onlyPlanned j l && rowFits j l))) e in
-      let q = both (kids l) (segments l && (onlyPlanned j l && rowFits j l)) (p .1) in
-      let r = both (segments l) (onlyPlanned j l && rowFits j l) (q .1) in
-      let s = both (onlyPlanned j l) (rowFits j l) (r .1) in
-      (p .0, q .0, r .0, s .0, s .1)
-
-  loop-all : (l : ℕ) → namesPlain j l ≡ true → kids l ≡ true → segments l ≡ true → onlyPlanned j l ≡ true → rowFits j l ≡ true → loopTest j l ≡ true
-  unfolding loopTest
-  loop-all l a b c d e = and-true (namesPlain j l) (kids l && (segments l && (onlyPlanned j l && rowFits j l))) a (and-true (kids l) (segments l && (onlyPlanned j l && rowFits j l)) b (and-true (segments l) (onlyPlanned j l && rowFits j l) c (and-true (onlyPlanned j l) (rowFits j l) d e)))
-
-  abbrev one-row : ℕ → Bool
-  one-row t = not (plain j t) || eqb (rowLoops j t) 1
-
-  abbrev above-plain : ℕ → Bool
-  above-plain t = if-there (tableParent j t) (plain j)
-
-  abbrev all-once : ℕ → Bool
-  all-once t = not (repeated j t) || each-of ((tableOf j t) .loops) (plannedOnce j t)
-
-  table-parts : (t : ℕ) → tableTest j t ≡ true → (one-row t ≡ true) × (above-plain t ≡ true) × (all-once t ≡ true)
-  unfolding tableTest
-  table-parts t e =
-      let p = both (one-row t) (above-plain t && all-once t) e in
-      let q = both (above-plain t) (all-once t) (p .1) in
+      let p = both (kids l) (segments l && onlyPlanned j l) e in
+      let q = both (segments l) (onlyPlanned j l) (p .1) in
       (p .0, q .0, q .1)
 
-  table-all : (t : ℕ) → one-row t ≡ true → above-plain t ≡ true → all-once t ≡ true → tableTest j t ≡ true
-  unfolding tableTest
-  table-all t a b c = and-true (one-row t) (above-plain t && all-once t) a (and-true (above-plain t) (all-once t) b c)
+  loop-all : (l : ℕ) → kids l ≡ true → segments l ≡ true → onlyPlanned j l ≡ true → loopOrdered j l ≡ true
+  unfolding loopOrdered
+  loop-all l a b c = and-true (kids l) (segments l && onlyPlanned j l) a (and-true (segments l) (onlyPlanned j l) b c)
 
-  loop-at : byLoop ≡ true → (l : ℕ) → l < length (j .loops) → (namesPlain j l ≡ true) × (kids l ≡ true) × (segments l ≡ true) × (onlyPlanned j l ≡ true) × (rowFits j l ≡ true)
-  loop-at e l h = loop-parts l (below-true (length (j .loops)) (loopTest j) e l h)
+  loop-at : eachLoop j (loopOrdered j) ≡ true → (l : ℕ) → l < length (j .loops) → (kids l ≡ true) × (segments l ≡ true) × (onlyPlanned j l ≡ true)
+  loop-at e l h = loop-parts l (below-true (length (j .loops)) (loopOrdered j) e l h)
 
-  table-at : byTable ≡ true → (t : ℕ) → t < length (j .tables) → (one-row t ≡ true) × (above-plain t ≡ true) × (all-once t ≡ true)
-  table-at e t h = table-parts t (below-true (length (j .tables)) (tableTest j) e t h)
+  segment-at : eachLoop j (loopOrdered j) ≡ true → (l : ℕ) → l < length (j .loops) → (i : ℕ) → i < planned j l → (ordered l i ≡ true) × (occurring l i ≡ true)
+  segment-at e l h i g = segment-parts l i (below-true (planned j l) (segmentOrdered j l) (loop-at e l h .1) i g)
 
-  segment-at : byLoop ≡ true → (l : ℕ) → l < length (j .loops) → (i : ℕ) → i < planned j l → (ordered l i ≡ true) × (occurring l i ≡ true) × (anchored l i ≡ true)
-  segment-at e l h i g = segment-parts l i (below-true (planned j l) (segmentTest j l) (loop-at e l h .2) i g)
+  -- where plan and orders have one entry a loop, the four conditions pass all tests
+  pub conditions-pass : length (j .plan) ≡ length (j .loops) → length (j .order) ≡ length (j .loops)
+      → condition1 j ≡ true → condition2 j ≡ true → condition3 j ≡ true → condition4 j ≡ true → all-pass (planTests j) ≡ true
+  unfolding planTests rowLoops repeatsIn namesPlain orderRight onlyPlanned rowFits anchorsIn plannedOnce segmentOrdered loopOrdered condition1 condition2 condition3 condition4
+  conditions-pass p o one two three four =
+      let a = both (eachTable j (oneRowLoop j)) (eachLoop j (namesPlain j)) one in
+      let b = both (eachTable j (parentPlain j)) (eachLoop j (loopOrdered j)) two in
+      let d = both (eachTable j (repeatPlanned j)) (eachLoop j (loopAnchored j)) four in
+      all-tests (
+      a .0
+      ⨾ a .1
+      ⨾ eq-eqb _ _ p
+      ⨾ eq-eqb _ _ o
+      ⨾ true-below _ _ (λ l h. loop-at (b .1) l h .0)
+      ⨾ true-below _ _ (λ l h. true-below _ _ (λ i g. segment-at (b .1) l h i g .0))
+      ⨾ true-below _ _ (λ l h. loop-at (b .1) l h .2)
+      ⨾ true-below _ _ (λ l h. true-below _ _ (λ i g. segment-at (b .1) l h i g .1))
+      ⨾ b .0
+      ⨾ three
+      ⨾ d .0
+      ⨾ d .1
+      ⨾ that-is-all)
 
-  pub whole : pathsTest ≡ all-pass (planTests j)
-  unfolding planTests rowLoops repeatsIn namesPlain orderRight onlyPlanned rowFits anchorsIn plannedOnce segmentTest loopTest tableTest
-  whole = same pathsTest (all-pass (planTests j)) there back
+  -- and the other way
+  pub pass-conditions : all-pass (planTests j) ≡ true → (condition1 j ≡ true) × (condition2 j ≡ true) × (condition3 j ≡ true) × (condition4 j ≡ true)
+  unfolding planTests rowLoops repeatsIn namesPlain orderRight onlyPlanned rowFits anchorsIn plannedOnce segmentOrdered loopOrdered condition1 condition2 condition3 condition4
+  pass-conditions e = (
+    and-true (eachTable j (oneRowLoop j)) (eachLoop j (namesPlain j)) (t .0) (t .1 .0),
+    and-true (eachTable j (parentPlain j)) (eachLoop j (loopOrdered j)) (t .1 .1 .1 .1 .1 .1 .1 .1 .0) (true-below (length (j .loops)) (loopOrdered j) loop),
+    t .1 .1 .1 .1 .1 .1 .1 .1 .1 .0,
+    and-true (eachTable j (repeatPlanned j)) (eachLoop j (loopAnchored j)) (t .1 .1 .1 .1 .1 .1 .1 .1 .1 .1 .0) (t .1 .1 .1 .1 .1 .1 .1 .1 .1 .1 .1 .0),
+  )
     where
-      there : pathsTest ≡ true → all-pass (planTests j) ≡ true
-      there e =
-          let p = both counts (orders && (byTable && byLoop)) e in
-          let q = both orders (byTable && byLoop) (p .1) in
-          let r = both byTable byLoop (q .1) in
-          all-tests (
-          true-below _ _ (λ i h. table-at (r .0) i h .0)
-          ⨾ true-below _ _ (λ i h. loop-at (r .1) i h .0)
-          ⨾ p .0
-          ⨾ q .0
-          ⨾ true-below _ _ (λ i h. loop-at (r .1) i h .1)
-          ⨾ true-below _ _ (λ i h. true-below _ _ (λ k g. segment-at (r .1) i h k g .0))
-          ⨾ true-below _ _ (λ i h. loop-at (r .1) i h .3)
-          ⨾ true-below _ _ (λ i h. true-below _ _ (λ k g. segment-at (r .1) i h k g .1))
-          ⨾ true-below _ _ (λ i h. table-at (r .0) i h .1)
-          ⨾ true-below _ _ (λ i h. loop-at (r .1) i h .4)
-          ⨾ true-below _ _ (λ i h. table-at (r .0) i h .2)
-          ⨾ true-below _ _ (λ i h. true-below _ _ (λ k g. segment-at (r .1) i h k g .2))
-          ⨾ that-is-all)
+      t : All (λ b. b ≡ true) (planTests j)
+      t = tests-all (planTests j) e
 
-      back : all-pass (planTests j) ≡ true → pathsTest ≡ true
-      back e = and-true counts (orders && (byTable && byLoop)) (t .1 .1 .0) (and-true orders (byTable && byLoop) (t .1 .1 .1 .0) (and-true byTable byLoop (true-below (length (j .tables)) (tableTest j) table) (true-below (length (j .loops)) (loopTest j) loop)))
-        where
-          t : All (λ b. b ≡ true) (planTests j)
-          t = tests-all (planTests j) e
+      segment : (l : ℕ) → l < length (j .loops) → (i : ℕ) → i < planned j l → segmentOrdered j l i ≡ true
+      segment l h i g = segment-all l i
+          (below-true (planned j l) _ (below-true (length (j .loops)) _ (t .1 .1 .1 .1 .1 .0) l h) i g)
+          (below-true (planned j l) _ (below-true (length (j .loops)) _ (t .1 .1 .1 .1 .1 .1 .1 .0) l h) i g)
 
-          segment : (l : ℕ) → l < length (j .loops) → (i : ℕ) → i < planned j l → segmentTest j l i ≡ true
-          segment l h i g = segment-all l i
-              (below-true (planned j l) _ (below-true (length (j .loops)) _ (t .1 .1 .1 .1 .1 .0) l h) i g)
-              (below-true (planned j l) _ (below-true (length (j .loops)) _ (t .1 .1 .1 .1 .1 .1 .1 .0) l h) i g)
-              (below-true (planned j l) _ (below-true (length (j .loops)) _ (t .1 .1 .1 .1 .1 .1 .1 .1 .1 .1 .1 .0) l h) i g)
-
-          loop : (l : ℕ) → l < length (j .loops) → loopTest j l ≡ true
-          loop l h = loop-all l
-              (below-true (length (j .loops)) _ (t .1 .0) l h)
-              (below-true (length (j .loops)) _ (t .1 .1 .1 .1 .0) l h)
-              (true-below (planned j l) (segmentTest j l) (segment l h))
-              (below-true (length (j .loops)) _ (t .1 .1 .1 .1 .1 .1 .0) l h)
-              (below-true (length (j .loops)) _ (t .1 .1 .1 .1 .1 .1 .1 .1 .1 .0) l h)
-
-          table : (u : ℕ) → u < length (j .tables) → tableTest j u ≡ true
-          table u h = table-all u
-              (below-true (length (j .tables)) _ (t .0) u h)
-              (below-true (length (j .tables)) _ (t .1 .1 .1 .1 .1 .1 .1 .1 .0) u h)
-              (below-true (length (j .tables)) _ (t .1 .1 .1 .1 .1 .1 .1 .1 .1 .1 .0) u h)
-
--- ---- the ways through the whole
-
-module _ (j : Outline) (n m : ℕ) (c : n ≡ length (j .loops)) (p : m ≡ length (j .plan)) where
-  pub lacks-plans : (m ≡ n → ⊥) → false ≡ all-pass (planTests j)
-  lacks-plans d = sym (ap (λ b. b && (orders j && (byTable j && byLoop j))) (ne-eqb (length (j .plan)) (length (j .loops)) (λ e. d (p ∙ e ∙ sym c)))) ∙ whole j
-
-  module _ (e : m ≡ n) (k : ℕ) (q : k ≡ length (j .order)) where
-    planned-all : counts j ≡ true
-    planned-all = eq-eqb (length (j .plan)) (length (j .loops)) (sym p ∙ e ∙ c)
-
-    pub lacks-orders : (k ≡ n → ⊥) → false ≡ all-pass (planTests j)
-    lacks-orders d = sym (ap₂ (λ a b. a && (b && (byTable j && byLoop j))) planned-all (ne-eqb (length (j .order)) (length (j .loops)) (λ e. d (q ∙ e ∙ sym c)))) ∙ whole j
-
-    module _ (f : k ≡ n) where
-      both-there : byTable j && byLoop j ≡ all-pass (planTests j)
-      both-there = sym (ap₂ (λ a b. a && (b && (byTable j && byLoop j))) planned-all (eq-eqb (length (j .order)) (length (j .loops)) (sym q ∙ f ∙ c))) ∙ whole j
-
-      pub tables-fail : (a : Bool) → a ≡ each-below (length (j .tables)) (tableTest j) → not a ≡ true → false ≡ all-pass (planTests j)
-      tables-fail a r h = first-no a (byTable j) (byLoop j) r h ∙ both-there
-
-      pub loops-decide : (a b : Bool) → a ≡ each-below (length (j .tables)) (tableTest j) → not a ≡ false → b ≡ each-below (length (j .loops)) (loopTest j) → b ≡ all-pass (planTests j)
-      loops-decide a b r h s = first-yes a (byTable j) (byLoop j) b r h s ∙ both-there
+      loop : (l : ℕ) → l < length (j .loops) → loopOrdered j l ≡ true
+      loop l h = loop-all l
+          (below-true (length (j .loops)) _ (t .1 .1 .1 .1 .0) l h)
+          (true-below (planned j l) (segmentOrdered j l) (segment l h))
+          (below-true (length (j .loops)) _ (t .1 .1 .1 .1 .1 .1 .0) l h)

@@ -1,3 +1,3 @@
-pub mod Entries
 pub mod Tests
+pub mod Entries
 pub mod Upward

@@ -1,4 +1,4 @@
--- The tests of the plan check (`planTests` of walk), put together by loop, by planned segment and by table, as the code makes them.
+-- The tests of the plan check (`planTests` of walk), put together by condition as the code makes them.
 use Prim.Native.Nat.{ℕ}
 use mathlib.Core.Bool.{Bool, true, false, not, _&&_, _||_}
 use lib.ListN.{length}
@@ -32,39 +32,79 @@ rowLoops j t = how-many (length (j .loops)) (λ l. rowsOf t (kindOf j l))
 unfoldable pub repeatsIn : Outline → ℕ → ℕ → ℕ
 repeatsIn j t l = how-many (planned j l) (λ i. is (repeatTable ((segmentOf j l i) .source)) t)
 
--- ---- tests
+-- ---- every table, every loop
 
--- 1: a table that the loop names is no repeat table
+abbrev pub eachTable : Outline → (ℕ → Bool) → Bool
+eachTable j p = each-below (length (j .tables)) p
+
+abbrev pub eachLoop : Outline → (ℕ → Bool) → Bool
+eachLoop j p = each-below (length (j .loops)) p
+
+-- ---- 1
+
+-- a table without repeat segment has one row loop
+abbrev pub oneRowLoop : Outline → ℕ → Bool
+oneRowLoop j t = not (plain j t) || eqb (rowLoops j t) 1
+
+-- a table that the loop names has no repeat segment
 unfoldable pub namesPlain : Outline → ℕ → Bool
 namesPlain j l = if-there (named (kindOf j l)) (plain j)
 
--- 2: the order of loop l names loop k as often as it is a child
+unfoldable pub condition1 : Outline → Bool
+condition1 j = eachTable j (oneRowLoop j) && eachLoop j (namesPlain j)
+
+-- ---- 2, but for the entries (`Entries4`)
+
+-- a table's parent has no repeat segment
+abbrev pub parentPlain : Outline → ℕ → Bool
+parentPlain j t = if-there (tableParent j t) (plain j)
+
+-- the order of loop l names loop k as often as it is a child
 unfoldable pub orderRight : Outline → ℕ → ℕ → Bool
 orderRight j l k = eqb (times k (itemLoops (orderOf j l))) (times k ((loopOf j l) .children))
 
--- 2: the order of loop l names only planned segments
+-- the order of loop l names only planned segments
 unfoldable pub onlyPlanned : Outline → ℕ → Bool
 onlyPlanned j l = each-of (itemSegments (orderOf j l)) (λ i. ltb i (planned j l))
 
--- 3
+-- planned segment i of loop l stands once in the order and has an occurrence
+unfoldable pub segmentOrdered : Outline → ℕ → ℕ → Bool
+segmentOrdered j l i = eqb (times i (itemSegments (orderOf j l))) 1 && ltb ((segmentOf j l i) .occurrence) ((loopOf j l) .occurrences)
+
+unfoldable pub loopOrdered : Outline → ℕ → Bool
+loopOrdered j l = eachLoop j (orderRight j l) && (each-below (planned j l) (segmentOrdered j l) && onlyPlanned j l)
+
+unfoldable pub condition2 : Outline → Bool
+condition2 j = eachTable j (parentPlain j) && eachLoop j (loopOrdered j)
+
+-- ---- 3
+
 unfoldable pub rowFits : Outline → ℕ → Bool
 rowFits j l = if-there (rowTable (kindOf j l)) (fits j (length (j .loops)) l)
 
--- 4: loop l is a row loop and anchors the repeat table t
+unfoldable pub condition3 : Outline → Bool
+condition3 j = eachLoop j (rowFits j)
+
+-- ---- 4
+
+-- loop l is a row loop and anchors the repeat table t
 unfoldable pub anchorsIn : Outline → ℕ → ℕ → Bool
 anchorsIn j l t = repeated j t && (ltb 0 (times l ((tableOf j t) .loops)) && on (rowTable (kindOf j l)) (λ u. true) false)
 
--- 4: a loop that anchors table t plans one repeat segment of it
+-- a loop that anchors table t plans one repeat segment of it
 unfoldable pub plannedOnce : Outline → ℕ → ℕ → Bool
 plannedOnce j t l = if-there (rowTable (kindOf j l)) (λ u. eqb (repeatsIn j t l) 1)
 
--- planned segment i of loop l stands once in the order, has an occurrence, and repeats only what the loop anchors
-unfoldable pub segmentTest : Outline → ℕ → ℕ → Bool
-segmentTest j l i = eqb (times i (itemSegments (orderOf j l))) 1
-    && (ltb ((segmentOf j l i) .occurrence) ((loopOf j l) .occurrences) && if-there (repeatTable ((segmentOf j l i) .source)) (anchorsIn j l))
+-- so does each loop that a repeat table lists
+abbrev pub repeatPlanned : Outline → ℕ → Bool
+repeatPlanned j t = not (repeated j t) || each-of ((tableOf j t) .loops) (plannedOnce j t)
 
-unfoldable pub loopTest : Outline → ℕ → Bool
-loopTest j l = namesPlain j l && (each-below (length (j .loops)) (orderRight j l) && (each-below (planned j l) (segmentTest j l) && (onlyPlanned j l && rowFits j l)))
+-- planned segment i of loop l repeats only what the loop anchors
+abbrev pub segmentAnchored : Outline → ℕ → ℕ → Bool
+segmentAnchored j l i = if-there (repeatTable ((segmentOf j l i) .source)) (anchorsIn j l)
 
-unfoldable pub tableTest : Outline → ℕ → Bool
-tableTest j t = (not (plain j t) || eqb (rowLoops j t) 1) && (if-there (tableParent j t) (plain j) && (not (repeated j t) || each-of ((tableOf j t) .loops) (plannedOnce j t)))
+abbrev pub loopAnchored : Outline → ℕ → Bool
+loopAnchored j l = each-below (planned j l) (segmentAnchored j l)
+
+unfoldable pub condition4 : Outline → Bool
+condition4 j = eachTable j (repeatPlanned j) && eachLoop j (loopAnchored j)

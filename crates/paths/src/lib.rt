@@ -2,13 +2,17 @@
 ghost use mathlib.Core.Path.{_≡_};
 ghost use Rattle.format.specs.Sections.{jobOf};
 ghost use Rattle.nest.specs.Ready.{Ready, outlineAt};
-ghost use Rattle.walk.specs.Check.{all-pass, planTests};
-ghost use Rattle.paths.specs.Entries.{Entries4};
+ghost use Rattle.paths.specs.Tests.{condition1, condition3, condition4};
+ghost use Rattle.paths.specs.Entries.{Entries4, Orders};
 ghost use Rattle.complete.specs.Decides.{Decides};
 use crate::counts::list_count;
-use crate::counts::loops;
-use crate::each::loop_tests;
-use crate::each::table_tests;
+use crate::each::loops_anchored;
+use crate::each::loops_fit;
+use crate::each::loops_ordered;
+use crate::each::loops_plain;
+use crate::each::parents_plain;
+use crate::each::tables_once;
+use crate::each::tables_planned;
 
 pub mod counts;
 pub mod each;
@@ -54,24 +58,51 @@ pub fn entries_fit(job: &[u8], index: &[u32]) -> bool
     true
 }
 
-// Whether the plan passes the tests of conditions 1 to 4. The tables come first: where they pass, a loop plans one repeat segment of each table that it
-// anchors, so that no table's list of loops is gone through more than once a loop afterwards.
-pub fn paths_fit(job: &[u8], index: &[u32]) -> bool
+// Condition 1: row loops.
+pub fn rows_fit(job: &[u8], index: &[u32]) -> bool
     requires { ⌜ Ready (now job) (now index) ⌝ }
-    ensures { λ r. ⌜ r ≡ all-pass (planTests (outlineAt (now (job .entry)))) ⌝ }
+    ensures { λ r. ⌜ r ≡ condition1 (outlineAt (now (job .entry))) ⌝ }
 {
-    let n = loops(job, index);
-    let plans = list_count(job, index, plan::index::PLAN);
-    if plans != n {
-        return false;
-    }
-    let orders = list_count(job, index, plan::index::ORDER);
-    if orders != n {
-        return false;
-    }
-    let a = table_tests(job, index);
+    let a = tables_once(job, index);
     if !a {
         return false;
     }
-    loop_tests(job, index)
+    loops_plain(job, index)
+}
+
+// Condition 2: entries, parents and orders.
+pub fn orders_fit(job: &[u8], index: &[u32]) -> bool
+    requires { ⌜ Ready (now job) (now index) ⌝ }
+    ensures { λ r. ⌜ Decides r (Orders (jobOf (now (job .entry)))) ⌝ }
+{
+    let entries = entries_fit(job, index);
+    if !entries {
+        return false;
+    }
+    let a = parents_plain(job, index);
+    if !a {
+        return false;
+    }
+    loops_ordered(job, index)
+}
+
+// Condition 3: what stands above a row loop.
+pub fn paths_fit(job: &[u8], index: &[u32]) -> bool
+    requires { ⌜ Ready (now job) (now index) ⌝ }
+    ensures { λ r. ⌜ r ≡ condition3 (outlineAt (now (job .entry))) ⌝ }
+{
+    loops_fit(job, index)
+}
+
+// Condition 4: repeat segments. The tables come first: where they pass, a loop plans one repeat segment of each table that it anchors, so that no table's
+// list of loops is gone through more than once a loop afterwards.
+pub fn repeats_fit(job: &[u8], index: &[u32]) -> bool
+    requires { ⌜ Ready (now job) (now index) ⌝ }
+    ensures { λ r. ⌜ r ≡ condition4 (outlineAt (now (job .entry))) ⌝ }
+{
+    let a = tables_planned(job, index);
+    if !a {
+        return false;
+    }
+    loops_anchored(job, index)
 }

@@ -1,9 +1,7 @@
-pub mod Laws
 pub mod Reading
 pub mod Whole
 pub mod Meeting
 pub mod Listing
 pub mod Placing
-pub mod Coding
 pub mod Turning
 pub mod Separate

@@ -1,27 +1,16 @@
--- Members of lists, one by one and two by two.
+-- Members of lists, two by two.
 use mathlib.Core.List.{List, [], _∷_}
 use mathlib.Core.Bool.{Bool}
 use mathlib.Core.Path.{sym}
 use Rattle.codec.specs.Limits.{anyOf}
 use Rattle.nest.specs.Lists.{All}
 use Rattle.complete.specs.Complete.{Pairs, Each2}
-use Rattle.places.specs.Refutes.{Refutes}
+use Rattle.codes.specs.Refutes.{Refutes}
 use Rattle.places.specs.Spots.{pairs}
-use Rattle.places.proofs.Laws.{no-way, refute-as, refute-either, refute-all}
+use Rattle.codes.proofs.Laws.{no-way, refute-as, refute-either, refute-all}
+use Rattle.codes.proofs.Listing.{all-map, all-both, all-any}
 
 module _ {A : Type 0} where
-  pub all-map : (P Q : A → Type 0) → ((x : A) → P x → Q x) → (xs : List A) → All P xs → All Q xs
-  all-map P Q f [] h = tt
-  all-map P Q f (x ∷ xs) h = (f x (h .0), all-map P Q f xs (h .1))
-
-  pub all-both : (P Q : A → Type 0) (xs : List A) → All P xs → All Q xs → All (λ x. P x × Q x) xs
-  all-both P Q [] h i = tt
-  all-both P Q (x ∷ xs) h i = ((h .0, i .0), all-both P Q xs (h .1) (i .1))
-
-  pub all-any : (P : A → Type 0) → ((x : A) → P x) → (xs : List A) → All P xs
-  all-any P f [] = tt
-  all-any P f (x ∷ xs) = (f x, all-any P f xs)
-
   pub pairs-map : (R S : A → A → Type 0) → ((x y : A) → R x y → S x y) → (xs : List A) → Pairs R xs → Pairs S xs
   pairs-map R S f [] h = tt
   pairs-map R S f (x ∷ xs) h = (all-map (R x) (S x) (f x) xs (h .0), pairs-map R S f xs (h .1))

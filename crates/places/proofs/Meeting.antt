@@ -10,7 +10,7 @@ use borrow.Author.Tests.{eq-eqb, eqb-true, eqb-false, lt-ltb, ltb-true, ltb-fals
 use Rattle.codec.specs.Codec.{pick}
 use Rattle.places.specs.declared.spots.Spot.{Spot}
 use Rattle.places.specs.Spots.{hits, meet}
-use Rattle.places.proofs.Laws.{no-way}
+use Rattle.codes.proofs.Laws.{no-way}
 
 -- row k of the one and row n of the other stand at one element
 pub record Meets (step r x s y : ℕ) : Type 0 where

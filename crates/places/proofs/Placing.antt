@@ -17,11 +17,12 @@ use Rattle.format.specs.Ask.{capacityOf}
 use Rattle.segment.specs.Parts.{rank}
 use Rattle.nest.specs.Lists.{All}
 use Rattle.complete.specs.Complete.{Pairs, IfThere, Segments, PlanStarts, reach, stepIn, elementOf, InFront, PlacesApart, OwnApart, Unmixed, Placed, SegmentFits}
-use Rattle.places.specs.Refutes.{Refutes}
+use Rattle.codes.specs.Refutes.{Refutes}
 use Rattle.places.specs.declared.spots.Spot.{Spot}
 use Rattle.places.specs.Spots.{wrongSpot, wrongSpotOf, clash, clashOf, front, kindOf, meet, misplaced, mixed, reachOf, roomIn, spotOf, wrongPlan, wrongSegment, wrongSpots}
-use Rattle.places.proofs.Laws.{no-way, refute-as, refute-any, refute-none, refute-all, refute-low}
-use Rattle.places.proofs.Listing.{all-map, all-both, all-any, pairs-map, pairs-both, pairs-any, pairs-each, each-pairs, refute-pairs}
+use Rattle.codes.proofs.Laws.{no-way, refute-as, refute-any, refute-none, refute-all, refute-low}
+use Rattle.codes.proofs.Listing.{all-map, all-both, all-any}
+use Rattle.places.proofs.Listing.{pairs-map, pairs-both, pairs-any, pairs-each, each-pairs, refute-pairs}
 use Rattle.places.proofs.Meeting.{Meets, meets-back, rows-apart, meet-yes, meet-no}
 
 -- ---- reach

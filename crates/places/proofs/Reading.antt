@@ -19,34 +19,11 @@ use Rattle.format.specs.Plan.{Source, fromEnvelope, fromRow, fromRepeat, source
 use Rattle.format.specs.Fields.{source-tag, is-fromRow, is-fromRepeat, value-tag, is-fromGroup, is-fromCode}
 use Rattle.complete.specs.Complete.{stepIn}
 use Rattle.segment.specs.Parts.{rank}
-use Rattle.refusal.specs.Says.{Says, SaysRest, SaysBefore}
-use Rattle.refusal.proofs.Walk.{number-is, both, only}
-use Rattle.places.specs.declared.codes.Marks.{Marks}
-use Rattle.places.specs.Codes.{marked, markedValue}
+use Rattle.says.specs.Says.{Says, SaysRest, SaysBefore}
+use Rattle.says.proofs.Walk.{number-is, both, only}
+use Rattle.codes.proofs.Reading.{there, behind, within}
 use Rattle.places.specs.declared.spots.Spot.{Spot}
 use Rattle.places.specs.Spots.{wrongSpot, wrongSpotOf, clash, clashOf, kindOf, meet, misplaced, mixed, pairs, reachOf, roomIn, spotOf, wrongSegment, wrongSpots}
-
--- t is the mark of the case at a place
-module _ (b : List ℕ) (e at t : ℕ) (h : t ≡ tagAt b at e) where
-  there : (k : ℕ) → t ≡ k → k < 256 → getD b at 0 ≡ k
-  there k i l = sym (tag-in b at e (tag-case b at e k (sym h ∙ i) l)) ∙ sym h ∙ i
-
-  behind : (k : ℕ) → t ≡ k → k < 256 → (p : ℕ) → p ≡ skip (leC 1) b at e → p ≡ at + 1
-  behind k i l p j = let m : at < e = tag-case b at e k (sym h ∙ i) l in j ∙ skip-le 1 b at e (omega arith)
-
-  within : at + 1 ≤ e → getD b at 0 ≡ t
-  within l = sym (h ∙ tag-in b at e (omega arith))
-
-module _ (b : List ℕ) (e at t : ℕ) (m : Marks) (h : t ≡ tagAt b at e) where
-  pub code-there : (p : ℕ) (r : Bool) → t ≡ 2 → p ≡ skip (leC 1) b at e → Says bytesC b e p (marked m) r → Says valueC b e at (markedValue m) r
-  code-there p r i j s (fromColumn x) u = absurd (omega (arith, value-tag b e at (fromColumn x) u, there b e at t h 2 i (omega arith)))
-  code-there p r i j s (fromGroup x) u = absurd (omega (arith, value-tag b e at (fromGroup x) u, there b e at t h 2 i (omega arith)))
-  code-there p r i j s (fromCode x) u = s x (rw (behind b e at t h 2 i (omega arith) p j) (is-fromCode b e at x u))
-
-  pub code-not : (t ≡ 2 → ⊥) → Says valueC b e at (markedValue m) false
-  code-not i (fromColumn x) u = refl
-  code-not i (fromGroup x) u = refl
-  code-not i (fromCode x) u = absurd (i (sym (within b e at t h (is-in bytesC b e _ _ (is-fromCode b e at x u))) ∙ value-tag b e at (fromCode x) u))
 
 module _ (b : List ℕ) (e at t room : ℕ) (h : t ≡ tagAt b at e) where
   pub reach-group : t ≡ 1 → Says valueC b e at (reachOf room) room

@@ -20,10 +20,10 @@ use Rattle.segment.specs.Parts.{isEmpty}
 use Rattle.emit.specs.Envelope.{fieldAt, repetition, component}
 use Rattle.nest.specs.Lists.{All, on}
 use Rattle.complete.specs.Complete.{GivesSeparator, StandsAlone, SeparatorsAlone}
-use Rattle.places.specs.Refutes.{Refutes}
+use Rattle.codes.specs.Refutes.{Refutes}
 use Rattle.complete.specs.Decides.{Decides}
 use Rattle.places.specs.Triggers.{crowded, defsOf, fieldGives, gives, isEnvelope, partOf, triggerOf, wrongElement, wrongLoopAt, wrongRuled, wrongTrigger}
-use Rattle.places.proofs.Laws.{no-way, refute-as, refute-either, refute-all}
+use Rattle.codes.proofs.Laws.{no-way, refute-as, refute-either, refute-all}
 
 -- ---- words
 refute-implies : (s t : Bool) (P Q : Type 0) → Decides s P → Refutes t Q → Refutes (pick s t false) (P → Q)

@@ -1,7 +1,3 @@
-pub mod Refutes
 pub mod Fits
-pub mod Rules
-pub mod Maps
 pub mod Spots
-pub mod Codes
 pub mod Triggers

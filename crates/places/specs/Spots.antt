@@ -11,7 +11,7 @@ use Rattle.format.specs.Job.{Job}
 use Rattle.format.specs.Ask.{capacityOf}
 use Rattle.segment.specs.Parts.{rank}
 use Rattle.complete.specs.Complete.{stepIn}
-use Rattle.places.specs.Rules.{low}
+use Rattle.codes.specs.Rules.{low}
 use Rattle.places.specs.declared.spots.Spot.{Spot}
 
 -- how many rows of a chunk of `room` rows fill a planned element

@@ -1,25 +1,20 @@
 // Condition 5 of a complete plan (document 01): places, separators and codes, judged where the job stands.
-mod codes;
-mod maps;
-mod rules;
 mod spots;
 mod triggers;
 
 ghost use lib.ListN.{length};
 ghost use mathlib.Core.Path.{_≡_};
-ghost use Prim.Native.Nat.{_+_, _-_};
 ghost use mathlib.Core.Bool.{false};
-ghost use Rattle.codec.specs.Codec.{le, pick};
-ghost use Rattle.format.specs.Passed.{Passed};
+ghost use Rattle.codec.specs.Codec.{pick};
 ghost use Rattle.format.specs.Sections.{jobOf};
-ghost use Rattle.format.specs.Spec.{specC};
-ghost use Rattle.refusal.specs.Says.{Says};
-ghost use Rattle.places.specs.Codes.{MarksOf, markedSpec};
 ghost use Rattle.complete.specs.Decides.{Decides};
-ghost use Rattle.complete.specs.Complete.{CodesClear, SeparatorsAlone};
+ghost use Rattle.complete.specs.Complete.{SeparatorsAlone};
 ghost use Rattle.nest.specs.Ready.{Ready};
-ghost use Rattle.places.specs.Fits.{Fits5, MapsFit, RulesFit, SegmentsFit};
-use crate::codes::Marks;
+ghost use Rattle.places.specs.Fits.{Fits5, SegmentsFit};
+use codes::codes_clear;
+use codes::maps_fit;
+use codes::rules_fit;
+use codes::start;
 
 fn both(x: bool, y: bool) -> bool
     ensures { λ r. ⌜ r ≡ pick x y false ⌝ }
@@ -30,35 +25,6 @@ fn both(x: bool, y: bool) -> bool
     false
 }
 
-// One of the trailer's numbers: k is its place there.
-fn start(b: &[u8], k: u8) -> u32
-    requires { ⌜ Passed (now b) ⌝ }
-    ensures { λ r. ⌜ r ≡ le 4 (now (b .entry)) (length (now (b .entry)) - 24 + k) ⌝ }
-{
-    let t = b.len() - 24;
-    codec::num(b, t + k as usize) as u32
-}
-
-// Control rules.
-pub fn rules_fit(job: &[u8]) -> bool
-    requires { ⌜ Passed (now job) ⌝ }
-    ensures { λ r. ⌜ Decides r (RulesFit (jobOf (now (job .entry)))) ⌝ }
-{
-    let plan = start(job, 4);
-    !rules::loops_wrong(job, 0, plan)
-}
-
-// The spec's maps.
-pub fn maps_fit(job: &[u8]) -> bool
-    requires { ⌜ Passed (now job) ⌝ }
-    ensures { λ r. ⌜ Decides r (MapsFit (jobOf (now (job .entry)))) ⌝ }
-{
-    let plan = start(job, 4);
-    let loops = format::loops_at(job, 0, plan);
-    let roots = codec::les_at(job, 4, loops, plan);
-    !maps::segments_low(job, roots, plan)
-}
-
 // The places of planned segments.
 pub fn segments_fit(job: &[u8], index: &[u32]) -> bool
     requires { ⌜ Ready (now job) (now index) ⌝ }
@@ -67,45 +33,6 @@ pub fn segments_fit(job: &[u8], index: &[u32]) -> bool
     let plan = start(job, 4);
     let layout = start(job, 8);
     !spots::plans_wrong(job, index, plan as usize, layout)
-}
-
-fn marks(job: &[u8], index: &[u32]) -> Marks
-    requires { ⌜ Ready (now job) (now index) ⌝ }
-    ensures { λ r. ⌜ MarksOf (jobOf (now (job .entry))) r ⌝ }
-{
-    let element = spec::envelope::element_separator(job, index);
-    let component = spec::envelope::component_separator(job, index);
-    let segment = spec::envelope::segment_terminator(job, index);
-    Marks {
-        element: element as usize,
-        component: component as usize,
-        segment: segment as usize,
-    }
-}
-
-fn spec_marked(job: &[u8], end: u32, m: Marks) -> bool
-    ensures { λ r. ⌜ Says specC (now (job .entry)) end 0 (markedSpec m) r ⌝ }
-{
-    let loops = format::loops_at(job, 0, end);
-    let roots = codec::les_at(job, 4, loops, end);
-    let segments = format::segments_at(job, roots, end);
-    let tables = format::tables_at(job, segments, end);
-    let x = codes::segments_marked(job, roots, end, m);
-    let y = codes::opt_version_marked(job, tables, end, m);
-    codec::either(x, y)
-}
-
-// Codes in plan and spec, and the version's first value.
-pub fn codes_clear(job: &[u8], index: &[u32]) -> bool
-    requires { ⌜ Ready (now job) (now index) ⌝ }
-    ensures { λ r. ⌜ Decides r (CodesClear (jobOf (now (job .entry)))) ⌝ }
-{
-    let m = marks(job, index);
-    let plan = start(job, 4);
-    let layout = start(job, 8);
-    let x = codes::plan_marked(job, plan as usize, layout, m);
-    let y = spec_marked(job, plan, m);
-    !codec::either(x, y)
 }
 
 // Envelope fields that give a separator.

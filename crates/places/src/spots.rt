@@ -10,7 +10,7 @@ ghost use Rattle.format.specs.Ask.{capacityOf, stepOf};
 ghost use Rattle.segment.specs.Parts.{rank};
 ghost use Rattle.spec.specs.Index.{SpecIndexed};
 ghost use Rattle.plan.specs.Index.{PlanIndexed};
-ghost use Rattle.refusal.specs.Says.{Says, SaysRest};
+ghost use Rattle.says.specs.Says.{Says, SaysRest};
 ghost use Rattle.places.specs.Spots.{wrongSpot, clash, front, hits, meet, misplaced, mixed, reachOf, spotOf, wrongPlan, wrongSegment, wrongSpots};
 use crate::both;
 use spec::ids::TableId;

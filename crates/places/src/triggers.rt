@@ -12,7 +12,7 @@ ghost use Rattle.format.specs.Plan.{ElementPlan, elementPlanC, loopPlanC, segme
 ghost use Rattle.format.specs.Sections.{jobOf};
 ghost use Rattle.emit.specs.Envelope.{fieldAt};
 ghost use Rattle.nest.specs.Ready.{Ready};
-ghost use Rattle.refusal.specs.Says.{Says};
+ghost use Rattle.says.specs.Says.{Says};
 ghost use Rattle.places.specs.Triggers.{crowded, fieldGives, gives, partOf, triggerOf, wrongElement, wrongLoopAt, wrongRuled, wrongTrigger};
 use crate::both;
 use emit::envelope::Held;

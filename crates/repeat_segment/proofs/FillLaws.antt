@@ -10,7 +10,7 @@ use lib.Dec.{eqb}
 use lib.ListN.{length, getD, take, drop, length-take, length-drop}
 use lib.Seq.{drop-cons, getD-take, getD-drop}
 use borrow.Author.Tests.{eq-eqb, ne-eqb}
-use Rattle.lent.specs.Fit.{cap, more, Stored}
+use Rattle.lent.specs.Fit.{cap, wide, more, Stored, Noted}
 use Rattle.lent.proofs.Laws.{more-more}
 use Rattle.format.specs.Job.{Job}
 use Rattle.format.specs.Sections.{jobOf}
@@ -137,7 +137,7 @@ pub cell-entry : {p : Put} (b : List ℕ) (id : List ℕ) (e : ℕ) (c : Option 
 unfolding putCell
 cell-entry b id e c t n r h = rw h refl
 
-pub no-finding : {d : List ℕ} {at n : ℕ} (p : Put) → p .findings ≡ [] → n ≡ more at 0 → Stored d at (wordsOf (p .findings)) n d
+pub no-finding : {d : List ℕ} {at n : ℕ} (p : Put) → p .findings ≡ [] → n ≡ more at 0 → Noted d at (wordsOf (p .findings)) n d
 no-finding p h e = rw h (none-stored e)
 
 pub still : (m : ℕ) → m ≤ cap → m ≡ more m 0
@@ -147,7 +147,7 @@ still m h = omega arith
 
 pub record FillSoFar (b : List ℕ) (s : Planned) (k r : ℕ) (state : State) (f₀ f : List ℕ) (at i found count : ℕ) : Type 0 where
   pub along : Along b s at i
-  pub stored : Stored f₀ (state .findings) (wordsOf ((rowPuts b s k r (take i (plansOf b s))) .findings)) found f
+  pub stored : Noted f₀ (state .findings) (wordsOf ((rowPuts b s k r (take i (plansOf b s))) .findings)) found f
   pub entries : count ≡ more (state .entries) ((rowPuts b s k r (take i (plansOf b s))) .entries)
 
 module _ (b : List ℕ) (s : Planned) (o : Of b s) (k r : ℕ) (state : State) where
@@ -155,8 +155,8 @@ module _ (b : List ℕ) (s : Planned) (o : Of b s) (k r : ℕ) (state : State) w
   unfolding rowPuts chunkPut
   fill-start entries h e = record { along = along-first b s o; stored = none-stored (still (state .findings) (h .findings)); entries = e }
 
-  pub fill-next : {f₀ f f₁ : List ℕ} {at i found entries n : ℕ} (e : Element) (m : ℕ) → length f₀ ≤ cap → i < s .count → FillSoFar b s k r state f₀ f at i found entries → Read b s i e
-      → Stored f found (wordsOf ((elementPut b s k r (elementOf b e)) .findings)) n f₁ → m ≡ (elementPut b s k r (elementOf b e)) .entries
+  pub fill-next : {f₀ f f₁ : List ℕ} {at i found entries n : ℕ} (e : Element) (m : ℕ) → length f₀ ≤ wide → i < s .count → FillSoFar b s k r state f₀ f at i found entries → Read b s i e
+      → Noted f found (wordsOf ((elementPut b s k r (elementOf b e)) .findings)) n f₁ → m ≡ (elementPut b s k r (elementOf b e)) .entries
       → FillSoFar b s k r state f₀ f₁ (e .next) (i + 1) n (more entries m)
   fill-next {at = at} {i = i} e m c h w q x y =
       let p : rowPuts b s k r (take (i + 1) (plansOf b s)) ≡ andPut (rowPuts b s k r (take i (plansOf b s))) (elementPut b s k r (elementOf b e)) = ap (rowPuts b s k r) (take-next b s o at i (w .along) h e q) ∙ row-snoc b s k r _ _ in

@@ -62,7 +62,7 @@ module _ (b : List ℕ) (s : Planned) (rows : List ℕ) where
       nil : (k : ℕ) (x : ElementPlan) → (andPut (rowPuts b s k (getD rows k 0) []) (elementPut b s k (getD rows k 0) x)) .parts ≡ (elementPut b s k (getD rows k 0) x) .parts
       nil k x = rw (row-none b s k (getD rows k 0)) refl
 
-  from-append : (n m k : ℕ) (xs : List ElementPlan) → partsFrom b s rows k (n + m) xs ≡ partsFrom b s rows k n xs ++ partsFrom b s rows (k + n) m xs
+  pub from-append : (n m k : ℕ) (xs : List ElementPlan) → partsFrom b s rows k (n + m) xs ≡ partsFrom b s rows k n xs ++ partsFrom b s rows (k + n) m xs
   unfolding partsFrom
   from-append zero m k xs = let z : k + 0 ≡ k = omega arith in let y : 0 + m ≡ m = omega arith in rw (z, y) refl
   from-append (suc n) m k xs =

@@ -85,7 +85,7 @@ module _ (b : List ℕ) (s : Planned) (rows : List ℕ) where
 
 -- ---- the segment
 
-named : {d d₁ : List ℕ} {at : ℕ} {pen : Pen} (b : List ℕ) (s : Planned) → Of b s → Penned (opened (stretch b (s .id .start) (s .id .len))) at pen d d₁ → Penned (opened (idOf b s)) at pen d d₁
+pub named : {d d₁ : List ℕ} {at : ℕ} {pen : Pen} (b : List ℕ) (s : Planned) → Of b s → Penned (opened (stretch b (s .id .start) (s .id .len))) at pen d d₁ → Penned (opened (idOf b s)) at pen d d₁
 unfolding stretchOf
 named b s o w = rw (o .id .bytes) at w
 

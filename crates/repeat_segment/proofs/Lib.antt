@@ -6,3 +6,4 @@ pub mod FirstLaws
 pub mod HighLaws
 pub mod ZeroLaws
 pub mod JoinLaws
+pub mod OrderLaws

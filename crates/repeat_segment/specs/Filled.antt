@@ -2,7 +2,7 @@
 use Prim.Native.Nat.{ℕ}
 use mathlib.Core.Path.{_≡_}
 use mathlib.Core.List.{List}
-use Rattle.lent.specs.Fit.{more, Stored}
+use Rattle.lent.specs.Fit.{more, Noted}
 use Rattle.emit.specs.declared.state.State.{State}
 use Rattle.emit.specs.Puts.{Put}
 use Rattle.emit.specs.Written.{wordsOf}
@@ -14,5 +14,5 @@ pub record Filled (p : Put) (s n : State) (f f′ : List ℕ) : Type 0 where
   pub begun : n .begun ≡ s .begun
   pub bytes : n .bytes ≡ s .bytes
   pub segments : n .segments ≡ s .segments
-  pub findings : Stored f (s .findings) (wordsOf (p .findings)) (n .findings) f′
+  pub findings : Noted f (s .findings) (wordsOf (p .findings)) (n .findings) f′
   pub stops : n .stops ≡ s .stops

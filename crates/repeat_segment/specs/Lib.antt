@@ -1,3 +1,4 @@
 pub mod Planned
 pub mod Places
 pub mod Filled
+pub mod Order

@@ -11,6 +11,8 @@ use Rattle.format.specs.Job.{Job}
 use Rattle.format.specs.Sections.{jobOf}
 use Rattle.format.specs.Ask.{maxOf, dataOf}
 use Rattle.column.specs.Cell.{cellOf}
+use Rattle.column.specs.declared.Cell.{Cell as Read}
+use Rattle.column.specs.declared.Cell.the-variants.{None, Null, Bytes, Int, Wide, Days, Seconds}
 use Rattle.texts.specs.Reason.{Outcome, gives}
 use Rattle.segment.specs.Parts.{Part, pick, rank}
 use Rattle.segment.specs.Calls.{componentIn}
@@ -31,6 +33,16 @@ placeBy step k e (fromCode text) = pick (eqb k 0) (some e) none
 
 unfoldable pub placeIn : ℕ → ℕ → ElementPlan → Option ℕ
 placeIn step k x = placeBy step k (x .element) (x .value)
+
+-- only dates and times have another text where a place takes less
+abbrev pub takesMax : Read → Bool
+takesMax None = false
+takesMax Null = false
+takesMax (Bytes start len) = false
+takesMax (Int bits) = false
+takesMax (Wide low high scale) = false
+takesMax (Days bits) = true
+takesMax (Seconds bits) = true
 
 -- the text for row r at element e
 abbrev pub textBy : Job → List ℕ → ℕ → ℕ → Option ℕ → ℕ → Value → Outcome

@@ -14,7 +14,7 @@ use spec::ids::RowId;
 ghost use mathlib.Core.Path.{_≡_};
 ghost use mathlib.Core.List.{List};
 ghost use Prim.Native.Nat.{ℕ, _≤_, _<_};
-ghost use Rattle.lent.specs.Fit.{Stored};
+ghost use Rattle.lent.specs.Fit.{Noted};
 ghost use Rattle.format.specs.Sections.{jobOf};
 ghost use Rattle.format.specs.Refusal.{separators};
 ghost use Rattle.spec.specs.Answers.{numberOf};
@@ -68,7 +68,7 @@ fn note_cell(
     r: RowId,
 ) -> usize
     requires { ⌜ Ready (now job) (now index) × Of (now job) s × (tried d ≡ separators (jobOf (now job) .envelope)) ⌝ }
-    ensures { λ n. ⌜ Stored (now (findings .entry)) at
+    ensures { λ n. ⌜ Noted (now (findings .entry)) at
         (wordsOf ((putCell (jobOf (now (job .entry))) (idOf (now (job .entry)) s) p (numberOf component) (s .table .0) column (r .0)) .findings)) n (now (findings .exit)) ⌝ }
 {
     let x = places::cell_text(job, index, s, p, component, column, r);
@@ -89,7 +89,7 @@ fn note_element(
     r: RowId,
 ) -> usize
     requires { ⌜ Ready (now job) (now index) × Of (now job) s × (tried d ≡ separators (jobOf (now job) .envelope)) × (e .element ≤ 255) × (k < 256) ⌝ }
-    ensures { λ n. ⌜ Stored (now (findings .entry)) at (wordsOf ((elementPut (now (job .entry)) s k (r .0) (elementOf (now (job .entry)) e)) .findings)) n (now (findings .exit)) ⌝ }
+    ensures { λ n. ⌜ Noted (now (findings .entry)) at (wordsOf ((elementPut (now (job .entry)) s k (r .0) (elementOf (now (job .entry)) e)) .findings)) n (now (findings .exit)) ⌝ }
 {
     let v = e.value;
     let c = e.component;

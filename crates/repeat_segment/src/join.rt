@@ -1,5 +1,6 @@
 // The bytes of a repeat segment: position by position, component by component.
 use crate::last;
+use crate::order;
 use crate::planned::Planned;
 use crate::scan;
 use segment::Pen;
@@ -83,8 +84,8 @@ fn put_positions(
     segment::close(doc, sep, t, last as usize)
 }
 
-// The segment of a chunk; a part at element 0 keeps all texts out.
-pub fn put_chunk(
+// The segment of any chunk; a part at element 0 keeps all texts out.
+fn put_any(
     doc: &mut [u8],
     at: usize,
     job: &[u8],
@@ -104,4 +105,24 @@ pub fn put_chunk(
         return put_positions(doc, job, index, rows, count, sep, s, pen, last);
     }
     segment::close(doc, sep, pen, last as usize)
+}
+
+// The segment of a chunk: its texts as they come, or position by position.
+pub fn put_chunk(
+    doc: &mut [u8],
+    at: usize,
+    job: &[u8],
+    index: &[u32],
+    rows: &[u32],
+    count: u32,
+    sep: Separators,
+    s: Planned,
+) -> usize
+    requires { ⌜ Ready (now job) (now index) × Of (now job) s × (count ≤ 256) × (count ≤ length (now rows)) ⌝ }
+    ensures { λ r. ⌜ Stored (now (doc .entry)) at (joined sep (idOf (now (job .entry)) s) (sorted (partsOf (now (job .entry)) s (now (rows .entry)) count))) r (now (doc .exit)) ⌝ }
+{
+    if order::in_order(job, s, count) {
+        return order::put_ordered(doc, at, job, index, rows, count, sep, s);
+    }
+    put_any(doc, at, job, index, rows, count, sep, s)
 }

@@ -2,6 +2,7 @@
 mod fill;
 mod join;
 mod last;
+mod order;
 mod places;
 mod planned;
 mod scan;

@@ -1,5 +1,6 @@
 // Where a planned element puts its text for a row of the chunk, and that text.
 use crate::planned::Planned;
+use column::Cell;
 use emit::cells;
 use emit::cells::Written;
 use plan::answers::ElementPlan;
@@ -25,7 +26,7 @@ ghost use Rattle.nest.specs.Ready.{Ready};
 ghost use Rattle.emit.specs.Puts.{cellText, maxIn};
 ghost use Rattle.emit.specs.Written.{Writes};
 ghost use Rattle.repeat_segment.specs.Planned.{Of, idOf};
-ghost use Rattle.repeat_segment.specs.Places.{placeIn, textIn, Lowest};
+ghost use Rattle.repeat_segment.specs.Places.{placeIn, takesMax, textIn, Lowest};
 
 // ---- places
 
@@ -100,6 +101,21 @@ fn max_in(n: Number) -> Max
     }
 }
 
+// Whether the most that its place takes matters to the text of a cell: only dates and times are shortened.
+fn takes_max(cell: Cell) -> bool
+    ensures { λ r. ⌜ r ≡ takesMax cell ⌝ }
+{
+    match cell {
+        Cell::None => false,
+        Cell::Null => false,
+        Cell::Bytes(start, len) => false,
+        Cell::Int(bits) => false,
+        Cell::Wide(lo, hi, scale) => false,
+        Cell::Days(bits) => true,
+        Cell::Seconds(bits) => true,
+    }
+}
+
 // The text of a cell at element p.
 pub fn cell_text(
     job: &[u8],
@@ -114,9 +130,12 @@ pub fn cell_text(
     ensures { λ w. ⌜ Writes (now (job .entry)) w (cellText (cellOf (dataOf (jobOf (now (job .entry))) (s .table .0)) column (r .0))
         (maxIn (maxOf (jobOf (now (job .entry))) (idOf (now (job .entry)) s) p (numberOf component)))) ⌝ }
 {
-    let most = segments::max_of(job, index, s.id, p, component);
     let cell = tables::data::cell(job, index, s.table, column, r);
-    cells::cell_value(cell, max_in(most))
+    if takes_max(cell) {
+        let most = segments::max_of(job, index, s.id, p, component);
+        return cells::cell_value(cell, max_in(most));
+    }
+    cells::cell_value(cell, Max::Free)
 }
 
 fn code_text(code: Stretch) -> Written

@@ -7,7 +7,7 @@ use native.Mathlib.Omega.{arith}
 use native.Mathlib.Numerals.{add-one}
 use lib.ListN.{length, take, set, length-set}
 use lib.Seq.{take-suc-set}
-use Rattle.lent.specs.Fit.{cap}
+use Rattle.lent.specs.Fit.{cap, wide}
 use Rattle.format.specs.Job.{Job}
 use Rattle.nest.specs.OfJob.{outlineOf}
 use Rattle.spec.specs.declared.ids.RowId.{RowId}
@@ -23,7 +23,7 @@ use Rattle.repeats.specs.Going.{rowAdds, headThen, rowsThen, countThen}
 use Rattle.repeats.specs.Added.{Added}
 
 -- a row is entered, and gives its cells
-pub row-added : {s m n : State} {f f₁ f₂ p p₁ : List ℕ} (j : Job) (l i t k r : ℕ) → length f ≤ cap → length p ≤ cap
+pub row-added : {s m n : State} {f f₁ f₂ p p₁ : List ℕ} (j : Job) (l i t k r : ℕ) → length f ≤ wide → length p ≤ cap
     → ((d g : List ℕ) → Did (stopOut (outlineOf j) l t r (stateOf s)) s m d d g g f f₁ p p₁)
     → ((d g q : List ℕ) → Did (fillOut j l i t k r (stateOf m)) m n d d g g f₁ f₂ q q)
     → (d g : List ℕ) → length d ≤ cap → length g ≤ cap → Did (stepsOut j (stop l t r ∷ fill l i t k r ∷ []) (stateOf s)) s n d d g g f f₂ p p₁

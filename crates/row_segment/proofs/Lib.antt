@@ -3,4 +3,5 @@ pub mod CellLaws
 pub mod StreamLaws
 pub mod NoteLaws
 pub mod GroupLaws
+pub mod AloneLaws
 pub mod RowLaws

@@ -5,7 +5,7 @@ use mathlib.Core.Bool.{true, false}
 use mathlib.Core.List.{List, [], _∷_, _++_}
 use native.Mathlib.Omega.{arith}
 use lib.ListN.{length}
-use Rattle.lent.specs.Fit.{cap, more, Stored}
+use Rattle.lent.specs.Fit.{cap, base, wide, more, StoredAt}
 use Rattle.lent.proofs.Laws.{stored-none, stored-append, stored-length, stored-small}
 use Rattle.format.specs.Plan.{ElementPlan, Value, fromColumn, fromGroup, fromCode}
 use Rattle.format.specs.Sections.{jobOf}
@@ -25,7 +25,7 @@ use Rattle.row_segment.specs.declared.parts.Source.{Source}
 use Rattle.row_segment.specs.declared.parts.Source.the-variants.{Cell, Code}
 use Rattle.row_segment.specs.declared.parts.Look.{Look}
 use Rattle.row_segment.specs.declared.notes.Tally.{Tally}
-use Rattle.row_segment.specs.declared.notes.Trial.{Trial}
+use Rattle.row_segment.specs.declared.notes.Tried.{Tried}
 use Rattle.row_segment.specs.Stream.{idOf, plans, elementPut, puts, partPut, outcomeOf, ahead, Sees, Looks}
 use Rattle.row_segment.specs.Notes.{Tries, Noted, Totals}
 use Rattle.row_segment.proofs.StreamLaws.{part-is, ahead-more, ahead-none}
@@ -33,7 +33,7 @@ use Rattle.row_segment.proofs.StreamLaws.{part-is, ahead-more, ahead-no
 -- ---- one part
 
 module _ (b : List ℕ) (x : Line) (p : Planned) where
-  pub cell-notes : (w : Written) (y : Trial) (column : ℕ) → Tries b x y → Writes b w (outcomeOf b x p) → p .source ≡ Cell column
+  pub cell-notes : (w : Written) (y : Tried) (column : ℕ) → Tries b x y → Writes b w (outcomeOf b x p) → p .source ≡ Cell column
       → (partPut b x p) .findings
       ≡ unwritten (cell (x .t .0) (x .r .0) column) (placeOf (idOf b x) (p .element) (numberOf (p .component))) (w .reason)
       ++ heldIn (cell (x .t .0) (x .r .0) column) (placeOf (idOf b x) (p .element) (numberOf (p .component))) (valueText b (w .value)) 0 (tried (y .delimiters))
@@ -60,7 +60,7 @@ module _ (b : List ℕ) (x : Line) (p : Planned) where
       go (Cell n) e = rw e (omega arith)
       go (Code s) e = rw e (omega arith)
 
-  pub noted : {s r : Tally} {f f′ : List ℕ} (w : Written) → Writes b w (outcomeOf b x p) → Stored f (s .findings) (wordsOf ((partPut b x p) .findings)) (r .findings) f′
+  pub noted : {s r : Tally} {f f′ : List ℕ} (w : Written) → Writes b w (outcomeOf b x p) → StoredAt base f (s .findings) (wordsOf ((partPut b x p) .findings)) (r .findings) f′
       → r .entries ≡ s .entries + (partPut b x p) .entries → r .last ≡ max (s .last) (pick (isEmpty (valueText b (w .value))) 0 (p .element)) → Noted b x p s r f f′
   unfolding highest
   noted w q n e l = record { findings = n; entries = e; last = rw (part-is b x p) (let t = w in l ∙ rw (q .text) (omega arith)) }
@@ -85,7 +85,7 @@ puts-few b x = entries-few b x (plans b x)
 
 -- what is stored from here on completes the whole
 pub record Noting (b : List ℕ) (x : Line) (at : ℕ) (f₀ f : List ℕ) (s : Tally) (n : Look) : Type 0 where
-  pub findings : (q : ℕ) (g : List ℕ) → Stored f (s .findings) (wordsOf ((ahead b x n) .findings)) q g → Stored f₀ at (wordsOf ((puts b x 0) .findings)) q g
+  pub findings : (q : ℕ) (g : List ℕ) → StoredAt base f (s .findings) (wordsOf ((ahead b x n) .findings)) q g → StoredAt base f₀ at (wordsOf ((puts b x 0) .findings)) q g
   pub small : s .findings ≤ cap
   pub long : length f ≡ length f₀
   pub entries : (puts b x 0) .entries ≡ s .entries + (ahead b x n) .entries
@@ -93,7 +93,7 @@ pub record Noting (b : List ℕ) (x : Line) (at : ℕ) (f₀ f : List ℕ) (s : 
   pub sees : Sees b x n
 
 module _ (b : List ℕ) (x : Line) (at : ℕ) (f₀ : List ℕ) where
-  pub noting-start : (s : Tally) (n : Look) → length f₀ ≤ cap → s .findings ≡ more at 0 → s .entries ≡ 0 → s .last ≡ 0 → Looks b x 0 n → Noting b x at f₀ f₀ s n
+  pub noting-start : (s : Tally) (n : Look) → length f₀ ≤ wide → s .findings ≡ more at 0 → s .entries ≡ 0 → s .last ≡ 0 → Looks b x 0 n → Noting b x at f₀ f₀ s n
   noting-start s n h e c m l = record {
     findings = λ q g w. stored-append [] (wordsOf ((puts b x 0) .findings)) h (stored-none f₀ at) (rw (← e, ← l .whole) w);
     small = omega arith;
@@ -103,12 +103,12 @@ module _ (b : List ℕ) (x : Line) (at : ℕ) (f₀ : List ℕ) where
     sees = l .sees;
   }
 
-  module _ (f : List ℕ) (s : Tally) (n : Look) (h : length f₀ ≤ cap) (i : Noting b x at f₀ f s n) where
+  module _ (f : List ℕ) (s : Tally) (n : Look) (h : length f₀ ≤ wide) (i : Noting b x at f₀ f s n) where
     pub noting-next : (f′ : List ℕ) (r : Tally) (m : Look) → n .more ≡ true → Noted b x (n .part) s r f f′ → Looks b x (n .k) m → Noting b x at f₀ f′ r m
     noting-next f′ r m e d l =
         let a : Put = partPut b x (n .part) in
         let u : ahead b x n ≡ andPut a (ahead b x m) = ahead-more n m e l in
-        let k : length f ≤ cap = rw (i .long) h in
+        let k : length f ≤ wide = rw (i .long) h in
         record {
           findings = λ q g w. i .findings q g (rw u (stored-findings (a .findings) ((ahead b x m) .findings) k (d .findings) w));
           small = stored-small (wordsOf (a .findings)) (d .findings);

@@ -7,6 +7,7 @@ use segment::Pen;
 use segment::Separators;
 use segment::Value;
 ghost use mathlib.Core.Path.{_≡_};
+ghost use mathlib.Core.Bool.{true};
 ghost use Prim.Native.Nat.{_<_};
 ghost use Rattle.lent.specs.Fit.{Stored};
 ghost use Rattle.format.specs.Sections.{jobOf};
@@ -15,7 +16,7 @@ ghost use Rattle.segment.specs.Pen.{valueText};
 ghost use Rattle.segment.specs.Calls.{Group, Row};
 ghost use Rattle.emit.specs.Fold.{separatorsOf};
 ghost use Rattle.row_segment.specs.Stream.{Lined, Sees, ahead, puts, idOf};
-ghost use Rattle.row_segment.specs.Groups.{Scans};
+ghost use Rattle.row_segment.specs.Groups.{Scans, Alone, Steps};
 
 // The last filled component of an element, and the look behind its parts.
 pub struct Scanned {
@@ -97,6 +98,61 @@ fn wide(n: u32) -> usize
     n as usize
 }
 
+// The pen behind an element, and the look behind its parts.
+pub struct Step {
+    pub pen: Pen,
+    pub after: Look,
+}
+
+// Whether the part of a look is component 1 of its element and stands alone there; `after` is the next look.
+fn alone(a: Look, after: Look) -> bool
+    ensures { λ r. ⌜ (r ≡ true → Alone a after) ⌝ }
+{
+    let p = a.part;
+    let q = after.part;
+    let c = p.component;
+    if parts::component_of(c) == 1 {
+        if after.more {
+            if q.element == p.element {
+                return false;
+            }
+            return true;
+        }
+        return true;
+    }
+    false
+}
+
+// The element of a look: a part that stands alone is written as it comes.
+fn put_next(
+    job: &[u8],
+    index: &[u32],
+    doc: &mut [u8],
+    s: Separators,
+    pen: Pen,
+    x: Line,
+    a: Look,
+) -> Step
+    requires { ⌜ Lined (now job) (now index) x × Sees (now job) x a × (a .more ≡ true) ⌝ }
+    ensures { λ r. ⌜ Steps s (now (job .entry)) x a pen (now (doc .entry)) r (now (doc .exit)) ⌝ }
+{
+    let p = a.part;
+    let after = parts::next_part(job, index, x, a.k, a.at);
+    if alone(a, after) {
+        let w = parts::text_of(job, index, x, p);
+        let v = w.value;
+        let t = segment::element(doc, job, s, pen, p.element as usize, v);
+        return Step { pen: t, after };
+    }
+    let g = scan(job, index, x, a, p.element);
+    let t = put_group(job, index, doc, s, pen, x, a, p.element, g.last);
+    let rest = g.after;
+    Step {
+        pen: t,
+        after: rest,
+    }
+}
+
 // The parts of a look, joined as far as their elements rise, and the end of the segment, whose last filled element is `last`.
 fn put_groups(
     job: &[u8],
@@ -121,9 +177,10 @@ fn put_groups(
         if place < done {
             return segment::close(doc, s, q, last);
         }
-        let g = scan(job, index, x, a, e);
-        q = put_group(job, index, doc, s, q, x, a, e, g.last);
+        let g = put_next(job, index, doc, s, q, x, a);
+        let t = g.pen;
         let after = g.after;
+        q = t;
         a = after;
         done = place + 1;
     }

@@ -12,7 +12,7 @@ use spec::ids::Number;
 ghost use mathlib.Core.Path.{_≡_};
 ghost use mathlib.Core.List.{List};
 ghost use Prim.Native.Nat.{ℕ, _<_};
-ghost use Rattle.lent.specs.Fit.{Stored};
+ghost use Rattle.lent.specs.Fit.{base, StoredAt};
 ghost use Rattle.spec.specs.Answers.{numberOf};
 ghost use Rattle.nest.specs.Finding.{cell, numberFrom, orZero};
 ghost use Rattle.emit.specs.Puts.{placeOf};
@@ -28,7 +28,7 @@ pub struct Tally {
 }
 
 // The identifier as a number, and the separators that texts are tried for.
-pub struct Trial {
+pub struct Tried {
     pub name: u64,
     pub delimiters: Delimiters,
 }
@@ -59,14 +59,14 @@ fn spot(x: Line, name: u64, element: u32, component: Number, column: u32) -> Spo
     }
 }
 
-fn trial_of(job: &[u8], index: &[u32], x: Line) -> Trial
+fn tried_of(job: &[u8], index: &[u32], x: Line) -> Tried
     requires { ⌜ Lined (now job) (now index) x ⌝ }
     ensures { λ r. ⌜ Tries (now (job .entry)) x r ⌝ }
 {
     let id = x.id;
     let name = marks::name_number(job, id);
     let delimiters = marks::delimiters_of(job, index);
-    Trial { name, delimiters }
+    Tried { name, delimiters }
 }
 
 // The findings on a part's text; a code is not tried.
@@ -75,12 +75,12 @@ fn note_part(
     findings: &mut [u64],
     at: usize,
     x: Line,
-    y: Trial,
+    y: Tried,
     p: Planned,
     w: Written,
 ) -> usize
     requires { ⌜ Tries (now job) x y × Writes (now job) w (outcomeOf (now job) x p) ⌝ }
-    ensures { λ n. ⌜ Stored (now (findings .entry)) at (wordsOf ((partPut (now (job .entry)) x p) .findings)) n (now (findings .exit)) ⌝ }
+    ensures { λ n. ⌜ StoredAt base (now (findings .entry)) at (wordsOf ((partPut (now (job .entry)) x p) .findings)) n (now (findings .exit)) ⌝ }
 {
     let component = p.component;
     let source = p.source;
@@ -115,7 +115,7 @@ fn note_one(
     findings: &mut [u64],
     s: Tally,
     x: Line,
-    y: Trial,
+    y: Tried,
     p: Planned,
 ) -> Tally
     requires { ⌜ Lined (now job) (now index) x × Tries (now job) x y × (s .entries < 4294967296) ⌝ }
@@ -138,7 +138,7 @@ pub fn note_line(job: &[u8], index: &[u32], findings: &mut [u64], at: usize, x: 
     requires { ⌜ Lined (now job) (now index) x ⌝ }
     ensures { λ r. ⌜ Totals (now (job .entry)) x at r (now (findings .entry)) (now (findings .exit)) ⌝ }
 {
-    let y = trial_of(job, index, x);
+    let y = tried_of(job, index, x);
     let from = lent::more(at, 0);
     let mut s = Tally {
         findings: from,

@@ -15,7 +15,7 @@ use Rattle.format.specs.Job.{Job}
 use Rattle.format.specs.Sections.{jobOf}
 use Rattle.format.specs.Refusal.{separators}
 use Rattle.format.specs.Ask.{loopOf, minOf, depthOf}
-use Rattle.lent.specs.Fit.{cap, more, stretch, Stored}
+use Rattle.lent.specs.Fit.{wide, more, stretch, Noted}
 use Rattle.lent.proofs.Laws.{stored-length}
 use Rattle.spec.specs.declared.ids.Element.{Element}
 use Rattle.spec.specs.declared.ids.Elements.{Elements}
@@ -94,10 +94,10 @@ pub spot-is : (trigger : List ℕ) (name f p : ℕ) → name ≡ numberFrom 0 tr
     → _≡_ {A = Spot} (record { origin = 1; table = f; row = 0; column = 0; identifier = name; element = p; component = 0 }) (spotOf (field f) (placeOf trigger p none))
 spot-is trigger name f p e = rw e
 
-pub field-stored : {d d₁ d₂ : List ℕ} {at n m : ℕ} (j : Job) (trigger text : List ℕ) (f p reason : ℕ) (checked : Bool) (t : Delimiters) → tried t ≡ separators (j .envelope) → length d ≤ cap
-    → Stored d at (wordsOf (pick checked (heldIn (field f) (placeOf trigger p none) text 0 (tried t)) [])) n d₁
-    → Stored d₁ n (wordsOf (unwritten (field f) (placeOf trigger p none) reason)) m d₂
-    → Stored d at (wordsOf (fieldFindings j trigger p f (record { text = text; reason = reason; checked = checked }) text)) m d₂
+pub field-stored : {d d₁ d₂ : List ℕ} {at n m : ℕ} (j : Job) (trigger text : List ℕ) (f p reason : ℕ) (checked : Bool) (t : Delimiters) → tried t ≡ separators (j .envelope) → length d ≤ wide
+    → Noted d at (wordsOf (pick checked (heldIn (field f) (placeOf trigger p none) text 0 (tried t)) [])) n d₁
+    → Noted d₁ n (wordsOf (unwritten (field f) (placeOf trigger p none) reason)) m d₂
+    → Noted d at (wordsOf (fieldFindings j trigger p f (record { text = text; reason = reason; checked = checked }) text)) m d₂
 unfolding delimited
 field-stored j trigger text f p reason checked t e h x y =
     stored-findings (pick checked (heldIn (field f) (placeOf trigger p none) text 0 (separators (j .envelope))) []) (unwritten (field f) (placeOf trigger p none) reason) h (rw e at x) y

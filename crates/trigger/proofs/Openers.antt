@@ -29,7 +29,7 @@ use Rattle.emit.specs.Fold.{separatorsOf}
 use Rattle.emit.specs.Envelope.{openerPut, controlIn}
 use Rattle.trigger.specs.declared.opener.Frame.{Frame}
 use Rattle.trigger.specs.declared.opener.Put as answer
-use Rattle.lent.specs.Fit.{cap, more, Stored}
+use Rattle.lent.specs.Fit.{cap, wide, more, Stored, Noted}
 use Rattle.spec.specs.declared.ids.Element.{Element}
 use Rattle.spec.specs.declared.ids.Elements.{Elements}
 use Rattle.spec.specs.Cursor.{Entries, ElementSays}
@@ -141,7 +141,7 @@ pub record SoFar (b : List ℕ) (j : Job) (s : Separators) (trigger : List ℕ) 
   pub place : Entries b c rest
   pub mins : Mins j trigger rest
   pub adds-up : putAll g xs ≡ andPut done (putAll g rest)
-  pub findings : Stored f₀ at (wordsOf (done .findings)) (r .findings) f
+  pub findings : Noted f₀ at (wordsOf (done .findings)) (r .findings) f
   pub entries : r .entries ≡ more 0 (done .entries)
   pub last : r .last ≡ lastElement (done .parts)
   pub rises : risesFrom low rest ≡ true
@@ -200,7 +200,7 @@ module _ {b : List ℕ} {j : Job} {s : Separators} {trigger : List ℕ} {g : ℕ
         go [] e = absurd (let m = e .counted in omega arith)
         go (y ∷ ys) e = let m = e .counted in let n = moves y ys e .counted in omega arith
 
-    pub one-more : {x : Element} {r′ : Drawn} {c′ : Elements} {d₁ f₁ : List ℕ} → ((y : ℕ × ElementDef) → Shape (y .0) ((g y) .parts)) → length f₀ ≤ cap → 0 < c .left
+    pub one-more : {x : Element} {r′ : Drawn} {c′ : Elements} {d₁ f₁ : List ℕ} → ((y : ℕ × ElementDef) → Shape (y .0) ((g y) .parts)) → length f₀ ≤ wide → 0 < c .left
         → ((y : ℕ × ElementDef) (ys : SegmentDef) → Entries b c (y ∷ ys) → ElementSays b x y)
         → ((y : ℕ × ElementDef) → ElementSays b x y → minOf j trigger (y .0) ≡ y .1 .min → Adds s (g y) r r′ d d₁ f f₁)
         → ((y : ℕ × ElementDef) (ys : SegmentDef) → Entries b c (y ∷ ys) → Entries b c′ ys)

@@ -5,7 +5,7 @@ use mathlib.Core.Bool.{Bool, true, false}
 use mathlib.Core.List.{List, [], _∷_}
 use mathlib.Core.Option.{Option, none, some}
 use lib.ListN.{length, getD}
-use Rattle.lent.specs.Fit.{more, Stored}
+use Rattle.lent.specs.Fit.{more, Stored, Noted}
 use Rattle.codec.specs.Maps.{risesFrom}
 use Rattle.format.specs.Spec.{Control, ElementDef, SegmentDef}
 use Rattle.format.specs.Job.{Job}
@@ -63,7 +63,7 @@ pub data Draws (s : Separators) : Bool → List Part → Pen → List ℕ → Bo
 -- what an element puts is added to what was drawn
 pub record Adds (s : Separators) (p : Put) (at r : Drawn) (d d₁ f f₁ : List ℕ) : Type 0 where
   pub drawn : Draws s (at .stuck) (p .parts) (at .pen) d (r .stuck) (r .pen) d₁
-  pub findings : Stored f (at .findings) (wordsOf (p .findings)) (r .findings) f₁
+  pub findings : Noted f (at .findings) (wordsOf (p .findings)) (r .findings) f₁
   pub entries : r .entries ≡ more (at .entries) (p .entries)
   pub last : r .last ≡ max (at .last) (lastElement (p .parts))
 
@@ -85,7 +85,7 @@ pub record Opening (b : List ℕ) (w : Frame) (c : Elements) : Type 0 where
 
 -- all of a trigger's elements were drawn, and closing its segment joins their parts
 pub record Drew (s : Separators) (p : Put) (pen : Pen) (at : ℕ) (r : Drawn) (d d₁ f f₁ : List ℕ) : Type 0 where
-  pub findings : Stored f at (wordsOf (p .findings)) (r .findings) f₁
+  pub findings : Noted f at (wordsOf (p .findings)) (r .findings) f₁
   pub entries : r .entries ≡ more 0 (p .entries)
   pub last : r .last ≡ lastElement (p .parts)
   pub closes : (e : ℕ) (d₂ : List ℕ) → Stored d₁ (r .pen .at) (closing s (r .pen) (r .last)) e d₂ → Row s (r .last) 1 (p .parts) pen d e d₂
@@ -100,5 +100,5 @@ pub record Told (b : List ℕ) (w : Frame) : Type 0 where
 -- a trigger that puts p was written
 pub record Opened (j : Job) (trigger : List ℕ) (p : Put) (at noted : ℕ) (r : answer.Put) (d d₁ f f₁ : List ℕ) : Type 0 where
   pub bytes : Stored d at (joined (separatorsOf j) trigger (p .parts)) (r .bytes) d₁
-  pub findings : Stored f noted (wordsOf (p .findings)) (r .findings) f₁
+  pub findings : Noted f noted (wordsOf (p .findings)) (r .findings) f₁
   pub entries : r .entries ≡ more 0 (p .entries)

@@ -24,7 +24,7 @@ ghost use mathlib.Core.Option.{Option, none};
 ghost use Prim.Native.Nat.{ℕ, _+_, _≤_, _<_, max};
 ghost use lib.ListN.{length};
 ghost use lib.Dec.{ltb};
-ghost use Rattle.lent.specs.Fit.{stretch, Stored, more};
+ghost use Rattle.lent.specs.Fit.{stretch, Noted, more};
 ghost use Rattle.format.specs.Spec.{Control, ElementDef, SegmentDef};
 ghost use Rattle.format.specs.Job.{Job};
 ghost use Rattle.format.specs.Sections.{jobOf};
@@ -125,7 +125,7 @@ fn try_checked(
     checked: bool,
 ) -> usize
     ensures { λ n. ⌜ ((o : Origin) (p : In) → w ≡ spotOf o p
-        → Stored (now (findings .entry)) at (wordsOf (pick checked (heldIn o p (valueText (now (job .entry)) v) 0 (tried d)) [])) n (now (findings .exit))) ⌝ }
+        → Noted (now (findings .entry)) at (wordsOf (pick checked (heldIn o p (valueText (now (job .entry)) v) 0 (tried d)) [])) n (now (findings .exit))) ⌝ }
 {
     if checked {
         return findings::try_delimiters(findings, at, job, v, w, d);
@@ -146,7 +146,7 @@ fn note_field(
     checked: bool,
 ) -> usize
     ensures { λ n. ⌜ ((j : Job) (trigger : List ℕ) → tried (w .tried) ≡ separators (j .envelope) → w .name ≡ numberFrom 0 trigger
-        → Stored (now (findings .entry)) at (wordsOf (fieldFindings j trigger p f (record { text = valueText (now (job .entry)) v; reason = reason; checked = checked }) (valueText (now (job .entry)) v))) n (now (findings .exit))) ⌝ }
+        → Noted (now (findings .entry)) at (wordsOf (fieldFindings j trigger p f (record { text = valueText (now (job .entry)) v; reason = reason; checked = checked }) (valueText (now (job .entry)) v))) n (now (findings .exit))) ⌝ }
 {
     let spot = Spot {
         origin: 1,
@@ -174,7 +174,7 @@ fn note_text(
     checked: bool,
 ) -> usize
     ensures { λ n. ⌜ ((j : Job) (trigger : List ℕ) → tried (w .tried) ≡ separators (j .envelope) → w .name ≡ numberFrom 0 trigger
-        → Stored (now (findings .entry)) at (wordsOf ((putBy j trigger p (heldField field) reason checked (valueText (now (job .entry)) v)) .findings)) n (now (findings .exit))) ⌝ }
+        → Noted (now (findings .entry)) at (wordsOf ((putBy j trigger p (heldField field) reason checked (valueText (now (job .entry)) v)) .findings)) n (now (findings .exit))) ⌝ }
 {
     match field {
         Held::Nothing => lent::more(at, 0),

@@ -47,4 +47,4 @@ module _ {b idx n : List ℕ} (N : Nested b idx n) where
 -- ---- contexts whose rows are there
 
 pub sound-outside : (j : Outline) → Sound j outside
-sound-outside j = record { there = λ t r e. absurd (Option·none-ne-some r e) }
+sound-outside j = record { there = λ t r e. absurd (Option·none-ne-some r e); begun = λ p r e q d. absurd (Option·none-ne-some p e) }

@@ -16,13 +16,10 @@ use Rattle.nest.specs.Nest.{referred, held, hook, hooked, nestRecord, repeatRow
 use Rattle.nest.proofs.Scan.{upTo-all, keep-all, keep-none, keep-length, window, window-all}
 use Rattle.nest.proofs.NestLaws.{holds}
 use Rattle.nest.proofs.Hanging.{plain-not}
-use Rattle.walk.specs.Instances.{Context, Run, Piece, heldIn, cutTo, rowsIn, offset, bound, pieces}
+use Rattle.walk.specs.Instances.{Context, Run, Piece, at, heldBy, heldIn, cutTo, rowsIn, offset, bound, pieces}
 use Rattle.walk.specs.Tour.{chunks}
 
 -- ---- whether a row is one of its parent's row
-
-unfoldable pub heldBy : Outline → ℕ → (ℕ → Option ℕ) → ℕ → Bool
-heldBy j t row r = on (tableParent j t) (λ u. on (row u) (is (referred j t r u)) false) true
 
 pub held-top : (j : Outline) (t : ℕ) (row : ℕ → Option ℕ) (r : ℕ) → tableParent j t ≡ none → heldBy j t row r ≡ true
 unfolding heldBy
@@ -37,6 +34,16 @@ pub held-number : (j : Outline) (t : ℕ) (row : ℕ → Option ℕ) (r u p : �
     → heldBy j t row r ≡ eqb (getD (nestRecord j t r) 0 0) (suc p)
 unfolding heldBy
 held-number j t row r u p f e q = rw e (rw q (holds j t r u p (plain-not j t f) e))
+
+-- entering a row of the table itself changes nothing, unless the table is its own parent
+pub held-apart : (j : Outline) (t head : ℕ) (row : ℕ → Option ℕ) (r : ℕ) → (tableParent j t ≡ some t → ⊥) → heldBy j t (at t head row) r ≡ heldBy j t row r
+unfolding heldBy
+held-apart j t head row r d = go (tableParent j t) refl
+  where
+    go : (x : Option ℕ) → tableParent j t ≡ x
+        → on x (λ u. on (at t head row u) (is (referred j t r u)) false) true ≡ on x (λ u. on (row u) (is (referred j t r u)) false) true
+    go none e = refl
+    go (some u) e = rw (ne-eqb u t (λ q. absurd (d (e ∙ ap some q))))
 
 held-keep : (j : Outline) (t : ℕ) (row : ℕ → Option ℕ) → heldIn j t row ≡ keep (heldBy j t row) (from 0 (rowCount j t))
 unfolding heldIn heldBy held

@@ -1,13 +1,13 @@
 -- The instances of a loop inside an instance (write/walk.rs).
 use Prim.Native.Nat.{ℕ, zero, suc, _+_}
-use mathlib.Core.Bool.{Bool, false, cond, not, _&&_, _||_}
+use mathlib.Core.Bool.{Bool, true, false, cond, not, _&&_, _||_}
 use mathlib.Core.List.{List, [], _∷_, map}
 use mathlib.Core.Option.{Option, none, some}
 use lib.ListN.{length}
 use lib.Dec.{eqb}
 use Rattle.nest.specs.Lists.{some-of, is-empty, on, from, is, part}
 use Rattle.nest.specs.Outline.{Outline, Kind, rows, absent, envelope, implied, inside, groups, insideTable, sourceTable, loopOf, planOf, kindOf, segmentOf, planned, tableParent, rowCount, plain}
-use Rattle.nest.specs.Nest.{held}
+use Rattle.nest.specs.Nest.{referred, held}
 
 -- a run of grouped rows: its table, and its bounds counted from the start of the parent's list
 pub record Run : Type 0 where
@@ -31,6 +31,10 @@ at t r old u = cond (eqb u t) (some r) (old u)
 -- those that its parent's row holds, none where there is no such row; all of them where it has no parent
 unfoldable pub heldIn : Outline → ℕ → (ℕ → Option ℕ) → List ℕ
 heldIn j t row = on (tableParent j t) (λ u. on (row u) (held j t u) []) (from 0 (rowCount j t))
+
+-- whether a row is one of those
+unfoldable pub heldBy : Outline → ℕ → (ℕ → Option ℕ) → ℕ → Bool
+heldBy j t row r = on (tableParent j t) (λ u. on (row u) (is (referred j t r u)) false) true
 
 -- cut to the run where it is of that table; a run never passes the end of its list (proofs/Runs)
 abbrev pub cutTo : ℕ → Option Run → List ℕ → List ℕ

@@ -1,13 +1,14 @@
--- What the walk asks for: a job that passed, its index and nest's array; and a context whose rows are there.
+-- What the walk asks for: a job that passed, its index and nest's array; and a context whose rows are there and whose run begins at its table's row.
 use Prim.Native.Nat.{ℕ, _≤_, _<_}
 use mathlib.Core.Path.{_≡_}
 use mathlib.Core.List.{List}
 use mathlib.Core.Option.{some}
 use lib.ListN.{length, getD}
-use Rattle.nest.specs.Outline.{Outline, rowCount}
+use Rattle.nest.specs.Lists.{keep, upTo}
+use Rattle.nest.specs.Outline.{Outline, tableParent, rowCount}
 use Rattle.nest.specs.Nest.{nestArray}
 use Rattle.nest.specs.Ready.{Ready, outlineAt}
-use Rattle.walk.specs.Instances.{Context}
+use Rattle.walk.specs.Instances.{Context, Run, heldBy}
 
 pub record Nested (b idx n : List ℕ) : Type 0 where
   pub ready : Ready b idx
@@ -16,3 +17,6 @@ pub record Nested (b idx n : List ℕ) : Type 0 where
 
 pub record Sound (o : Outline) (c : Context) : Type 0 where
   pub there : (t r : ℕ) → c .row t ≡ some r → r < rowCount o t
+  -- before the row where a run begins stand as many of the parent's list as its start says; a table that is its own parent has another list in the run
+  pub begun : (p : Run) (r : ℕ) → c .run ≡ some p → c .row (p .table) ≡ some r → (tableParent o (p .table) ≡ some (p .table) → ⊥)
+      → length (keep (heldBy o (p .table) (c .row)) (upTo 0 r)) ≡ p .start

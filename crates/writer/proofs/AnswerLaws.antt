@@ -4,7 +4,7 @@ use mathlib.Core.Path.{_≡_, refl}
 use mathlib.Core.Bool.{true, false}
 use mathlib.Core.List.{List, []}
 use native.Mathlib.Omega.{arith}
-use lib.ListN.{length, take}
+use lib.ListN.{length, take, drop}
 use lib.Dec.{eqb}
 use borrow.Author.Tests.{lt-ltb, le-ltb, eq-eqb}
 use Rattle.codec.specs.Codec.{pick}
@@ -23,7 +23,7 @@ use Rattle.writer.specs.Answer.{numberOf, valuesOf}
 use Rattle.writer.specs.Result.{resultOf, countsOf}
 use Rattle.writer.specs.Refused.{firstOf, crowded, refusal}
 use Rattle.writer.specs.Lists.{inFront, holding}
-use Rattle.writer.specs.Wrote.{threes, tens, short, numberFor, valuesFor, Wrote}
+use Rattle.writer.specs.Wrote.{threes, tens, short, numberFor, valuesFor, windowFrom, WroteFrom}
 
 -- ---- the refusal
 
@@ -62,18 +62,18 @@ kept b h = nothing-lost b (passed b (go (refusalOf b) refl h))
 
 -- ---- a refused job
 
-pub wrote-refused : {b d g f p : List ℕ} (k : ℕ) (a : Answer) → refusal b ≡ suc k → numberOf a ≡ suc k → valuesOf a ≡ [] → Wrote b d d g g f f p p a
-unfolding numberFor valuesFor
+pub wrote-refused : {b d g w p : List ℕ} {from room : ℕ} (k : ℕ) (a : Answer) → refusal b ≡ suc k → numberOf a ≡ suc k → valuesOf a ≡ [] → WroteFrom b d d g g w w p p from room a
+unfolding numberFor valuesFor windowFrom
 wrote-refused {b} k a h n v = record { number = rw h n; values = rw h v; document = rw h; segments = rw h; findings = rw h; stops = rw h; nothing-lost = kept b }
 
 -- ---- a job that passes
 
-pub wrote-all : {b d d′ g g′ f f′ p p′ : List ℕ} (a : Answer) → refusal b ≡ 0
-    → numberOf a ≡ pick (short (resultOf (jobOf b)) (length d) (threes g) (tens f) (threes p)) 7 0 → valuesOf a ≡ countsOf (resultOf (jobOf b))
+pub wrote-all : {b d d′ g g′ w w′ p p′ : List ℕ} {from room : ℕ} (a : Answer) → refusal b ≡ 0
+    → numberOf a ≡ pick (short (resultOf (jobOf b)) (length d) (threes g) room (threes p)) 7 0 → valuesOf a ≡ countsOf (resultOf (jobOf b))
     → d′ ≡ inFront (take (length d) (resultOf (jobOf b) .bytes)) d
     → g′ ≡ holding (threes g) tracedWord (resultOf (jobOf b) .segments) g
-    → f′ ≡ holding (tens f) recordOf (resultOf (jobOf b) .findings) f
+    → w′ ≡ holding (tens w) recordOf (drop from (resultOf (jobOf b) .findings)) w
     → p′ ≡ holding (threes p) stopWord (resultOf (jobOf b) .stops) p
-    → Wrote b d d′ g g′ f f′ p p′ a
-unfolding numberFor valuesFor
-wrote-all {b} a h n v d g f p = record { number = rw h n; values = rw h v; document = rw h d; segments = rw h g; findings = rw h f; stops = rw h p; nothing-lost = kept b }
+    → WroteFrom b d d′ g g′ w w′ p p′ from room a
+unfolding numberFor valuesFor windowFrom
+wrote-all {b} a h n v d g w p = record { number = rw h n; values = rw h v; document = rw h d; segments = rw h g; findings = rw h w; stops = rw h p; nothing-lost = kept b }

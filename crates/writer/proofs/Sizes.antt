@@ -5,7 +5,7 @@ use mathlib.Core.List.{List, [], _∷_, _++_}
 use native.Mathlib.Omega.{arith}
 use native.Mathlib.Nat.{mul-one, mul-le-mul-right}
 use lib.ListN.{length, length-append}
-use Rattle.lent.specs.Fit.{cap}
+use Rattle.lent.specs.Fit.{cap, wide}
 use Rattle.codec.specs.Codec.{Bytes}
 use Rattle.format.specs.Job.{Job}
 use Rattle.format.specs.Sections.{jobOf}
@@ -36,7 +36,7 @@ use Rattle.writer.proofs.Lengths.{order-short, ancestors-short, segment
 pub record Small (j : Job) : Type 0 where
   pub bytes : length (resultOf j .bytes) < cap
   pub segments : length (resultOf j .segments) * 3 < cap
-  pub findings : length (resultOf j .findings) * 10 < cap
+  pub findings : length (resultOf j .findings) * 10 < wide
   pub stops : length (resultOf j .stops) * 3 < cap
   pub steps : segmentsIn (tour (outlineOf j)) < cap
 

@@ -1,9 +1,9 @@
 -- What the code knows on the way: the first state, and what the lists hold once the result is stored in them.
-use Prim.Native.Nat.{ℕ}
+use Prim.Native.Nat.{ℕ, _*_, _-_}
 use mathlib.Core.Bool.{false}
 use mathlib.Core.List.{List}
 use lib.ListN.{replicate}
-use Rattle.lent.specs.Fit.{Stored}
+use Rattle.lent.specs.Fit.{base, Stored, Noted}
 use Rattle.emit.specs.declared.state.State.{State}
 use Rattle.emit.specs.Written.{wordsOf}
 use Rattle.emit.specs.Did.{tracedWords, stopWords}
@@ -22,8 +22,12 @@ firstState control n = record {
   stops = 0;
 }
 
-pub record Filled (r : Result) (s : State) (d d′ g g′ f f′ p p′ : List ℕ) : Type 0 where
+-- where the count of findings' numbers starts, so that the window begins with finding number `from`
+abbrev pub startOf : ℕ → ℕ
+startOf from = base - from * 10
+
+pub record Filled (r : Result) (s : State) (start : ℕ) (d d′ g g′ f f′ p p′ : List ℕ) : Type 0 where
   pub document : Stored d 0 (r .bytes) (s .bytes) d′
   pub segments : Stored g 0 (tracedWords (r .segments)) (s .segments) g′
-  pub findings : Stored f 0 (wordsOf (r .findings)) (s .findings) f′
+  pub findings : Noted f start (wordsOf (r .findings)) (s .findings) f′
   pub stops : Stored p 0 (stopWords (r .stops)) (s .stops) p′

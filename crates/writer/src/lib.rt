@@ -1,11 +1,12 @@
-// The writer: a job's document, segments, findings and stops, in lists that the caller lends.
+// The writer: a job's document, segments, findings and stops, in lists that the caller lends. Of the findings it fills a window, a list that holds those from one number on.
 ghost use mathlib.Core.Path.{_≡_};
 ghost use mathlib.Core.Bool.{_||_};
-ghost use Prim.Native.Nat.{_≤_, _<_, _/_};
+ghost use Prim.Native.Nat.{_-_, _≤_, _<_, _/_};
 ghost use mathlib.Core.List.{[], _∷_};
+ghost use lib.ListN.{getD};
 ghost use lib.Dec.{ltb};
 ghost use Rattle.codec.specs.Codec.{pick};
-ghost use Rattle.lent.specs.Fit.{Stored};
+ghost use Rattle.lent.specs.Fit.{Noted};
 ghost use Rattle.format.specs.Passed.{Passed};
 ghost use Rattle.format.specs.Sections.{jobOf};
 ghost use Rattle.nest.specs.NestFindings.{nestFindings};
@@ -14,8 +15,8 @@ ghost use Rattle.walk.specs.Nested.{Nested};
 ghost use Rattle.walk.specs.Tour.{census};
 ghost use Rattle.writer.specs.Answer.{numberOf, valuesOf};
 ghost use Rattle.writer.specs.Result.{resultOf};
-ghost use Rattle.writer.specs.Wrote.{Wrote};
-ghost use Rattle.writer.specs.Filled.{firstState, Filled};
+ghost use Rattle.writer.specs.Wrote.{windowFrom, WroteFrom};
+ghost use Rattle.writer.specs.Filled.{firstState, startOf, Filled};
 use census::census;
 use emit::state::Mark;
 use emit::state::State;
@@ -40,12 +41,22 @@ pub enum Answer {
 }
 
 // What nest finds: duplicate keys first, then row by row.
-fn nest_findings(job: &[u8], index: &[u32], findings: &mut [u64]) -> usize
+fn nest_findings(job: &[u8], index: &[u32], window: &mut [u64], start: usize) -> usize
     requires { ⌜ Ready (now job) (now index) ⌝ }
-    ensures { λ n. ⌜ Stored (now (findings .entry)) 0 (words (nestFindings (outlineAt (now (job .entry))))) n (now (findings .exit)) ⌝ }
+    ensures { λ n. ⌜ Noted (now (window .entry)) start (words (nestFindings (outlineAt (now (job .entry))))) n (now (window .exit)) ⌝ }
 {
-    let next = all_duplicates(job, index, findings, 0);
-    all_findings(job, index, findings, next)
+    let next = all_duplicates(job, index, window, start);
+    all_findings(job, index, window, next)
+}
+
+// Where the count of findings' numbers starts: place 2^62 is the window's first.
+fn start_of(from: usize) -> usize
+    ensures { λ r. ⌜ r ≡ startOf from ⌝ }
+{
+    if from < 461168601842738791 {
+        return 4611686018427387904 - from * 10;
+    }
+    0
 }
 
 fn first_state(control: u64, findings: usize) -> State
@@ -73,24 +84,26 @@ fn written(
     nest: &[u32],
     document: &mut [u8],
     segments: &mut [u64],
-    findings: &mut [u64],
+    window: &mut [u64],
     stops: &mut [u64],
+    start: usize,
 ) -> State
     requires { ⌜ Nested (now job) (now index) (now nest) × (census (outlineAt (now job)) ≤ 65536) ⌝ }
-    ensures { λ s. ⌜ Filled (resultOf (jobOf (now (job .entry)))) s (now (document .entry)) (now (document .exit)) (now (segments .entry)) (now (segments .exit)) (now (findings .entry)) (now (findings .exit)) (now (stops .entry)) (now (stops .exit)) ⌝ }
+    ensures { λ s. ⌜ Filled (resultOf (jobOf (now (job .entry)))) s start (now (document .entry)) (now (document .exit)) (now (segments .entry)) (now (segments .exit)) (now (window .entry)) (now (window .exit)) (now (stops .entry)) (now (stops .exit)) ⌝ }
 {
-    let n = nest_findings(job, index, findings);
+    let n = nest_findings(job, index, window, start);
     let s = first_state(control_number(job, index), n);
-    run(job, index, nest, document, segments, findings, stops, s)
+    run(job, index, nest, document, segments, window, stops, s)
 }
 
 // The answer by the counts and by how many items each list has room for.
-fn answer_of(s: State, d: usize, g: usize, f: usize, p: usize) -> Answer
-    ensures { λ a. ⌜ (numberOf a ≡ pick (ltb d (s .bytes) || (ltb g (s .segments / 3) || (ltb f (s .findings / 10) || ltb p (s .stops / 3)))) 7 0) × (valuesOf a ≡ s .bytes ∷ s .segments / 3 ∷ s .findings / 10 ∷ s .stops / 3 ∷ []) ⌝ }
+fn answer_of(s: State, start: usize, d: usize, g: usize, f: usize, p: usize) -> Answer
+    requires { ⌜ start ≤ s .findings ⌝ }
+    ensures { λ a. ⌜ (numberOf a ≡ pick (ltb d (s .bytes) || (ltb g (s .segments / 3) || (ltb f ((s .findings - start) / 10) || ltb p (s .stops / 3)))) 7 0) × (valuesOf a ≡ s .bytes ∷ s .segments / 3 ∷ (s .findings - start) / 10 ∷ s .stops / 3 ∷ []) ⌝ }
 {
     let bytes = s.bytes;
     let segments = s.segments / 3;
-    let findings = s.findings / 10;
+    let findings = (s.findings - start) / 10;
     let stops = s.stops / 3;
     if d < bytes {
         return Answer::Room(bytes, segments, findings, stops);
@@ -114,15 +127,18 @@ fn walked(
     nest: &[u32],
     document: &mut [u8],
     segments: &mut [u64],
-    findings: &mut [u64],
+    window: &mut [u64],
     stops: &mut [u64],
+    from: usize,
+    room: usize,
 ) -> Answer
     requires { ⌜ Nested (now job) (now index) (now nest) × (census (outlineAt (now job)) ≤ 65536) ⌝ }
-    ensures { λ a. ⌜ Wrote (now (job .entry)) (now (document .entry)) (now (document .exit)) (now (segments .entry)) (now (segments .exit)) (now (findings .entry)) (now (findings .exit)) (now (stops .entry)) (now (stops .exit)) a ⌝ }
+    ensures { λ a. ⌜ WroteFrom (now (job .entry)) (now (document .entry)) (now (document .exit)) (now (segments .entry)) (now (segments .exit)) (now (window .entry)) (now (window .exit)) (now (stops .entry)) (now (stops .exit)) from room a ⌝ }
 {
+    let start = start_of(from);
     let d = document.len();
     let g = segments.len() / 3;
-    let f = findings.len() / 10;
+    let f = window.len() / 10;
     let p = stops.len() / 3;
     let ge = g * 3;
     let fe = f * 10;
@@ -133,10 +149,11 @@ fn walked(
         nest,
         document,
         &mut segments[..ge],
-        &mut findings[..fe],
+        &mut window[..fe],
         &mut stops[..pe],
+        start,
     );
-    answer_of(s, d, g, f, p)
+    answer_of(s, start, d, g, room, p)
 }
 
 // A job with its index and nest's array: its instances are counted before anything is stored.
@@ -146,17 +163,29 @@ fn nested(
     nest: &[u32],
     document: &mut [u8],
     segments: &mut [u64],
-    findings: &mut [u64],
+    window: &mut [u64],
     stops: &mut [u64],
+    from: usize,
+    room: usize,
 ) -> Answer
     requires { ⌜ Nested (now job) (now index) (now nest) ⌝ }
-    ensures { λ a. ⌜ Wrote (now (job .entry)) (now (document .entry)) (now (document .exit)) (now (segments .entry)) (now (segments .exit)) (now (findings .entry)) (now (findings .exit)) (now (stops .entry)) (now (stops .exit)) a ⌝ }
+    ensures { λ a. ⌜ WroteFrom (now (job .entry)) (now (document .entry)) (now (document .exit)) (now (segments .entry)) (now (segments .exit)) (now (window .entry)) (now (window .exit)) (now (stops .entry)) (now (stops .exit)) from room a ⌝ }
 {
     let n = census(job, index, nest);
     if 65536 < n {
         return Answer::Instances;
     }
-    walked(job, index, nest, document, segments, findings, stops)
+    walked(
+        job,
+        index,
+        nest,
+        document,
+        segments,
+        window,
+        stops,
+        from,
+        room,
+    )
 }
 
 // A job that passes 1 to 5.
@@ -164,33 +193,47 @@ fn passed(
     job: &[u8],
     document: &mut [u8],
     segments: &mut [u64],
-    findings: &mut [u64],
+    window: &mut [u64],
     stops: &mut [u64],
+    from: usize,
+    room: usize,
 ) -> Answer
     requires { ⌜ Passed (now job) ⌝ }
-    ensures { λ a. ⌜ Wrote (now (job .entry)) (now (document .entry)) (now (document .exit)) (now (segments .entry)) (now (segments .exit)) (now (findings .entry)) (now (findings .exit)) (now (stops .entry)) (now (stops .exit)) a ⌝ }
+    ensures { λ a. ⌜ WroteFrom (now (job .entry)) (now (document .entry)) (now (document .exit)) (now (segments .entry)) (now (segments .exit)) (now (window .entry)) (now (window .exit)) (now (stops .entry)) (now (stops .exit)) from room a ⌝ }
 {
     let mut index = [0u32; 10752];
     fill_index(job, &mut index);
     let mut nest = [0u32; 12288];
     nest_rows(job, &index, &mut nest);
-    nested(job, &index, &nest, document, segments, findings, stops)
+    nested(
+        job,
+        &index,
+        &nest,
+        document,
+        segments,
+        window,
+        stops,
+        from,
+        room,
+    )
 }
 
-// The whole call: the answer, and what the lent lists then hold.
-pub fn write(
+// The whole call: the answer, and what the lent lists then hold. The list of findings has `room` places; the window is to begin with number `from`.
+pub fn window(
     job: &[u8],
     document: &mut [u8],
     segments: &mut [u64],
-    findings: &mut [u64],
+    window: &mut [u64],
     stops: &mut [u64],
+    from: usize,
+    room: usize,
 ) -> Answer
-    ensures { λ a. ⌜ Wrote (now (job .entry)) (now (document .entry)) (now (document .exit)) (now (segments .entry)) (now (segments .exit)) (now (findings .entry)) (now (findings .exit)) (now (stops .entry)) (now (stops .exit)) a ⌝ }
+    ensures { λ a. ⌜ WroteFrom (now (job .entry)) (now (document .entry)) (now (document .exit)) (now (segments .entry)) (now (segments .exit)) (now (window .entry)) (now (window .exit)) (now (stops .entry)) (now (stops .exit)) from room a ⌝ }
 {
     let checked = refusal::check(job);
     match checked {
         Checked::Job => {
-            return passed(job, document, segments, findings, stops);
+            return passed(job, document, segments, window, stops, from, room);
         }
         Checked::Size => {
             return Answer::Size;
@@ -207,5 +250,39 @@ pub fn write(
         Checked::Text => {
             return Answer::Text;
         }
+    }
+}
+
+// The findings from number `from` on, and nothing else of the job.
+pub fn later(job: &[u8], window: &mut [u64], from: usize)
+    ensures { λ _. ⌜ now (window .exit) ≡ windowFrom (now (job .entry)) from (now (window .entry)) ⌝ }
+{
+    let mut document = [0u8; 1];
+    let mut segments = [0u64; 3];
+    let mut stops = [0u64; 3];
+    crate::window(
+        job,
+        &mut document,
+        &mut segments,
+        window,
+        &mut stops,
+        from,
+        0,
+    );
+}
+
+// How many findings there are; 0 for a refused job.
+pub fn found(a: Answer) -> usize
+    ensures { λ r. ⌜ r ≡ getD (valuesOf a) 2 0 ⌝ }
+{
+    match a {
+        Answer::Done(_, _, f, _) => f,
+        Answer::Room(_, _, f, _) => f,
+        Answer::Size => 0,
+        Answer::Structure => 0,
+        Answer::Limit => 0,
+        Answer::Loops => 0,
+        Answer::Text => 0,
+        Answer::Instances => 0,
     }
 }

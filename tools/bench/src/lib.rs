@@ -39,7 +39,10 @@ pub fn jobs() -> Vec<(&'static str, Vec<u8>)> {
         ("full: a planned segment", filled(elements)),
         ("full: one child again and again", filled(|job, size| below(job).children = vec![31; size])),
         ("full: children, the last again", filled(|job, size| below(job).children = rising(1, size))),
+        ("full: children asked by each child", filled(asked)),
+        ("full: children, and an order", filled(children_and_order)),
         ("full: roots, the last again", filled(|job, size| forest(job).roots = rising(0, size))),
+        ("full: 32 roots, the last again", filled(|job, size| apart(job).roots = rising(0, size))),
         ("full: one root again and again", filled(|job, size| forest(job).roots = vec![0; size])),
         ("full: a table's loops", filled(|job, size| forest(job).tables[0].loops = vec![31; size])),
         ("full: an order of one loop", filled(|job, size| ordered(job, vec![Item::Loop(31); size]))),
@@ -118,6 +121,28 @@ fn forest(job: &mut Job) -> &mut job::Spec {
 /// The root of the 32 loops.
 fn below(job: &mut Job) -> &mut Loop {
     &mut forest(job).loops[0]
+}
+
+/// 32 roots.
+fn apart(job: &mut Job) -> &mut job::Spec {
+    let spec = forest(job);
+    spec.loops = vec![Loop { parent: None, ..spec.loops[1].clone() }; 32];
+    spec
+}
+
+/// 32 loops, the last one the root: one of its children again and again, then the others.
+fn asked(job: &mut Job, size: usize) {
+    let spec = forest(job);
+    spec.loops = vec![Loop { parent: Some(31), ..spec.loops[1].clone() }; 32];
+    spec.loops[31].parent = None;
+    spec.loops[31].children = (0..size as u32).map(|_| 30).chain(0..30).collect();
+    spec.roots = vec![31];
+}
+
+/// The root's children, the last again and again, and an order of them all.
+fn children_and_order(job: &mut Job, size: usize) {
+    ordered(job, (1..32).map(Item::Loop).collect());
+    job.spec.loops[0].children = rising(1, size);
 }
 
 fn ordered(job: &mut Job, order: Vec<Item>) {

@@ -1,184 +1,232 @@
-//! Demand 3 on what `write` gives, by a reader of its own: with a complete plan every row stops once, unless it or a
-//! row above it lacks its parent, and without a delimiter finding the document is read as its segments.
+//! Demand 3 on what `write` gives, by a reader of the tools' own. Of a finished job with a complete plan:
+//!
+//! 1. every row stops once, in the walk's order, or never where it or a row above it lacks its parent;
+//! 2. without a delimiter finding the document has one reading, and that is the due segments, each with the planned
+//!    texts at its places and nothing elsewhere;
+//! 3. there is a delimiter finding exactly when a cell or envelope text of a due segment holds a separator.
+//!
+//! Segments, texts and stops that are due are those of `job::due`, which is written from document 01.
 
-use crate::subject::{Agreed, Subject};
-use job::{Column, Job, SegmentPlan, Source, Value, Values};
-use native::Room;
-use std::collections::HashMap;
+use crate::subject::{Agreed, Subject, Writing};
+use generate::Kind;
+use job::Job;
+use job::due::{Due, Made, Segment, Sort, due};
+use job::grammar::{Read, reading, readings};
+use job::hanging::Hanging;
+use native::{Lists, Room};
+use std::collections::{BTreeSet, HashMap};
 
-/// `write` and `nest` against the demand's words.
-pub struct Kept;
+/// `write` against the demand's words.
+pub struct Kept<F>(pub F);
 
-const DOCUMENT: usize = 1 << 22;
-const ITEMS: usize = 1 << 16;
+impl Kept<Writing> {
+    /// With the proved `write`.
+    pub fn proved() -> Self {
+        Kept(native::write)
+    }
+}
 
-impl Subject for Kept {
+/// Documents longer than this are left out, and so are longer lists.
+const MOST: u64 = 1 << 22;
+
+/// Documents up to this are cut in every way.
+const SHORT: usize = 600;
+
+/// The kind of a delimiter finding.
+const DELIMITER: u64 = 4;
+
+impl<F: Fn(&[u8], Lists) -> u32 + Sync> Subject for Kept<F> {
     fn run(&self, bytes: &[u8]) -> Result<Agreed, String> {
-        let seen = |answer: u8, what: &str| Ok(Agreed { answer, seen: vec![what.to_string()] });
         let job = match job::check(bytes) {
             Ok(job) => job,
             Err(refusal) => return Ok(Agreed { answer: refusal.number(), seen: Vec::new() }),
         };
-        if job::complete::gap(&job).is_some() {
-            return seen(0, "plan not complete");
+        if let Some(condition) = job::complete::gap(&job) {
+            return Ok(Agreed { answer: 0, seen: vec![format!("condition {condition} doesn't hold")] });
         }
-        let mut room = Room::new(DOCUMENT, ITEMS);
-        match native::write(bytes, room.lists()) {
-            0 => {}
-            number => return seen(number as u8, "not finished"),
+        let (answer, room) = self.lend(bytes)?;
+        if answer != 0 {
+            return Ok(Agreed { answer, seen: vec!["complete, not finished".to_string()] });
         }
         let Room { document, segments, findings, stops, counts } = room;
         let [length, written, found, stopped] = counts.map(|count| count as usize);
-        stops_once(&job, bytes, &stops[..stopped * 3])?;
-        if findings[..found * 10].chunks(10).any(|finding| finding[0] == 4) {
-            return seen(0, "complete, with a delimiter finding");
+        let hanging = Hanging::of(&job);
+        let due = due(&job, &hanging);
+        stops_right(&job, &hanging, &due, &stops[..stopped * 3])?;
+        sources_right(&due, &segments[..written * 3])?;
+        let found = findings[..found].iter().any(|finding| finding[0] == DELIMITER);
+        let held = due.segments.iter().any(|segment| segment.holds_separator(&job.envelope));
+        match (found, held) {
+            (true, false) => return Err("a delimiter finding, and no text holds a separator".to_string()),
+            (false, true) => return Err("a text holds a separator, and there is no finding".to_string()),
+            (true, true) => {}
+            (false, false) => reads(&job, &due, &document[..length])?,
         }
-        reads(&job, &document[..length], &segments[..written * 3])?;
-        seen(0, "complete, and read back")
+        let seen = seen(&job, &hanging, &due, found);
+        Ok(Agreed { answer: 0, seen: seen.into_iter().map(str::to_string).collect() })
+    }
+
+    fn kinds(&self) -> &'static [(Kind, u64)] {
+        &Kind::PLANS
     }
 }
 
-/// The stops: each row one, or none where it or a row above it lacks its parent.
-fn stops_once(job: &Job, bytes: &[u8], stops: &[u64]) -> Result<(), String> {
-    let rows: usize = job.data.iter().map(|table| table.rows as usize).sum();
-    let mut records = vec![0; rows * 3];
-    native::nest(bytes, &mut records, &mut []);
-    let mut first = vec![0; job.data.len()];
-    for table in 1..job.data.len() {
-        first[table] = first[table - 1] + job.data[table - 1].rows as usize;
+impl<F: Fn(&[u8], Lists) -> u32> Kept<F> {
+    /// The answer, with lists as long as the call without any room asks for; 7 where they would be very long.
+    fn lend(&self, bytes: &[u8]) -> Result<(u8, Room), String> {
+        let mut room = Room::new(0, 0);
+        let answer = (self.0)(bytes, room.lists());
+        let [length, items @ ..] = room.counts;
+        let items = items.into_iter().max().unwrap_or(0);
+        if answer != 7 || length > MOST || items > MOST {
+            return Ok((answer as u8, room));
+        }
+        room = Room::new(length as usize, items as usize);
+        match (self.0)(bytes, room.lists()) {
+            0 => Ok((0, room)),
+            number => Err(format!("{number}, with the lists that 7 asked for")),
+        }
     }
+}
+
+/// The stops are those that are due, in order: each row one, or none where it or a row above it lacks its parent.
+fn stops_right(job: &Job, hanging: &Hanging, due: &Due, stops: &[u64]) -> Result<(), String> {
     let mut times: HashMap<(u64, u64), usize> = HashMap::new();
     for stop in stops.chunks(3) {
         *times.entry((stop[1], stop[2])).or_default() += 1;
-        if stop[2] >= job.data.get(stop[1] as usize).map_or(0, |table| u64::from(table.rows)) {
-            return Err(format!("a stop at row {} of table {}, which is not there", stop[2], stop[1]));
-        }
     }
-    for (number, table) in job.data.iter().enumerate() {
-        for row in 0..table.rows as usize {
-            let wanted = usize::from(!adrift(job, &records, &first, number, row));
-            let got = times.get(&(number as u64, row as u64)).copied().unwrap_or(0);
+    for (table, data) in (0..).zip(&job.data) {
+        for row in 0..data.rows as usize {
+            let wanted = usize::from(!hanging.adrift(job, (table, row)));
+            let got = times.remove(&(u64::from(table), row as u64)).unwrap_or(0);
             if got != wanted {
-                return Err(format!("row {row} of table {number} stops {got} times, not {wanted}"));
+                return Err(format!("row {row} of table {table} stops {got} times, not {wanted}"));
             }
+        }
+    }
+    if let Some((table, row)) = times.into_keys().next() {
+        return Err(format!("a stop at row {row} of table {table}, which is not there"));
+    }
+    let wanted = due.stops.iter().map(|&(at, (table, row))| [u64::from(at), u64::from(table), row as u64]);
+    match stops.chunks(3).zip(wanted).position(|(got, wanted)| got != wanted) {
+        Some(at) => Err(format!("stop {at} is {:?}, not {:?}", &stops[at * 3..][..3], due.stops[at])),
+        None if stops.len() != due.stops.len() * 3 => Err("more or fewer stops than are due".to_string()),
+        None => Ok(()),
+    }
+}
+
+/// The trace has the due segments, each with the row it comes from, or the envelope.
+fn sources_right(due: &Due, traced: &[u64]) -> Result<(), String> {
+    if traced.len() != due.segments.len() * 3 {
+        return Err(format!("{} segments are traced, {} due", traced.len() / 3, due.segments.len()));
+    }
+    for (at, (traced, segment)) in traced.chunks(3).zip(&due.segments).enumerate() {
+        let wanted = segment.row.map_or([0, 0], |(table, row)| [u64::from(table) + 1, row as u64]);
+        if traced[1..] != wanted {
+            return Err(format!("segment {at} comes from {:?}, not {wanted:?}", &traced[1..]));
         }
     }
     Ok(())
 }
 
-/// The row, or a row above it, lacks its parent.
-fn adrift(job: &Job, records: &[u32], first: &[usize], table: usize, row: usize) -> bool {
-    let (mut table, mut row) = (table, row);
-    for _ in 0..=job.spec.tables.len() {
-        let spec = &job.spec.tables[table];
-        if !spec.segment && spec.parent.is_none() {
-            return false;
-        }
-        let at = (first[table] + row) * 3;
-        if records[at] == 0 {
-            return true;
-        }
-        (table, row) = (records[at + 2] as usize, records[at] as usize - 1);
+/// The document's one reading is the due segments.
+fn reads(job: &Job, due: &Due, document: &[u8]) -> Result<(), String> {
+    let read = reading(document, &job.envelope).ok_or("the grammar doesn't cover the document")?;
+    if document.len() <= SHORT && readings(document, &job.envelope) != 1 {
+        return Err("more than one reading".to_string());
     }
-    true
+    if read.len() != due.segments.len() {
+        return Err(format!("{} segments are read, {} due", read.len(), due.segments.len()));
+    }
+    for (at, (read, segment)) in read.iter().zip(&due.segments).enumerate() {
+        holds(job, read, segment).map_err(|how| {
+            let id = String::from_utf8_lossy(&segment.id);
+            format!("segment {at}, {id} ({:?}): {how}", segment.sort)
+        })?;
+    }
+    Ok(())
 }
 
-/// The document as segments: as many as were traced, each with a name that the spec has and no trailing empty element,
-/// and a row segment with the texts that are planned for it.
-fn reads(job: &Job, document: &[u8], segments: &[u64]) -> Result<(), String> {
-    let envelope = &job.envelope;
-    let mut rest = document;
-    for traced in segments.chunks(3) {
-        let end =
-            rest.iter().position(|byte| *byte == envelope.segment).ok_or("a segment without terminator")?;
-        let (body, behind) = (&rest[..end], &rest[end + 1..]);
-        rest = match (envelope.line_break, behind.split_first()) {
-            (false, _) => behind,
-            (true, Some((10, behind))) => behind,
-            (true, _) => return Err("a segment without line feed".to_string()),
-        };
-        let read: Vec<&[u8]> = body.split(|byte| *byte == envelope.element).collect();
-        let (name, elements) = (read[0], &read[1..]);
-        if !known(job, name) {
-            return Err(format!("a segment {:?}, which the spec lacks", String::from_utf8_lossy(name)));
-        }
-        if elements.last().is_some_and(|last| last.is_empty()) {
-            return Err("a trailing empty element".to_string());
-        }
-        if traced[1] > 0 {
-            texts(job, name, traced[1] as u32 - 1, traced[2] as usize, elements)?;
+/// A segment that is read has the identifier, the text of each planned place, and nothing elsewhere.
+fn holds(job: &Job, read: &Read, due: &Segment) -> Result<(), String> {
+    if read.id != due.id {
+        return Err(format!("read as {:?}", String::from_utf8_lossy(read.id)));
+    }
+    if read.elements.last().is_some_and(|last| last.is_empty()) {
+        return Err("an empty element at its end".to_string());
+    }
+    let mut wanted: HashMap<(u32, Option<u32>), &[u8]> = HashMap::new();
+    for place in &due.places {
+        wanted.entry((place.element, place.component)).or_insert(&place.text);
+    }
+    let cut: BTreeSet<u32> =
+        due.places.iter().filter(|place| place.component.is_some()).map(|place| place.element).collect();
+    let mut got: HashMap<(u32, Option<u32>), &[u8]> = HashMap::new();
+    for (element, text) in (1..).zip(&read.elements) {
+        if cut.contains(&element) {
+            let components = read.components(element, &job.envelope);
+            if components.len() > 1 && components.last().is_some_and(|last| last.is_empty()) {
+                return Err(format!("an empty component at the end of element {element}"));
+            }
+            got.extend((1..).zip(components).map(|(at, text)| ((element, Some(at)), text)));
+        } else {
+            got.insert((element, None), text);
         }
     }
-    if rest.is_empty() { Ok(()) } else { Err(format!("{} bytes behind the last segment", rest.len())) }
-}
-
-/// A trigger, an occurrence or an end of the spec.
-fn known(job: &Job, name: &[u8]) -> bool {
-    job.spec.loops.iter().any(|def| {
-        def.trigger == name
-            || def.occurrences.iter().any(|occurrence| occurrence == name)
-            || def.end.as_deref() == Some(name)
-    })
-}
-
-/// A row segment whose name one planned segment of the table has alone: each planned place has its text, as far as it
-/// is a code, bytes or null, and every element that isn't planned is empty.
-fn texts(job: &Job, name: &[u8], table: u32, row: usize, elements: &[&[u8]]) -> Result<(), String> {
-    let named = |number: usize, segment: &&SegmentPlan| {
-        job.spec.loops[number].occurrences.get(segment.occurrence as usize).is_some_and(|id| id == name)
-            && matches!(segment.source, Source::Row(of) | Source::Repeat(of) if of == table)
-    };
-    let of_loop = |(number, plan): (usize, &'_ job::LoopPlan)| {
-        let segments: Vec<SegmentPlan> =
-            plan.segments.iter().filter(|segment| named(number, segment)).cloned().collect();
-        segments
-    };
-    let planned: Vec<SegmentPlan> = job.plan.iter().enumerate().flat_map(of_loop).collect();
-    let [SegmentPlan { source: Source::Row(_), elements: places, .. }] = planned.as_slice() else {
-        return Ok(());
-    };
-    for (at, element) in elements.iter().enumerate() {
-        if !element.is_empty() && places.iter().all(|place| place.element as usize != at + 1) {
-            return Err(format!("a text at element {}, where none is planned", at + 1));
-        }
-    }
+    let places: BTreeSet<(u32, Option<u32>)> = wanted.keys().chain(got.keys()).copied().collect();
     for place in places {
-        let wanted = match &place.value {
-            Value::Code(code) => Some(code.clone()),
-            Value::Column(column) => text(job, table, *column, row),
-            Value::Group(_) => None,
+        let text = |texts: &HashMap<_, &[u8]>| {
+            String::from_utf8_lossy(texts.get(&place).copied().unwrap_or_default()).into_owned()
         };
-        let element = elements.get(place.element as usize - 1).copied().unwrap_or_default();
-        let got = match place.component {
-            None => element,
-            Some(at) => {
-                let mut components = element.split(|byte| *byte == job.envelope.component);
-                components.nth(at as usize - 1).unwrap_or_default()
-            }
-        };
-        if wanted.is_some_and(|wanted| wanted != got) {
-            return Err(format!("element {} has another text than planned", place.element));
+        let same =
+            wanted.get(&place).copied().unwrap_or_default() == got.get(&place).copied().unwrap_or_default();
+        if !same {
+            return Err(format!("{:?} at {place:?}, not {:?}", text(&got), text(&wanted)));
         }
     }
     Ok(())
 }
 
-/// The text of a cell of bytes, empty for null; none where it is a number, a date or a time.
-fn text(job: &Job, table: u32, column: u32, row: usize) -> Option<Vec<u8>> {
-    let column = job.data.get(table as usize).and_then(|table| table.columns.get(column as usize));
-    let Some(Some(Column { values, validity })) = column else {
-        return Some(Vec::new());
-    };
-    if validity.bit(row) != Some(true) {
-        return Some(Vec::new());
+/// What a job had, for the summary.
+fn seen(job: &Job, hanging: &Hanging, due: &Due, found: bool) -> BTreeSet<&'static str> {
+    let mut seen = BTreeSet::from(["complete"]);
+    seen.insert(if found { "complete, delimiter finding" } else { "complete, read back" });
+    if (0..)
+        .zip(&job.data)
+        .any(|(table, data)| (0..data.rows as usize).any(|row| hanging.adrift(job, (table, row))))
+    {
+        seen.insert("complete, rows without parent");
     }
-    let Values::Binary(offsets, data) = values else {
-        return None;
-    };
-    let (start, end) = (*offsets.get(row)?, *offsets.get(row + 1)?);
-    Some(
-        data.get(usize::try_from(start).ok()?..usize::try_from(end).ok()?)
-            .map(<[u8]>::to_vec)
-            .unwrap_or_default(),
-    )
+    if found {
+        return seen;
+    }
+    for segment in &due.segments {
+        seen.insert(match segment.sort {
+            Sort::Trigger => "read back, trigger",
+            Sort::Row => "read back, row segment",
+            Sort::Repeat => "read back, repeat segment",
+            Sort::Closer => "read back, closer",
+        });
+        for place in &segment.places {
+            if place.component.is_some() {
+                seen.insert("read back, component");
+            }
+            seen.insert(match place.made {
+                Made::Null => "read back, null",
+                Made::Bytes => "read back, bytes",
+                Made::Integer => "read back, integer",
+                Made::Decimal => "read back, decimal",
+                Made::Date => "read back, date",
+                Made::Time => "read back, time",
+                Made::NotWritable => "read back, not writable",
+                Made::Code => "read back, code",
+                Made::Envelope => "read back, envelope text",
+                Made::Moment => "read back, envelope date or time",
+                Made::Separator => "read back, separator as field",
+                Made::ControlNumber => "read back, control number",
+                Made::Count => "read back, count",
+            });
+        }
+    }
+    seen
 }

@@ -16,7 +16,7 @@ fn main() -> ExitCode {
     let subject: Box<dyn Subject> = match args.first().map(String::as_str) {
         Some("check") => Box::new(Check::proved()),
         Some("plan") => Box::new(Plan::proved()),
-        Some("kept") => Box::new(Kept),
+        Some("kept") => Box::new(Kept::proved()),
         #[cfg(feature = "oracle")]
         Some("nest") => Box::new(compare::Nest::proved()),
         #[cfg(feature = "oracle")]

@@ -43,8 +43,8 @@ pub fn is_nests(finding: &Finding) -> bool {
     self::finding(finding)[0] < 3
 }
 
-pub fn findings(outcome: &Outcome) -> Vec<u64> {
-    outcome.findings.iter().flat_map(finding).collect()
+pub fn findings(outcome: &Outcome) -> Vec<native::Finding> {
+    outcome.findings.iter().map(finding).collect()
 }
 
 /// Three numbers a segment: its first trace entry, its table plus one or 0, its row.

@@ -2,7 +2,7 @@
 
 use crate::smallest::smallest;
 use crate::subject::Subject;
-use generate::{Kind, Sample, fixed, sample};
+use generate::{Kind, Sample, fixed, sample_of};
 use std::collections::BTreeMap;
 use std::fmt::Write as _;
 use std::time::{Duration, Instant};
@@ -39,7 +39,7 @@ pub fn run(subject: &dyn Subject, count: u64, seed: u64, threads: u64, time: Dur
                 None => {
                     let number = number - known;
                     let title = format!("seed {seed}, number {number}");
-                    summary.note(subject, known + number, &title, &sample(seed, number));
+                    summary.note(subject, known + number, &title, &sample_of(subject.kinds(), seed, number));
                 }
             }
         }

@@ -1,9 +1,17 @@
 //! What is compared.
 
+use generate::Kind;
+use native::Lists;
+
 /// A function of a job's bytes that both sides have.
 pub trait Subject: Sync {
     /// Runs both sides: what they agree on, or in words how they differ.
     fn run(&self, bytes: &[u8]) -> Result<Agreed, String>;
+
+    /// The kinds of jobs to run it on, and how often each comes.
+    fn kinds(&self) -> &'static [(Kind, u64)] {
+        &Kind::USUAL
+    }
 }
 
 /// What both sides gave.
@@ -14,6 +22,9 @@ pub struct Agreed {
     /// What else was seen, such as kinds of findings, for the summary.
     pub seen: Vec<String>,
 }
+
+/// A job and the lists to lend, as `native::write` takes them.
+pub type Writing = for<'a> fn(&[u8], Lists<'a>) -> u32;
 
 /// `check` beside `job::check`.
 pub struct Check<F>(pub F);
@@ -60,5 +71,9 @@ impl<F: Fn(&[u8]) -> u32 + Sync> Subject for Plan<F> {
             return Err(format!("the plan check gives {got}, document 01 read apart from it {wanted}"));
         }
         Ok(Agreed { answer, seen })
+    }
+
+    fn kinds(&self) -> &'static [(Kind, u64)] {
+        &Kind::PLANS
     }
 }

@@ -2,16 +2,13 @@
 
 use crate::lent::{Lent, answer, lengths};
 use crate::records;
-use crate::subject::{Agreed, Subject};
+use crate::subject::{Agreed, Subject, Writing};
 use native::Lists;
 use oracle::{Answer, Bound, Outcome};
 
 /// The answer, the counts and all four lists, lent in many lengths, beside document, findings, trace and
 /// stops of the Rust.
 pub struct Write<F>(pub F);
-
-/// A job and the lists to lend, as `native::write` takes them.
-pub type Writing = for<'a> fn(&[u8], Lists<'a>) -> u32;
 
 impl Write<Writing> {
     /// With the proved `write`.
@@ -20,15 +17,15 @@ impl Write<Writing> {
     }
 }
 
-/// How many numbers an item of each list takes.
-const WIDTHS: [usize; 4] = [1, 3, 10, 3];
+/// How many numbers an item of each list takes; findings are records of their own.
+const WIDTHS: [usize; 4] = [1, 3, 1, 3];
 
 impl<F: Fn(&[u8], Lists) -> u32 + Sync> Subject for Write<F> {
     fn run(&self, bytes: &[u8]) -> Result<Agreed, String> {
         let outcome = match oracle::answer(bytes, Bound::USUAL) {
             Answer::Done(outcome) => outcome,
             Answer::Refused(number) => {
-                self.lend(bytes, u32::from(number), None, [7, 9, 20, 9])?;
+                self.lend(bytes, u32::from(number), None, [7, 9, 2, 9])?;
                 return Ok(Agreed { answer: number, seen: Vec::new() });
             }
             Answer::GivenUp => return Ok(not_compared("given up, it takes too long")),
@@ -40,7 +37,7 @@ impl<F: Fn(&[u8], Lists) -> u32 + Sync> Subject for Write<F> {
             let whole = [0, 1, 2, 3].map(|at| items[at] * WIDTHS[at]);
             self.lend(bytes, number, Some(&outcome), whole)?;
             // Numbers past the last whole place are no place.
-            self.lend(bytes, number, Some(&outcome), [whole[0], whole[1] + 2, whole[2] + 9, whole[3] + 1])?;
+            self.lend(bytes, number, Some(&outcome), [whole[0], whole[1] + 2, whole[2], whole[3] + 1])?;
         }
         Ok(Agreed { answer: 0, seen: seen(&outcome) })
     }
@@ -72,8 +69,9 @@ impl<F: Fn(&[u8], Lists) -> u32> Write<F> {
         lengths: [usize; 4],
     ) -> Result<(), String> {
         let mut document = Lent::new(lengths[0], |at| 0x80 ^ at as u8);
-        let [mut segments, mut findings, mut stops] =
-            [1, 2, 3].map(|list| Lent::new(lengths[list], |at| 0x5a5a_0000_0000_0000 + at as u64));
+        let pattern = |at: usize| 0x5a5a_0000_0000_0000 + at as u64;
+        let [mut segments, mut stops] = [1, 3].map(|list| Lent::new(lengths[list], pattern));
+        let mut findings = Lent::new(lengths[2], |at| [pattern(at); 10]);
         let mut counts = Lent::new(4, |at| 0xa5a5_0000_0000_0000 + at as u64);
         let lists = Lists {
             document: document.list(),
@@ -98,7 +96,7 @@ impl<F: Fn(&[u8], Lists) -> u32> Write<F> {
         let difference = (counts.differs("counts", &numbers))
             .or_else(|| document.differs("document", bytes))
             .or_else(|| segments.differs("segments", &wanted(records::segments, 1)))
-            .or_else(|| findings.differs("findings", &wanted(records::findings, 2)))
+            .or_else(|| findings.differs("findings", &outcome.map_or_else(Vec::new, records::findings)))
             .or_else(|| stops.differs("stops", &wanted(records::stops, 3)));
         difference.map_or(Ok(()), Err)
     }

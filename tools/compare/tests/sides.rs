@@ -172,7 +172,7 @@ fn plans_judged_wrongly() {
 #[cfg(feature = "oracle")]
 mod writing {
     use super::*;
-    use compare::{Write, records};
+    use compare::{Kept, Write, records};
     use native::Lists;
     use oracle::{Answer, Bound};
 
@@ -193,7 +193,7 @@ mod writing {
                 let fits = [
                     put(lists.document, &outcome.document, 1),
                     put(lists.segments, &records::segments(&outcome), 3),
-                    put(lists.findings, &records::findings(&outcome), 10),
+                    put(lists.findings, &records::findings(&outcome), 1),
                     put(lists.stops, stops, 3),
                 ];
                 if fits.contains(&false) { 7 } else { 0 }
@@ -208,6 +208,60 @@ mod writing {
         assert_eq!(run(&subject, 200, 5, 2, Duration::MAX).differing(), 0);
         let subject = Write(|bytes: &[u8], lists: Lists<'_>| rust(bytes, lists, 1));
         assert!(run(&subject, 50, 5, 2, Duration::MAX).differing() > 0);
+    }
+
+    /// Demand 3 on what the Rust gives, spoiled before it is read: how often it doesn't hold, and how first.
+    fn kept(spoil: fn(&mut Lists)) -> (u64, String) {
+        let subject = Kept(|bytes: &[u8], mut lists: Lists<'_>| {
+            let whole = Lists {
+                document: &mut *lists.document,
+                segments: &mut *lists.segments,
+                findings: &mut *lists.findings,
+                stops: &mut *lists.stops,
+                counts: &mut *lists.counts,
+            };
+            let answer = rust(bytes, whole, 0);
+            if answer == 0 {
+                spoil(&mut lists);
+            }
+            answer
+        });
+        let summary = run(&subject, 150, 5, 2, Duration::MAX);
+        (summary.differing(), summary.difference(&subject).unwrap_or_default())
+    }
+
+    #[test]
+    fn the_rust_keeps_demand_3() {
+        assert_eq!(kept(|_| {}), (0, String::new()));
+    }
+
+    /// Each spoiled list is found, in the words that belong to it.
+    #[test]
+    fn demand_3_broken() {
+        let spoils: [(&str, fn(&mut Lists)); 9] = [
+            ("grammar", |lists| lists.counts[0] = lists.counts[0].saturating_sub(1)),
+            ("read as", |lists| lists.document.iter_mut().take(1).for_each(|byte| *byte = b'Q')),
+            (" at (", |lists| {
+                let digit = lists.document.iter_mut().find(|byte| **byte == b'0');
+                digit.into_iter().for_each(|byte| *byte = b'8');
+            }),
+            ("stops 0 times, not 1", |lists| lists.stops.iter_mut().take(3).for_each(|number| *number = 9)),
+            ("stop 0 is", |lists| {
+                if let [a, b, c, d, e, f, ..] = lists.stops {
+                    [(a, d), (b, e), (c, f)].into_iter().for_each(|(one, other)| std::mem::swap(one, other));
+                }
+            }),
+            ("comes from", |lists| lists.segments.iter_mut().take(3).for_each(|number| *number += 1)),
+            ("segments are traced", |lists| lists.counts[1] = lists.counts[1].saturating_sub(1)),
+            ("there is no finding", |lists| lists.findings.iter_mut().for_each(|finding| finding[0] = 0)),
+            ("no text holds a separator", |lists| {
+                lists.findings.iter_mut().for_each(|finding| finding[0] = 4);
+            }),
+        ];
+        for (words, spoil) in spoils {
+            let (count, text) = kept(spoil);
+            assert!(count > 0 && text.contains(words), "{words}: {count}, {text}");
+        }
     }
 
     #[test]

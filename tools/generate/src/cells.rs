@@ -60,12 +60,6 @@ const WORDS: [&str; 12] = [
 /// Bytes that separators are often made of, and others that may be.
 const STRANGE: &[u8] = b"*:~^|>\n\t\r\0!{\x1c\x1d\x7f\x80\xa0\xff ";
 
-fn separators(envelope: &Envelope) -> Vec<u8> {
-    let mut all = vec![envelope.element, envelope.component, envelope.segment];
-    all.extend(envelope.repetition);
-    all
-}
-
 /// Text: a word; hostile: empty, long, with separators or any bytes.
 pub fn text(random: &mut Random, envelope: &Envelope, mood: Mood) -> Vec<u8> {
     let word = random.pick(&WORDS).as_bytes().to_vec();
@@ -79,7 +73,7 @@ pub fn text(random: &mut Random, envelope: &Envelope, mood: Mood) -> Vec<u8> {
             for _ in 0..=random.below(2) {
                 let at = random.index(bytes.len() + 1);
                 let byte = if random.chance(80) {
-                    *random.pick(&separators(envelope))
+                    *random.pick(&envelope.separators())
                 } else {
                     *random.pick(STRANGE)
                 };

@@ -12,6 +12,7 @@ pub mod remit;
 pub mod rows;
 pub mod shrink;
 pub mod small;
+pub mod strange;
 
 use cells::Mood;
 use job::{Job, encode};
@@ -39,6 +40,10 @@ pub enum Kind {
     HostileComplete,
     /// A complete plan with one condition broken, or almost.
     NearlyComplete,
+    /// A complete plan with strange parts.
+    Strange,
+    /// A complete plan with exactly one condition broken.
+    Broken,
     /// An odd plan that passes refusals 1 to 5, few loops.
     Odd,
     /// An odd plan, many loops and tables.
@@ -66,8 +71,8 @@ pub enum Kind {
 }
 
 impl Kind {
-    /// Every kind, and how often it comes in a thousand samples.
-    pub const ALL: [(Kind, u64); 17] = [
+    /// How often each kind comes in a thousand samples; the others come in `PLANS`.
+    pub const USUAL: [(Kind, u64); 17] = [
         (Kind::Remittance, 40),
         (Kind::HostileRemittance, 100),
         (Kind::Complete, 80),
@@ -87,6 +92,22 @@ impl Kind {
         (Kind::Throng, 2),
     ];
 
+    /// The same where plans are to be complete, or nearly.
+    pub const PLANS: [(Kind, u64); 12] = [
+        (Kind::Remittance, 30),
+        (Kind::HostileRemittance, 70),
+        (Kind::Complete, 100),
+        (Kind::HostileComplete, 150),
+        (Kind::Strange, 350),
+        (Kind::NearlyComplete, 30),
+        (Kind::Broken, 150),
+        (Kind::Odd, 40),
+        (Kind::Small, 30),
+        (Kind::Corner, 10),
+        (Kind::TweakedCorner, 20),
+        (Kind::Tweaked, 20),
+    ];
+
     pub fn name(self) -> &'static str {
         match self {
             Kind::Remittance => "remittance",
@@ -94,6 +115,8 @@ impl Kind {
             Kind::Complete => "complete plan",
             Kind::HostileComplete => "complete plan, hostile rows",
             Kind::NearlyComplete => "nearly complete plan",
+            Kind::Strange => "complete plan, strange parts",
+            Kind::Broken => "one condition broken",
             Kind::Odd => "odd plan",
             Kind::OddLarge => "odd plan, large",
             Kind::Small => "small",
@@ -110,14 +133,19 @@ impl Kind {
     }
 }
 
-/// The sample of a seed and number.
+/// The sample of a seed and number, of the usual kinds.
 pub fn sample(seed: u64, number: u64) -> Sample {
+    sample_of(&Kind::USUAL, seed, number)
+}
+
+/// The sample of a seed and number, of these kinds.
+pub fn sample_of(kinds: &[(Kind, u64)], seed: u64, number: u64) -> Sample {
     let mut random = Random::of(seed, number);
-    let total = Kind::ALL.iter().map(|(_, often)| often).sum();
+    let total = kinds.iter().map(|(_, often)| often).sum();
     let mut at = random.below(total);
-    for (kind, often) in Kind::ALL {
-        if at < often {
-            return of_kind(&mut random, kind);
+    for (kind, often) in kinds {
+        if at < *often {
+            return of_kind(&mut random, *kind);
         }
         at -= often;
     }
@@ -145,9 +173,13 @@ pub fn fixed() -> Vec<Sample> {
     all
 }
 
+fn any_mood(random: &mut Random) -> Mood {
+    if random.chance(50) { Mood::Plausible } else { Mood::Hostile }
+}
+
 /// A job that passes refusals 1 to 5, of any kind.
 fn any(random: &mut Random) -> Job {
-    let mood = if random.chance(50) { Mood::Plausible } else { Mood::Hostile };
+    let mood = any_mood(random);
     match random.below(5) {
         0 => remit::remittance(random, mood),
         1 | 2 => complete::complete(random, mood),
@@ -171,10 +203,18 @@ pub fn of_kind(random: &mut Random, kind: Kind) -> Sample {
         Kind::Complete => encode(&complete::complete(random, Mood::Plausible)),
         Kind::HostileComplete => encode(&complete::complete(random, Mood::Hostile)),
         Kind::NearlyComplete => {
-            let mood = if random.chance(50) { Mood::Plausible } else { Mood::Hostile };
+            let mood = any_mood(random);
             let mut job = complete::complete(random, mood);
             complete::break_plan(random, &mut job);
             encode(&job)
+        }
+        Kind::Strange => {
+            let mood = any_mood(random);
+            encode(&strange::strange(random, mood))
+        }
+        Kind::Broken => {
+            let mood = any_mood(random);
+            encode(&strange::broken(random, mood))
         }
         Kind::Odd => encode(&odd::odd(random, 6, 4)),
         Kind::OddLarge => encode(&odd::odd(random, 32, 16)),

@@ -2,7 +2,7 @@
 
 use generate::faults::{FAULTS, base, faulty};
 use generate::limits::{at, limits};
-use generate::{Kind, corners, fixed, remit, sample, shrink, small};
+use generate::{Kind, corners, fixed, remit, sample, sample_of, shrink, small};
 use job::{check, decode, encode, parse, print};
 use oracle::{Answer, Bound, Finding, answer};
 use std::collections::{BTreeSet, HashSet};
@@ -139,6 +139,27 @@ fn complete_plans_are_complete() {
         }
     }
     assert!(gaps.iter().all(|&count| count > 0), "{gaps:?}");
+}
+
+/// Strange plans are complete all the same; broken ones break each condition, 3 to 5 alone.
+#[test]
+fn strange_and_broken_plans() {
+    let mut gaps = [0; 6];
+    for number in 0..600 {
+        let sample = sample_of(&Kind::PLANS, 7, number);
+        let Ok(job) = check(&sample.bytes) else { continue };
+        let gap = job::complete::gap(&job);
+        match sample.kind {
+            Kind::Strange => assert_eq!(gap, None, "{}", print(&job)),
+            Kind::Broken => {
+                let gap = gap.unwrap_or(0);
+                gaps[usize::from(gap)] += 1;
+                assert!(gap < 3 || (gap + 1..=5).all(|later| job::complete::holds(&job, later)));
+            }
+            _ => {}
+        }
+    }
+    assert!(gaps[1..].iter().all(|&count| count > 0), "{gaps:?}");
 }
 
 #[test]

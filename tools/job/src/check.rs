@@ -182,8 +182,7 @@ fn texts_allowed(job: &Job) -> bool {
 }
 
 fn separators_allowed(envelope: &Envelope) -> bool {
-    let mut all = vec![envelope.element, envelope.component, envelope.segment];
-    all.extend(envelope.repetition);
+    let all = envelope.separators();
     let apart = all.iter().enumerate().all(|(at, byte)| !all[..at].contains(byte));
     apart && all.into_iter().all(may_separate)
 }

@@ -12,22 +12,18 @@ use std::collections::BTreeSet;
 
 /// The first of the five conditions that doesn't hold, if any.
 pub fn gap(job: &Job) -> Option<u8> {
-    if !tables_named(job) {
-        return Some(1);
+    (1..=5).find(|&condition| !holds(job, condition))
+}
+
+/// Whether a condition holds; 3, 4 and 5 are only asked where 1 and 2 do.
+pub fn holds(job: &Job, condition: u8) -> bool {
+    match condition {
+        1 => tables_named(job),
+        2 => lists_agree(job),
+        3 => (0..job.spec.tables.len() as u32).all(|table| path_fits(job, table)),
+        4 => repeats_fit(job),
+        _ => places_start_at_1(job) && segments_fit(job) && separators_stand_alone(job) && codes_free(job),
     }
-    if !lists_agree(job) {
-        return Some(2);
-    }
-    if !(0..job.spec.tables.len() as u32).all(|table| path_fits(job, table)) {
-        return Some(3);
-    }
-    if !repeats_fit(job) {
-        return Some(4);
-    }
-    if !(places_start_at_1(job) && segments_fit(job) && separators_stand_alone(job) && codes_free(job)) {
-        return Some(5);
-    }
-    None
 }
 
 fn is_row_table(job: &Job, table: u32) -> bool {
@@ -79,7 +75,7 @@ fn order_complete(job: &Job, number: usize) -> bool {
 }
 
 /// The loops above a loop, nearest first.
-fn above(job: &Job, number: u32) -> Vec<u32> {
+pub(crate) fn above(job: &Job, number: u32) -> Vec<u32> {
     let mut all = Vec::new();
     let mut at = job.spec.loops[number as usize].parent;
     while let Some(parent) = at {
@@ -196,8 +192,9 @@ fn segments_fit(job: &Job) -> bool {
 fn places(job: &Job, segment: &SegmentPlan) -> Vec<(u32, Option<u32>)> {
     let (mut step, mut capacity) = (0, 1);
     if let Source::Repeat(table) = segment.source {
-        step = job.spec.tables[table as usize].repeat.map_or(0, |repeat| repeat.step);
-        capacity = job.layout.capacity[table as usize].max(1);
+        let repeat = job.spec.tables.get(table as usize).and_then(|def| def.repeat);
+        step = repeat.map_or(0, |repeat| repeat.step);
+        capacity = job.layout.capacity.get(table as usize).map_or(1, |&capacity| capacity.max(1));
     }
     let mut all = Vec::new();
     for element in &segment.elements {

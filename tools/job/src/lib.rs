@@ -4,12 +4,20 @@
 //! - [`codec`]: the byte string, with refusals 1 and 2;
 //! - [`check`]: refusals 3 to 5, and all five together;
 //! - [`complete`]: what makes a plan complete;
+//! - [`cell`], [`hanging`], [`fields`], [`due`]: cells and their texts, which row hangs on which, envelope texts, and of
+//!   these the segments that are due;
+//! - [`grammar`]: the reading of a document;
 //! - [`text`]: a short text form that a person can write and read.
 
 pub mod calendar;
+pub mod cell;
 pub mod check;
 pub mod codec;
 pub mod complete;
+pub mod due;
+pub mod fields;
+pub mod grammar;
+pub mod hanging;
 pub mod text;
 
 pub use check::{Refusal, check, judge};
@@ -251,6 +259,15 @@ impl Default for Envelope {
             repetition: None,
             line_break: false,
         }
+    }
+}
+
+impl Envelope {
+    /// Element, component, segment, then repetition if present.
+    pub fn separators(&self) -> Vec<u8> {
+        let mut all = vec![self.element, self.component, self.segment];
+        all.extend(self.repetition);
+        all
     }
 }
 

@@ -6,6 +6,8 @@ pub const LINKED: bool = cfg!(linked);
 /// A slice goes over as its pointer and its length.
 #[cfg(linked)]
 mod bare {
+    use super::Finding;
+
     unsafe extern "C" {
         pub fn baktuven_check(job: *const u8, length: usize) -> u32;
         pub fn baktuven_plan(job: *const u8, length: usize) -> u32;
@@ -24,7 +26,7 @@ mod bare {
             document_length: usize,
             segments: *mut u64,
             segments_length: usize,
-            findings: *mut u64,
+            findings: *mut Finding,
             findings_length: usize,
             stops: *mut u64,
             stops_length: usize,
@@ -68,12 +70,15 @@ pub fn nest(_: &[u8], _: &mut [u32], _: &mut [u64]) -> u64 {
     panic!("built without the static library")
 }
 
-/// The lists that `write` is lent: bytes; three numbers a segment, ten a finding, three a stop; and the
+/// A finding: its kind and nine values.
+pub type Finding = [u64; 10];
+
+/// The lists that `write` is lent: bytes; three numbers a segment, findings, three numbers a stop; and the
 /// counts of the four.
 pub struct Lists<'a> {
     pub document: &'a mut [u8],
     pub segments: &'a mut [u64],
-    pub findings: &'a mut [u64],
+    pub findings: &'a mut [Finding],
     pub stops: &'a mut [u64],
     pub counts: &'a mut [u64],
 }
@@ -82,7 +87,7 @@ pub struct Lists<'a> {
 pub struct Room {
     pub document: Vec<u8>,
     pub segments: Vec<u64>,
-    pub findings: Vec<u64>,
+    pub findings: Vec<Finding>,
     pub stops: Vec<u64>,
     pub counts: [u64; 4],
 }
@@ -92,7 +97,7 @@ impl Room {
         Room {
             document: vec![0; bytes],
             segments: vec![0; items * 3],
-            findings: vec![0; items * 10],
+            findings: vec![[0; 10]; items],
             stops: vec![0; items * 3],
             counts: [0; 4],
         }

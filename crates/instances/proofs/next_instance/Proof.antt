@@ -1,12 +1,14 @@
 -- `instances::next_instance` meets its contract.
-use mathlib.Core.Path.{refl}
 use Rattle.instances.proofs.Cursors.{came-none, came-one}
 use borrow.Author.Needs.{needs}
 use Rattle.instances.proofs.next_instance.Statement.{statement}
 use Rattle.instances.proofs.next_instance.Tie as tie
 
+ended-requires : tie.Need-ended-requires
+ended-requires c κs = search needs
+
 returns : tie.Need-returns
-returns c = came-none _ _ _ _ refl (c .if1 .taken)
+returns c = came-none _ _ _ _ (c .ended .ensures) (c .before .if1 .taken)
 
 no-instance-requires : tie.Need-no-instance-requires
 no-instance-requires c κs = search needs
@@ -30,6 +32,7 @@ pub next-instance-spec : {M : Type 1} → statement M
 next-instance-spec =
     tie.close
     (tie.spec
+    ended-requires
     returns
     no-instance-requires
     returns-2

@@ -2,7 +2,7 @@ use native.Mathlib.Omega.{arith}
 use Prim.Native.Nat.{_≤_}
 use lib.ListN.{length}
 use denote.Ref.{now}
-use Rattle.lent.specs.Fit.{cap}
+use Rattle.lent.specs.Fit.{cap, wide}
 use Rattle.repeats.proofs.RowLaws.{table-small}
 use Rattle.repeats.proofs.Adding.{row-added}
 use Rattle.emit.proofs.DidLaws.{did-small}
@@ -33,7 +33,7 @@ same-length-3 : tie.Need-same-length-3
 same-length-3 c = search needs
 
 returns : tie.Need-returns
-returns c = let a = c .before .before .before .before .before .before .before .before .before .before .before .before .before .before .before .before .before .args in let hf : length (now (a .findings)) ≤ cap = omega (arith, c .before .before .before .before .before .before .before .before .before .before .before .before .before .before .before .before .before) in let hp : length (now (a .stops)) ≤ cap = omega (arith, c .before .before .before .before .before .before .before .before .before .before .before .before .before .before .before .before .before) in (row-added _ _ _ _ _ _ hf hp (c .before .before .before .before .before .before .before .before .enter .ensures) (c .before .before .fill-row .ensures), search needs)
+returns c = let a = c .before .before .before .before .before .before .before .before .before .before .before .before .before .before .before .before .before .args in let hf : length (now (a .findings)) ≤ wide = omega (arith, c .before .before .before .before .before .before .before .before .before .before .before .before .before .before .before .before .before) in let hp : length (now (a .stops)) ≤ cap = omega (arith, c .before .before .before .before .before .before .before .before .before .before .before .before .before .before .before .before .before) in (row-added _ _ _ _ _ _ hf hp (c .before .before .before .before .before .before .before .before .enter .ensures) (c .before .before .fill-row .ensures), search needs)
 
 pub add-row-spec : {M : Type 1} → statement M
 add-row-spec =

@@ -29,6 +29,7 @@ baktuven-nest-spec =
     (λ c. search needs)
     (λ c. search needs)
     (λ c. search needs)
+    (λ c. search needs)
     returns
     (λ c. search needs)
     returns-2)

@@ -18,8 +18,11 @@ enum-known-above c = search needs
 all-rows-requires : tie.Need-all-rows-requires
 all-rows-requires c κs = search needs
 
+from-run-requires : tie.Need-from-run-requires
+from-run-requires c κs = search needs
+
 returns : tie.Need-returns
-returns c = lists-rows (c .before .before .before .before .before .before .before .before .before .before .pre .0) _ _ _ _ _ (sym (c .before .before .before .before .before .before .is-plain .ensures) ∙ c .before .before .before .before .before .if1 .taken) (sym (ap numberOf (c .before .before .above .given .1)) ∙ c .before .before .before .before .above-in .ensures) _ (c .before .before .before .before .before .before .before .before .before .before .pre .1) (c .before .before .before .before .before .before .before .before .before .before .pre .2) (c .all-rows .ensures)
+returns c = lists-rows (c .before .before .before .before .before .before .before .before .before .before .before .pre .0) _ _ _ _ _ (sym (c .before .before .before .before .before .before .before .is-plain .ensures) ∙ c .before .before .before .before .before .before .if1 .taken) (sym (ap numberOf (c .before .before .before .above .given .1)) ∙ c .before .before .before .before .before .above-in .ensures) _ _ (c .before .before .before .before .before .before .before .before .before .before .before .pre .1) (c .before .before .before .before .before .before .before .before .before .before .before .pre .2) (c .before .all-rows .ensures) (c .from-run .ensures)
 
 enum-told : tie.Need-enum-told
 enum-told c = search needs
@@ -44,6 +47,7 @@ listed-spec =
     above-in-requires
     enum-known-above
     all-rows-requires
+    from-run-requires
     returns
     enum-told
     no-instance-requires

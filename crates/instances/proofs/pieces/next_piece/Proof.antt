@@ -1,5 +1,4 @@
 -- `instances::pieces::next_piece` meets its contract.
-use mathlib.Core.Path.{refl}
 use native.Mathlib.Omega.{arith}
 use Rattle.instances.proofs.Cursors.{further, came-run, runs-over}
 use borrow.Author.Needs.{needs}
@@ -27,8 +26,11 @@ moved-requires-2 c κs = search needs
 returns : tie.Need-returns
 returns c = came-run _ _ _ _ _ _ _ _ (c .before .before .before .before .before .before .before .before .before .before .before .before .before .pre .2) (c .before .before .before .before .before .before .before .before .before .before .before .before .before .pre .1) (c .before .before .before .before .before .before .before .next-row .ensures .row (c .before .before .before .before .before .before .if1 .taken)) (c .before .before .before .before .moved .ensures) (c .before .before .before .run-end .ensures) (c .before .run-context .ensures) (c .moved2 .ensures)
 
+ended-requires : tie.Need-ended-requires
+ended-requires c κs = search needs
+
 returns-2 : tie.Need-returns-2
-returns-2 c = runs-over _ _ _ _ _ refl (c .before .before .before .before .before .before .before .pre .2) (c .before .next-row .ensures) (c .if1 .left)
+returns-2 c = runs-over _ _ _ _ _ (c .ended .ensures) (c .before .before .before .before .before .before .before .before .pre .2) (c .before .before .next-row .ensures) (c .before .if1 .left)
 
 pub next-piece-spec : {M : Type 1} → statement M
 next-piece-spec =
@@ -41,4 +43,5 @@ next-piece-spec =
     run-context-requires
     moved-requires-2
     returns
+    ended-requires
     returns-2)

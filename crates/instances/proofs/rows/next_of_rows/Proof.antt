@@ -1,5 +1,4 @@
 -- `instances::rows::next_of_rows` meets its contract.
-use mathlib.Core.Path.{refl}
 use native.Mathlib.Omega.{arith}
 use Rattle.instances.proofs.Cursors.{came-row, rows-over}
 use borrow.Author.Needs.{needs}
@@ -18,9 +17,12 @@ moved-requires c κs = search needs
 returns : tie.Need-returns
 returns c = λ o g. came-row o _ _ _ _ _ (c .before .before .before .before .before .before .before .before .pre .2) g (c .before .before .before .before .next-row .ensures .row (c .before .before .before .if1 .taken)) (c .before .row-context .ensures) (c .moved .ensures)
 
+ended-requires : tie.Need-ended-requires
+ended-requires c κs = search needs
+
 returns-2 : tie.Need-returns-2
-returns-2 c = λ o g. rows-over o _ _ _ _ refl (c .before .before .before .before .before .pre .2) (c .before .next-row .ensures) (c .if1 .left)
+returns-2 c = λ o g. rows-over o _ _ _ _ (c .ended .ensures) (c .before .before .before .before .before .before .pre .2) (c .before .before .next-row .ensures) (c .before .if1 .left)
 
 pub next-of-rows-spec : {M : Type 1} → statement M
 next-of-rows-spec =
-    tie.close (tie.spec next-row-requires row-context-requires moved-requires returns returns-2)
+    tie.close (tie.spec next-row-requires row-context-requires moved-requires returns ended-requires returns-2)

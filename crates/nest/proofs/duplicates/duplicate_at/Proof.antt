@@ -6,7 +6,7 @@ use Rattle.nest.proofs.duplicates.duplicate_at.Tie as tie
 use Rattle.nest.proofs.duplicates.duplicate_at.Reads as reads
 use Rattle.nest.proofs.duplicates.duplicate_at.Lts as lts
 use Rattle.lent.proofs.more.Reads as more-reads
-use Rattle.lent.proofs.put_words.Reads as put-words-reads
+use Rattle.lent.proofs.put_words.Reads as note-words-reads
 use Rattle.nest.proofs.keys.first_with.Reads as first-with-reads
 use Rattle.tables.proofs.data.key.Reads as key-reads
 
@@ -28,14 +28,14 @@ cast-t14 c = search needs
 cast-t15 : tie.Need-cast-t15
 cast-t15 c = search needs
 
-put-words-requires : tie.Need-put-words-requires
-put-words-requires c κs = search needs
+note-words-requires : tie.Need-note-words-requires
+note-words-requires c κs = search needs
 
 same-length : tie.Need-same-length
 same-length c = search needs
 
 returns : tie.Need-returns
-returns c = stored-finding _ _ _ _ _ _ _ (duplicate-yes _ _ _ _ (c .before .before .before .before .before .before .before .before .before .before .before .before .before .before .before .before .before .before .pre .1) (c .before .before .before .before .before .before .before .before .before .before .before .before .before .before .key .ensures) _ (c .before .before .before .before .before .before .before .before .before .before .before .before .before .first-with .ensures) _ (c .before .before .before .before .before .before .before .before .before .before .before .found .given .1) (c .before .before .before .before .before .before .before .if1 .taken)) (duplicate-words _ _ _ _ (c .before .before .before .before .before .before .before .before .before .before .before .before .before .before .before .before .before .before .pre .1) (c .before .before .before .before .before .before .before .before .before .before .before .before .before .before .key .ensures) _ (c .before .before .before .before .before .before .before .before .before .before .before .before .before .first-with .ensures) _) (c .before .before .put-words .ensures)
+returns c = stored-finding _ _ _ _ _ _ _ (duplicate-yes _ _ _ _ (c .before .before .before .before .before .before .before .before .before .before .before .before .before .before .before .before .before .before .pre .1) (c .before .before .before .before .before .before .before .before .before .before .before .before .before .before .key .ensures) _ (c .before .before .before .before .before .before .before .before .before .before .before .before .before .first-with .ensures) _ (c .before .before .before .before .before .before .before .before .before .before .before .found .given .1) (c .before .before .before .before .before .before .before .if1 .taken)) (duplicate-words _ _ _ _ (c .before .before .before .before .before .before .before .before .before .before .before .before .before .before .before .before .before .before .pre .1) (c .before .before .before .before .before .before .before .before .before .before .before .before .before .before .key .ensures) _ (c .before .before .before .before .before .before .before .before .before .before .before .before .before .first-with .ensures) _) (c .before .before .note-words .ensures)
 
 more-requires : tie.Need-more-requires
 more-requires c κs = search needs
@@ -62,7 +62,7 @@ duplicate-at-spec =
     cast-t13
     cast-t14
     cast-t15
-    put-words-requires
+    note-words-requires
     same-length
     returns
     more-requires

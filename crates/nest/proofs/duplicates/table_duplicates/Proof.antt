@@ -1,4 +1,4 @@
-use Rattle.nest.proofs.Reports.{Reported, reported-none, reported-more, reported-all, reported-length, stored-nothing, no-keys}
+use Rattle.nest.proofs.Reports.{Reported, reported-none, reported-more, reported-all, reported-length, stored-nothing}
 use Rattle.nest.proofs.FindingLaws.{duplicates-all}
 use Rattle.nest.proofs.Bridge.{rows-is}
 use Rattle.nest.specs.OfJob.{outlineOf}
@@ -15,17 +15,17 @@ use Rattle.nest.proofs.duplicates.table_duplicates.Reads as reads
 use Rattle.nest.proofs.duplicates.table_duplicates.Lts as lts
 use Rattle.lent.proofs.more.Reads as more-reads
 use Rattle.nest.proofs.duplicates.duplicate_at.Reads as duplicate-at-reads
-use Rattle.nest.proofs.keys.has_keys.Reads as has-keys-reads
+use Rattle.nest.proofs.keys.may_repeat.Reads as may-repeat-reads
 use Rattle.tables.proofs.data.row_count.Reads as row-count-reads
 
 abbrev Inv-loop : tie.InvT-loop
-Inv-loop job index findings₀ at t keyed next₀ n r₀ findings next r = Reported (duplicateAt (outlineOf (jobOf job)) (t .0)) (rowCount (outlineOf (jobOf job)) (t .0)) findings₀ at findings next r × (r ≤ n)
+Inv-loop job index findings₀ at t doubtful next₀ n r₀ findings next r = Reported (duplicateAt (outlineOf (jobOf job)) (t .0)) (rowCount (outlineOf (jobOf job)) (t .0)) findings₀ at findings next r × (r ≤ n)
 
 abbrev μ-loop : tie.MeasureT-loop
-μ-loop job index findings₀ at t keyed next₀ n r₀ findings next r = n - r
+μ-loop job index findings₀ at t doubtful next₀ n r₀ findings next r = n - r
 
-has-keys-requires : tie.Need-has-keys-requires Inv-loop μ-loop
-has-keys-requires c κs = search needs
+may-repeat-requires : tie.Need-may-repeat-requires Inv-loop μ-loop
+may-repeat-requires c κs = search needs
 
 more-requires : tie.Need-more-requires Inv-loop μ-loop
 more-requires c κs = search needs
@@ -37,7 +37,7 @@ loop-holds : tie.Need-loop-holds Inv-loop μ-loop
 loop-holds c = (reported-none _ _ _ _ _ (c .before .before .more .ensures), omega arith)
 
 duplicate-at-requires : tie.Need-duplicate-at-requires Inv-loop μ-loop
-duplicate-at-requires c κs = ((c .before .before .before .before .before .before .before .before .before .before .pre), sym (c .before .before .before .before .before .before .has-keys .ensures) ∙ c .before .before .before .before .if1 .taken)
+duplicate-at-requires c κs = (c .before .before .before .before .before .before .before .before .before .before .pre, c .before .before .before .before .before .before .may-repeat .ensures .keyed (c .before .before .before .before .if1 .taken))
 
 add-r : tie.Need-add-r Inv-loop μ-loop
 add-r c = search needs
@@ -55,7 +55,7 @@ returns : tie.Need-returns Inv-loop μ-loop
 returns c = reported-all _ _ _ _ _ _ _ _ _ (c .before .before .row-count .ensures ∙ sym (rows-is _ _)) (c .loop-test .left) (duplicates-all _ _) (c .before .loop .inv .0)
 
 returns-2 : tie.Need-returns-2 Inv-loop μ-loop
-returns-2 c = stored-nothing _ _ _ _ (no-keys _ _ _ (c .before .before .has-keys .ensures) (c .if1 .left)) (c .before .more .ensures)
+returns-2 c = stored-nothing _ _ _ _ (c .before .before .may-repeat .ensures .single (c .if1 .left)) (c .before .more .ensures)
 
 pub table-duplicates-spec : {M : Type 1} → statement M
 table-duplicates-spec =
@@ -63,7 +63,7 @@ table-duplicates-spec =
     (tie.spec
     Inv-loop
     μ-loop
-    has-keys-requires
+    may-repeat-requires
     more-requires
     row-count-requires
     loop-holds

@@ -17,10 +17,10 @@ use Rattle.spec.proofs.tables.table_loop_count.Reads as table-loop-count-reads
 use Rattle.tables.proofs.data.reference.Reads as reference-reads
 
 abbrev Inv-loop : tie.InvT-loop
-Inv-loop job index t r n d₀ i₀ last₀ d i last = Trying (jobOf job) (t .0) (r .0) d i last
+Inv-loop job index depths t r n d₀ i₀ last₀ d i last = Trying (jobOf job) (t .0) (r .0) d i last
 
 abbrev μ-loop : tie.MeasureT-loop
-μ-loop job index t r n d₀ i₀ last₀ d i last = d * suc n + (n - i)
+μ-loop job index depths t r n d₀ i₀ last₀ d i last = d * suc n + (n - i)
 
 table-loop-count-requires : tie.Need-table-loop-count-requires Inv-loop μ-loop
 table-loop-count-requires c κs = search needs
@@ -35,7 +35,7 @@ table-loop-requires : tie.Need-table-loop-requires Inv-loop μ-loop
 table-loop-requires c κs = search needs
 
 anchor-requires : tie.Need-anchor-requires Inv-loop μ-loop
-anchor-requires c κs = ((c .before .before .before .before .before .before .before .pre), loop-small _ (c .before .before .before .before .before .before .before .pre .passed) _ _ _ _ (c .before .before .before .before .table-loop-count .ensures) (c .before .if1 .taken) (c .table-loop .ensures))
+anchor-requires c κs = (c .before .before .before .before .before .before .before .pre .0, c .before .before .before .before .before .before .before .pre .1, loop-small _ (c .before .before .before .before .before .before .before .pre .0 .passed) _ _ _ _ (c .before .before .before .before .table-loop-count .ensures) (c .before .if1 .taken) (c .table-loop .ensures))
 
 add-i : tie.Need-add-i Inv-loop μ-loop
 add-i c = search needs

@@ -20,23 +20,23 @@ referred-requires c κs = search needs
 enum-known-found : tie.Need-enum-known-found
 enum-known-found c = search needs
 
-add-t10 : tie.Need-add-t10
-add-t10 c = omega (arith, referred-small _ _ _ _ _ _ (c .before .before .before .before .before .before .before .before .before .before .before .pre .0 .tables .few-rows) (c .before .before .before .before .referred .ensures) (c .before .before .found .given .1))
+add-t11 : tie.Need-add-t11
+add-t11 c = omega (arith, referred-small _ _ _ _ _ _ (c .before .before .before .before .before .before .before .before .before .before .before .pre .0 .tables .few-rows) (c .before .before .before .before .referred .ensures) (c .before .before .found .given .1))
 
 returns : tie.Need-returns
-returns c = hung-parent _ _ _ (c .before .before .before .before .before .before .before .before .before .before .before .pre .1) _ (c .before .before .before .before .before .before .before .before .table-parent .ensures) _ (c .before .before .before .before .before .before .parent .given .1) _ (c .before .before .before .before .referred .ensures) _ (c .before .before .found .given .1)
+returns c = hung-parent _ _ _ (c .before .before .before .before .before .before .before .before .before .before .before .pre .2) _ (c .before .before .before .before .before .before .before .before .table-parent .ensures) _ (c .before .before .before .before .before .before .parent .given .1) _ (c .before .before .before .before .referred .ensures) _ (c .before .before .found .given .1)
 
 enum-told : tie.Need-enum-told
 enum-told c = search needs
 
 returns-2 : tie.Need-returns-2
-returns-2 c = hung-lost _ _ _ (c .before .before .before .before .before .before .before .before .before .pre .1) _ (c .before .before .before .before .before .before .table-parent .ensures) _ (c .before .before .before .before .parent .given .1) _ (c .before .before .referred .ensures) (c .enum-told .given .1)
+returns-2 c = hung-lost _ _ _ (c .before .before .before .before .before .before .before .before .before .pre .2) _ (c .before .before .before .before .before .before .table-parent .ensures) _ (c .before .before .before .before .parent .given .1) _ (c .before .before .referred .ensures) (c .enum-told .given .1)
 
 enum-told-2 : tie.Need-enum-told-2
 enum-told-2 c = search needs
 
 returns-3 : tie.Need-returns-3
-returns-3 c = hung-top _ _ _ (c .before .before .before .before .before .pre .1) _ (c .before .before .table-parent .ensures) (c .enum-told2 .given .1)
+returns-3 c = hung-top _ _ _ (c .before .before .before .before .before .pre .2) _ (c .before .before .table-parent .ensures) (c .enum-told2 .given .1)
 
 pub parent-place-spec : {M : Type 1} → statement M
 parent-place-spec =
@@ -46,7 +46,7 @@ parent-place-spec =
     enum-known-parent
     referred-requires
     enum-known-found
-    add-t10
+    add-t11
     returns
     enum-told
     returns-2

@@ -13,13 +13,13 @@ repeats-requires : tie.Need-repeats-requires
 repeats-requires c κs = search needs
 
 repeat-place-requires : tie.Need-repeat-place-requires
-repeat-place-requires c κs = (c .before .before .before .before .pre, sym (repeats-is _ _ _ (c .before .repeats .ensures)) ∙ c .if1 .taken)
+repeat-place-requires c κs = (c .before .before .before .before .pre .0, c .before .before .before .before .pre .1, c .before .before .before .before .pre .2, sym (repeats-is _ _ _ (c .before .repeats .ensures)) ∙ c .if1 .taken)
 
 returns : tie.Need-returns
 returns c = search needs
 
 parent-place-requires : tie.Need-parent-place-requires
-parent-place-requires c κs = (c .before .before .before .before .pre, sym (repeats-is _ _ _ (c .before .repeats .ensures)) ∙ c .if1 .left)
+parent-place-requires c κs = (c .before .before .before .before .pre .0, c .before .before .before .before .pre .1, sym (repeats-is _ _ _ (c .before .repeats .ensures)) ∙ c .if1 .left)
 
 returns-2 : tie.Need-returns-2
 returns-2 c = search needs

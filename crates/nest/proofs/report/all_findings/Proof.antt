@@ -13,14 +13,22 @@ use Rattle.nest.proofs.report.all_findings.Tie as tie
 use Rattle.nest.proofs.report.all_findings.Reads as reads
 use Rattle.nest.proofs.report.all_findings.Lts as lts
 use Rattle.lent.proofs.more.Reads as more-reads
+use Rattle.nest.proofs.hang.all_depths.Reads as all-depths-reads
+use Rattle.nest.proofs.keys.all_keys.Reads as all-keys-reads
 use Rattle.nest.proofs.report.table_findings.Reads as table-findings-reads
 use Rattle.spec.proofs.tables.table_count.Reads as table-count-reads
 
 abbrev Inv-loop : tie.InvT-loop
-Inv-loop job index findings₀ at count next₀ t₀ findings next t = Reported (tableFindings (outlineOf (jobOf job))) (length (outlineOf (jobOf job) .tables)) findings₀ at findings next t × (t ≤ count)
+Inv-loop job index findings₀ at keys depths count next₀ t₀ findings next t = Reported (tableFindings (outlineOf (jobOf job))) (length (outlineOf (jobOf job) .tables)) findings₀ at findings next t × (t ≤ count)
 
 abbrev μ-loop : tie.MeasureT-loop
-μ-loop job index findings₀ at count next₀ t₀ findings next t = count - t
+μ-loop job index findings₀ at keys depths count next₀ t₀ findings next t = count - t
+
+all-keys-requires : tie.Need-all-keys-requires Inv-loop μ-loop
+all-keys-requires c κs = search needs
+
+all-depths-requires : tie.Need-all-depths-requires Inv-loop μ-loop
+all-depths-requires c κs = search needs
 
 table-count-requires : tie.Need-table-count-requires Inv-loop μ-loop
 table-count-requires c κs = search needs
@@ -41,7 +49,7 @@ loop-less : tie.Need-loop-less Inv-loop μ-loop
 loop-less c = search needs
 
 loop-again : tie.Need-loop-again Inv-loop μ-loop
-loop-again c = (reported-more _ _ _ _ _ _ _ _ _ _ (omega (arith, (c .before .before .before .before .before .before .before .before .before .before .before))) (c .before .before .before .before .before .before .before .table-count .ensures ∙ sym (table-count-is _)) (c .before .before .before .before .loop-test .taken) (c .before .before .before .before .before .loop .inv .0) (c .before .before .table-findings .ensures), omega arith)
+loop-again c = (reported-more _ _ _ _ _ _ _ _ _ _ (omega (arith, (c .before .before .before .before .before .before .before .before .before .before .before .before .before))) (c .before .before .before .before .before .before .before .table-count .ensures ∙ sym (table-count-is _)) (c .before .before .before .before .loop-test .taken) (c .before .before .before .before .before .loop .inv .0) (c .before .before .table-findings .ensures), omega arith)
 
 same-length : tie.Need-same-length Inv-loop μ-loop
 same-length c = reported-length _ _ _ _ _ _ _ (c .before .loop .inv .0)
@@ -55,6 +63,8 @@ all-findings-spec =
     (tie.spec
     Inv-loop
     μ-loop
+    all-keys-requires
+    all-depths-requires
     table-count-requires
     more-requires
     loop-holds

@@ -6,7 +6,7 @@ use Rattle.nest.proofs.report.contradiction_at.Tie as tie
 use Rattle.nest.proofs.report.contradiction_at.Reads as reads
 use Rattle.nest.proofs.report.contradiction_at.Lts as lts
 use Rattle.lent.proofs.more.Reads as more-reads
-use Rattle.lent.proofs.put_words.Reads as put-words-reads
+use Rattle.lent.proofs.put_words.Reads as note-words-reads
 use Rattle.tables.proofs.data.reference.Reads as reference-reads
 
 reference-requires : tie.Need-reference-requires
@@ -39,14 +39,14 @@ cast-t20 c = search needs
 cast-t21 : tie.Need-cast-t21
 cast-t21 c = search needs
 
-put-words-requires : tie.Need-put-words-requires
-put-words-requires c κs = search needs
+note-words-requires : tie.Need-note-words-requires
+note-words-requires c κs = search needs
 
 same-length : tie.Need-same-length
 same-length c = search needs
 
 returns-2 : tie.Need-returns-2
-returns-2 c = stored-finding _ _ _ _ _ _ _ (differs _ _ _ _ _ _ _ _ (c .before .before .before .before .before .before .before .before .before .before .before .before .before .before .before .before .reference .ensures) (c .before .before .before .before .before .before .before .before .before .before .before .before .before .before .before .reference2 .ensures) _ _ (c .before .before .before .before .before .before .before .before .before .before .before .before .before .own .given .1) (c .before .before .before .before .before .before .before .before .before .before .above .given .1) (c .before .before .before .before .before .before .before .before .if1 .left)) (mismatch-words _ _ _ _ _ _ _) (c .before .before .put-words .ensures)
+returns-2 c = stored-finding _ _ _ _ _ _ _ (differs _ _ _ _ _ _ _ _ (c .before .before .before .before .before .before .before .before .before .before .before .before .before .before .before .before .reference .ensures) (c .before .before .before .before .before .before .before .before .before .before .before .before .before .before .before .reference2 .ensures) _ _ (c .before .before .before .before .before .before .before .before .before .before .before .before .before .own .given .1) (c .before .before .before .before .before .before .before .before .before .before .above .given .1) (c .before .before .before .before .before .before .before .before .if1 .left)) (mismatch-words _ _ _ _ _ _ _) (c .before .before .note-words .ensures)
 
 enum-told : tie.Need-enum-told
 enum-told c = search needs
@@ -80,7 +80,7 @@ contradiction-at-spec =
     cast-t18
     cast-t20
     cast-t21
-    put-words-requires
+    note-words-requires
     same-length
     returns-2
     enum-told

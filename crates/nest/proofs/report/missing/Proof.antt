@@ -13,7 +13,7 @@ repeats-requires : tie.Need-repeats-requires
 repeats-requires c κs = search needs
 
 repeat-missing-requires : tie.Need-repeat-missing-requires
-repeat-missing-requires c κs = ((c .before .before .before .before .before .before .pre), sym (repeats-is _ _ _ (c .before .before .repeats .ensures)) ∙ c .before .if1 .taken)
+repeat-missing-requires c κs = (c .before .before .before .before .before .before .pre .0, c .before .before .before .before .before .before .pre .1, sym (repeats-is _ _ _ (c .before .before .repeats .ensures)) ∙ c .before .if1 .taken)
 
 same-length : tie.Need-same-length
 same-length c = search needs
@@ -22,7 +22,7 @@ returns : tie.Need-returns
 returns c = search needs
 
 parent-missing-requires : tie.Need-parent-missing-requires
-parent-missing-requires c κs = ((c .before .before .before .before .before .before .pre), sym (repeats-is _ _ _ (c .before .before .repeats .ensures)) ∙ c .before .if1 .left)
+parent-missing-requires c κs = (c .before .before .before .before .before .before .pre .0, sym (repeats-is _ _ _ (c .before .before .repeats .ensures)) ∙ c .before .if1 .left)
 
 same-length-2 : tie.Need-same-length-2
 same-length-2 c = search needs

@@ -6,7 +6,7 @@ use Rattle.nest.proofs.report.parent_missing.Tie as tie
 use Rattle.nest.proofs.report.parent_missing.Reads as reads
 use Rattle.nest.proofs.report.parent_missing.Lts as lts
 use Rattle.lent.proofs.more.Reads as more-reads
-use Rattle.lent.proofs.put_words.Reads as put-words-reads
+use Rattle.lent.proofs.put_words.Reads as note-words-reads
 use Rattle.spec.proofs.tables.table_parent.Reads as table-parent-reads
 use Rattle.tables.proofs.data.reference.Reads as reference-reads
 
@@ -31,14 +31,14 @@ cast-t14 c = search needs
 cast-t15 : tie.Need-cast-t15
 cast-t15 c = search needs
 
-put-words-requires : tie.Need-put-words-requires
-put-words-requires c κs = search needs
+note-words-requires : tie.Need-note-words-requires
+note-words-requires c κs = search needs
 
 same-length : tie.Need-same-length
 same-length c = search needs
 
 returns : tie.Need-returns
-returns c = stored-finding _ _ _ _ _ _ _ (lacks-value _ _ _ (c .before .before .before .before .before .before .before .before .before .before .before .before .before .before .before .before .before .pre .1) _ (c .before .before .before .before .before .before .before .before .before .before .before .before .before .table-parent .ensures) _ (c .before .before .before .before .before .before .before .before .before .before .before .parent .given .1) _ (c .before .before .before .before .before .before .before .before .before .reference .ensures) _ (c .before .before .before .before .before .before .before .value .given .1)) (missing-some _ _ _ _) (c .before .before .put-words .ensures)
+returns c = stored-finding _ _ _ _ _ _ _ (lacks-value _ _ _ (c .before .before .before .before .before .before .before .before .before .before .before .before .before .before .before .before .before .pre .1) _ (c .before .before .before .before .before .before .before .before .before .before .before .before .before .table-parent .ensures) _ (c .before .before .before .before .before .before .before .before .before .before .before .parent .given .1) _ (c .before .before .before .before .before .before .before .before .before .reference .ensures) _ (c .before .before .before .before .before .before .before .value .given .1)) (missing-some _ _ _ _) (c .before .before .note-words .ensures)
 
 enum-told : tie.Need-enum-told
 enum-told c = search needs
@@ -52,14 +52,14 @@ cast-t20 c = search needs
 cast-t21 : tie.Need-cast-t21
 cast-t21 c = search needs
 
-put-words-requires-2 : tie.Need-put-words-requires-2
-put-words-requires-2 c κs = search needs
+note-words-requires-2 : tie.Need-note-words-requires-2
+note-words-requires-2 c κs = search needs
 
 same-length-2 : tie.Need-same-length-2
 same-length-2 c = search needs
 
 returns-2 : tie.Need-returns-2
-returns-2 c = stored-finding _ _ _ _ _ _ _ (lacks-null _ _ _ (c .before .before .before .before .before .before .before .before .before .before .before .before .before .before .before .before .pre .1) _ (c .before .before .before .before .before .before .before .before .before .before .before .before .table-parent .ensures) _ (c .before .before .before .before .before .before .before .before .before .before .parent .given .1) _ (c .before .before .before .before .before .before .before .before .reference .ensures) (c .before .before .before .before .before .before .enum-told .given .1)) (missing-none _ _ _) (c .before .before .put-words2 .ensures)
+returns-2 c = stored-finding _ _ _ _ _ _ _ (lacks-null _ _ _ (c .before .before .before .before .before .before .before .before .before .before .before .before .before .before .before .before .pre .1) _ (c .before .before .before .before .before .before .before .before .before .before .before .before .table-parent .ensures) _ (c .before .before .before .before .before .before .before .before .before .before .parent .given .1) _ (c .before .before .before .before .before .before .before .before .reference .ensures) (c .before .before .before .before .before .before .enum-told .given .1)) (missing-none _ _ _) (c .before .before .note-words2 .ensures)
 
 enum-told-2 : tie.Need-enum-told-2
 enum-told-2 c = search needs
@@ -81,14 +81,14 @@ parent-missing-spec =
     cast-t13
     cast-t14
     cast-t15
-    put-words-requires
+    note-words-requires
     same-length
     returns
     enum-told
     cast-t19
     cast-t20
     cast-t21
-    put-words-requires-2
+    note-words-requires-2
     same-length-2
     returns-2
     enum-told-2

@@ -11,8 +11,8 @@ use Rattle.nest.proofs.report.missing.Reads as missing-reads
 place-of-requires : tie.Need-place-of-requires
 place-of-requires c κs = search needs
 
-sub-t13 : tie.Need-sub-t13
-sub-t13 c = search needs
+sub-t15 : tie.Need-sub-t15
+sub-t15 c = search needs
 
 contradictions-requires : tie.Need-contradictions-requires
 contradictions-requires c κs = search needs
@@ -37,7 +37,7 @@ row-findings-spec =
     tie.close
     (tie.spec
     place-of-requires
-    sub-t13
+    sub-t15
     contradictions-requires
     same-length
     returns

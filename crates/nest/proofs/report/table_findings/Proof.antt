@@ -18,10 +18,10 @@ use Rattle.nest.proofs.report.row_findings.Reads as row-findings-reads
 use Rattle.tables.proofs.data.row_count.Reads as row-count-reads
 
 abbrev Inv-loop : tie.InvT-loop
-Inv-loop job index findings₀ at t n next₀ r₀ findings next r = Reported (rowFindings (outlineOf (jobOf job)) (t .0)) (rowCount (outlineOf (jobOf job)) (t .0)) findings₀ at findings next r × (r ≤ n)
+Inv-loop job index findings₀ at keys depths t n next₀ r₀ findings next r = Reported (rowFindings (outlineOf (jobOf job)) (t .0)) (rowCount (outlineOf (jobOf job)) (t .0)) findings₀ at findings next r × (r ≤ n)
 
 abbrev μ-loop : tie.MeasureT-loop
-μ-loop job index findings₀ at t n next₀ r₀ findings next r = n - r
+μ-loop job index findings₀ at keys depths t n next₀ r₀ findings next r = n - r
 
 row-count-requires : tie.Need-row-count-requires Inv-loop μ-loop
 row-count-requires c κs = search needs

@@ -14,14 +14,22 @@ use Rattle.nest.proofs.rows.nest_rows.Statement.{statement}
 use Rattle.nest.proofs.rows.nest_rows.Tie as tie
 use Rattle.nest.proofs.rows.nest_rows.Reads as reads
 use Rattle.nest.proofs.rows.nest_rows.Lts as lts
+use Rattle.nest.proofs.hang.all_depths.Reads as all-depths-reads
+use Rattle.nest.proofs.keys.all_keys.Reads as all-keys-reads
 use Rattle.nest.proofs.rows.nest_table.Reads as nest-table-reads
 use Rattle.tables.proofs.data.data_count.Reads as data-count-reads
 
 abbrev Inv-loop : tie.InvT-loop
-Inv-loop job index nest₀ count t₀ nest t = Storing (tableArray (outlineOf (jobOf job))) (length (outlineOf (jobOf job) .rowCounts)) nest₀ 0 nest (rowsBefore (jobOf job .tables) t * 3) t × (t ≤ count)
+Inv-loop job index nest₀ keys depths count t₀ nest t = Storing (tableArray (outlineOf (jobOf job))) (length (outlineOf (jobOf job) .rowCounts)) nest₀ 0 nest (rowsBefore (jobOf job .tables) t * 3) t × (t ≤ count)
 
 abbrev μ-loop : tie.MeasureT-loop
-μ-loop job index nest₀ count t₀ nest t = count - t
+μ-loop job index nest₀ keys depths count t₀ nest t = count - t
+
+all-keys-requires : tie.Need-all-keys-requires Inv-loop μ-loop
+all-keys-requires c κs = search needs
+
+all-depths-requires : tie.Need-all-depths-requires Inv-loop μ-loop
+all-depths-requires c κs = search needs
 
 data-count-requires : tie.Need-data-count-requires Inv-loop μ-loop
 data-count-requires c κs = search needs
@@ -30,7 +38,7 @@ loop-holds : tie.Need-loop-holds Inv-loop μ-loop
 loop-holds c = (storing-none _ _ _ _ _ (ap (λ k. k * 3) (before-all _)), omega arith)
 
 nest-table-requires : tie.Need-nest-table-requires Inv-loop μ-loop
-nest-table-requires c κs = (c .before .before .before .before .before .before .before .pre .0, omega (arith, c .before .before .loop .inv .0 .long, c .before .before .before .before .before .before .before .pre .1))
+nest-table-requires c κs = (c .before .before .before .before .before .before .before .before .before .pre .0, c .before .before .before .before .before .all-keys .ensures, c .before .before .before .before .all-depths .ensures, omega (arith, c .before .before .loop .inv .0 .long, c .before .before .before .before .before .before .before .before .before .pre .1))
 
 add-t : tie.Need-add-t Inv-loop μ-loop
 add-t c = search needs
@@ -53,6 +61,8 @@ nest-rows-spec =
     (tie.spec
     Inv-loop
     μ-loop
+    all-keys-requires
+    all-depths-requires
     data-count-requires
     loop-holds
     nest-table-requires

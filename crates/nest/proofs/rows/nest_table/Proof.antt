@@ -22,10 +22,10 @@ use Rattle.tables.proofs.data.first_row.Reads as first-row-reads
 use Rattle.tables.proofs.data.row_count.Reads as row-count-reads
 
 abbrev Inv-loop : tie.InvT-loop
-Inv-loop job index nest₀ t first n r₀ nest r = Storing (nestRecord (outlineOf (jobOf job)) (t .0)) (rowCount (outlineOf (jobOf job)) (t .0)) nest₀ (rowsBefore (jobOf job .tables) (t .0) * 3) nest ((first + r) * 3) r × (r ≤ n)
+Inv-loop job index nest₀ keys depths t first n r₀ nest r = Storing (nestRecord (outlineOf (jobOf job)) (t .0)) (rowCount (outlineOf (jobOf job)) (t .0)) nest₀ (rowsBefore (jobOf job .tables) (t .0) * 3) nest ((first + r) * 3) r × (r ≤ n)
 
 abbrev μ-loop : tie.MeasureT-loop
-μ-loop job index nest₀ t first n r₀ nest r = n - r
+μ-loop job index nest₀ keys depths t first n r₀ nest r = n - r
 
 first-row-requires : tie.Need-first-row-requires Inv-loop μ-loop
 first-row-requires c κs = search needs
@@ -49,7 +49,7 @@ add-put-record : tie.Need-add-put-record Inv-loop μ-loop
 add-put-record c = omega (arith, room-for _ _ _ _ _ (c .before .before .before .before .before .before .before .before .before .before .before .pre .0 .tables .few-rows) (c .before .before .before .before .before .before .before .first-row .ensures) (c .before .before .before .before .before .before .row-count .ensures) (c .before .before .before .before .loop-test .taken))
 
 put-record-requires : tie.Need-put-record-requires Inv-loop μ-loop
-put-record-requires c κs = omega (arith, c .before .before .before .before .before .loop .inv .0 .long, c .before .before .before .before .before .before .before .before .before .before .before .pre .1, room-for _ _ _ _ _ (c .before .before .before .before .before .before .before .before .before .before .before .pre .0 .tables .few-rows) (c .before .before .before .before .before .before .before .first-row .ensures) (c .before .before .before .before .before .before .row-count .ensures) (c .before .before .before .before .loop-test .taken))
+put-record-requires c κs = omega (arith, c .before .before .before .before .before .loop .inv .0 .long, c .before .before .before .before .before .before .before .before .before .before .before .pre .3, room-for _ _ _ _ _ (c .before .before .before .before .before .before .before .before .before .before .before .pre .0 .tables .few-rows) (c .before .before .before .before .before .before .before .first-row .ensures) (c .before .before .before .before .before .before .row-count .ensures) (c .before .before .before .before .loop-test .taken))
 
 add-r : tie.Need-add-r Inv-loop μ-loop
 add-r c = search needs

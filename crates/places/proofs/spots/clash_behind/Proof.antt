@@ -1,7 +1,7 @@
 -- `places::spots::clash_behind` meets its contract. Assumes nothing.
 use Rattle.codec.specs.Limits.{anyOf}
 use Rattle.format.specs.Plan.{ElementPlan, elementPlanC}
-use Rattle.refusal.proofs.Tree.{Still, still-start, still-again, still-found, still-none}
+use Rattle.says.proofs.Behind.{Still, still-start, still-again, still-found, still-none}
 use Rattle.places.specs.Spots.{clash, spotOf}
 use Rattle.places.proofs.Reading.{any-step, any-nil}
 use borrow.Author.Needs.{needs}

@@ -1,6 +1,6 @@
 -- `places::spots::plan_wrong` meets its contract. Assumes nothing.
 use Rattle.format.specs.Fields.{is-loopPlan}
-use Rattle.refusal.proofs.Walk.{says-at}
+use Rattle.says.proofs.Walk.{says-at}
 use Rattle.places.specs.Spots.{wrongPlan}
 use borrow.Author.Needs.{needs}
 use Rattle.places.proofs.spots.plan_wrong.Statement.{statement}

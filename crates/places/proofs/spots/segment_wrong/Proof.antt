@@ -3,7 +3,7 @@ use mathlib.Core.Path.{ap}
 use Rattle.codec.specs.Field.{is-at}
 use Rattle.format.specs.Fields.{is-segmentPlan}
 use Rattle.complete.specs.Complete.{stepIn}
-use Rattle.refusal.proofs.Walk.{says-at}
+use Rattle.says.proofs.Walk.{says-at}
 use Rattle.places.specs.Spots.{kindOf, roomIn}
 use Rattle.places.proofs.Reading.{source-repeat, source-row, source-envelope, segment-is}
 use borrow.Author.Needs.{needs}

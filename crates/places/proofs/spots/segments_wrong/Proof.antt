@@ -2,7 +2,7 @@
 use Rattle.format.specs.Plan.{segmentPlanC}
 use Rattle.format.specs.Sections.{jobOf}
 use Rattle.places.specs.Spots.{wrongSegment}
-use Rattle.refusal.proofs.Walk.{NoneYet, some-start, some-again, some-found, some-none}
+use Rattle.says.proofs.Walk.{NoneYet, some-start, some-again, some-found, some-none}
 use borrow.Author.Needs.{needs}
 use Rattle.places.proofs.spots.segments_wrong.Statement.{statement}
 use Rattle.places.proofs.spots.segments_wrong.Tie as tie

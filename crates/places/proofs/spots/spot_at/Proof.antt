@@ -1,7 +1,7 @@
 -- `places::spots::spot_at` meets its contract. Assumes nothing.
 use mathlib.Core.Path.{refl}
 use Rattle.format.specs.Fields.{is-elementPlan}
-use Rattle.refusal.proofs.Walk.{number-is, says-at}
+use Rattle.says.proofs.Walk.{number-is, says-at}
 use Rattle.places.proofs.Reading.{spot-is}
 use borrow.Author.Needs.{needs}
 use Rattle.places.proofs.spots.spot_at.Statement.{statement}

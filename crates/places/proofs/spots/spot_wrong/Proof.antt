@@ -1,8 +1,8 @@
 -- `places::spots::spot_wrong` meets its contract. Assumes nothing.
 use mathlib.Core.Path.{refl}
 use Rattle.places.specs.Spots.{wrongSpot}
-use Rattle.places.specs.Rules.{low}
-use Rattle.refusal.proofs.Walk.{both, only}
+use Rattle.codes.specs.Rules.{low}
+use Rattle.says.proofs.Walk.{both, only}
 use borrow.Author.Needs.{needs}
 use Rattle.places.proofs.spots.spot_wrong.Statement.{statement}
 use Rattle.places.proofs.spots.spot_wrong.Tie as tie

@@ -1,6 +1,6 @@
 -- `places::spots::spots_wrong` meets its contract. Assumes nothing.
 use Rattle.format.specs.Plan.{elementPlanC}
-use Rattle.refusal.proofs.Tree.{NoneBehind, behind-start, behind-again, behind-found, behind-none}
+use Rattle.says.proofs.Behind.{NoneBehind, behind-start, behind-again, behind-found, behind-none}
 use Rattle.places.specs.Spots.{wrongSpots}
 use Rattle.places.proofs.Reading.{spots-step, spots-nil, spots-before}
 use borrow.Author.Needs.{needs}

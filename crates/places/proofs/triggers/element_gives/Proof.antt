@@ -2,7 +2,7 @@
 use mathlib.Core.Path.{refl}
 use Rattle.codec.specs.Field.{is-pair}
 use Rattle.format.specs.Fields.{is-element}
-use Rattle.refusal.proofs.Walk.{number-is}
+use Rattle.says.proofs.Walk.{number-is}
 use Rattle.places.proofs.Turning.{count-empty, gives-opener, gives-field}
 use borrow.Author.Needs.{needs}
 use Rattle.places.proofs.triggers.element_gives.Statement.{statement}

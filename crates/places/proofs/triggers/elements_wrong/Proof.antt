@@ -7,7 +7,7 @@ use Rattle.format.specs.Spec.{elementC}
 use Rattle.format.specs.Plan.{ElementPlan, elementPlanC}
 use Rattle.places.specs.Triggers.{wrongElement}
 use Rattle.codec.specs.Skip.{skip-pair}
-use Rattle.refusal.proofs.Walk.{NoneYet, some-start, some-again, some-found, some-none}
+use Rattle.says.proofs.Walk.{NoneYet, some-start, some-again, some-found, some-none}
 use borrow.Author.Needs.{needs}
 use Rattle.places.proofs.triggers.elements_wrong.Statement.{statement}
 use Rattle.places.proofs.triggers.elements_wrong.Tie as tie

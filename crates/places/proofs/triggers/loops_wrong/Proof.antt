@@ -3,7 +3,7 @@ use Prim.Native.Nat.{_+_, _≤_}
 use native.Mathlib.Omega.{arith}
 use Rattle.format.specs.Plan.{loopPlanC}
 use Rattle.format.specs.Sections.{jobOf}
-use Rattle.refusal.proofs.Tree.{NoneUpTo, from-start, from-again, from-found, from-none}
+use Rattle.says.proofs.Behind.{NoneUpTo, from-start, from-again, from-found, from-none}
 use Rattle.places.specs.Triggers.{wrongLoopAt}
 use borrow.Author.Needs.{needs}
 use Rattle.places.proofs.triggers.loops_wrong.Statement.{statement}

@@ -2,8 +2,8 @@
 use mathlib.Core.Path.{refl}
 use Rattle.format.specs.Fields.{is-elementPlan}
 use Rattle.codec.specs.Field.{is-at}
-use Rattle.refusal.proofs.Walk.{number-is}
-use Rattle.refusal.proofs.Tree.{present-says}
+use Rattle.says.proofs.Walk.{number-is}
+use Rattle.says.proofs.Walk.{present-says}
 use Rattle.places.proofs.Turning.{part-is}
 use borrow.Author.Needs.{needs}
 use Rattle.places.proofs.triggers.part_at.Statement.{statement}

@@ -1,7 +1,7 @@
 -- `places::triggers::parts_at` meets its contract. Assumes nothing.
 use Rattle.format.specs.Plan.{elementPlanC}
 use Rattle.places.specs.Triggers.{partOf}
-use Rattle.refusal.proofs.Walk.{NoneYet, some-start, some-again, some-found, some-none}
+use Rattle.says.proofs.Walk.{NoneYet, some-start, some-again, some-found, some-none}
 use borrow.Author.Needs.{needs}
 use Rattle.places.proofs.triggers.parts_at.Statement.{statement}
 use Rattle.places.proofs.triggers.parts_at.Tie as tie

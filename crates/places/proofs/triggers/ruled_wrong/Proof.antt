@@ -1,7 +1,7 @@
 -- `places::triggers::ruled_wrong` meets its contract. Assumes nothing.
 use Rattle.format.specs.Fields.{is-loopPlan}
 use Rattle.spec.specs.Found.{place-nowhere, place-at}
-use Rattle.refusal.proofs.Walk.{says-at}
+use Rattle.says.proofs.Walk.{says-at}
 use Rattle.places.proofs.Turning.{ruled-nowhere, ruled-there}
 use borrow.Author.Needs.{needs}
 use Rattle.places.proofs.triggers.ruled_wrong.Statement.{statement}

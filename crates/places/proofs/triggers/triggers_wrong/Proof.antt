@@ -5,7 +5,7 @@ use Rattle.codec.specs.Skip.{Is}
 use Rattle.format.specs.Spec.{elementC, SegmentDef}
 use Rattle.format.specs.Plan.{segmentPlanC}
 use Rattle.places.specs.Triggers.{wrongTrigger}
-use Rattle.refusal.proofs.Walk.{NoneYet, some-start, some-again, some-found, some-none}
+use Rattle.says.proofs.Walk.{NoneYet, some-start, some-again, some-found, some-none}
 use borrow.Author.Needs.{needs}
 use Rattle.places.proofs.triggers.triggers_wrong.Statement.{statement}
 use Rattle.places.proofs.triggers.triggers_wrong.Tie as tie

@@ -2,7 +2,7 @@
 use Rattle.lent.proofs.Laws.{stored-length}
 use Rattle.repeat_segment.proofs.FillLaws.{FillSoFar, fill-start, fill-next, fill-end}
 use Rattle.repeat_segment.proofs.Steps.{place-small, read-step}
-use Rattle.lent.specs.Fit.{cap}
+use Rattle.lent.specs.Fit.{wide}
 use lib.ListN.{length}
 use denote.Ref.{now}
 use Prim.Native.Nat.{_-_, _≤_}
@@ -42,7 +42,7 @@ loop-less : tie.Need-loop-less Inv-loop μ-loop
 loop-less c = omega (arith, c .before .before .before .before .before .before .before .if1 .taken)
 
 loop-again : tie.Need-loop-again Inv-loop μ-loop
-loop-again c = let a = c .before .before .before .before .before .before .before .before .before .before .before .before .before .before .args in let o = c .before .before .before .before .before .before .before .before .before .before .before .before .before .before .pre .1 in let h : length (now (a .findings)) ≤ cap = omega (arith, c .before .before .before .before .before .before .before .before .before .before .before .before .before .before) in rw (c .more2 .ensures) (fill-next _ _ o (a .k) (a .r .0) (a .state) (c .before .before .before .before .before .before .element-at .result) _ h (c .before .before .before .before .before .before .before .if1 .taken) (c .before .before .before .before .before .before .before .before .before .loop .inv) (read-step _ _ o _ _ (c .before .before .before .before .before .before .before .before .before .loop .inv .along) (c .before .before .before .before .before .before .before .if1 .taken) _ (c .before .before .before .before .before .before .element-at .ensures)) (c .before .before .before .before .note-element .ensures) (c .before .entries-of .ensures _ _ _))
+loop-again c = let a = c .before .before .before .before .before .before .before .before .before .before .before .before .before .before .args in let o = c .before .before .before .before .before .before .before .before .before .before .before .before .before .before .pre .1 in let h : length (now (a .findings)) ≤ wide = omega (arith, c .before .before .before .before .before .before .before .before .before .before .before .before .before .before) in rw (c .more2 .ensures) (fill-next _ _ o (a .k) (a .r .0) (a .state) (c .before .before .before .before .before .before .element-at .result) _ h (c .before .before .before .before .before .before .before .if1 .taken) (c .before .before .before .before .before .before .before .before .before .loop .inv) (read-step _ _ o _ _ (c .before .before .before .before .before .before .before .before .before .loop .inv .along) (c .before .before .before .before .before .before .before .if1 .taken) _ (c .before .before .before .before .before .before .element-at .ensures)) (c .before .before .before .before .note-element .ensures) (c .before .entries-of .ensures _ _ _))
 
 same-length : tie.Need-same-length Inv-loop μ-loop
 same-length c = stored-length _ (c .before .before .loop .inv .stored)

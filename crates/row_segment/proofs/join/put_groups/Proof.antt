@@ -28,20 +28,17 @@ same-length c = rowing-long _ _ _ _ _ _ _ _ _ _ _ (c .before .before .before .be
 returns : tie.Need-returns Inv-loop μ-loop
 returns c = rowing-below _ _ _ _ _ _ _ _ _ _ _ (c .before .before .before .before .before .before .before .before .loop .inv) _ _ _ (c .before .before .before .before .before .before .before .loop-test .taken) (c .before .before .before .before .before .wide .ensures .0) (c .before .before .before .before .if1 .taken) (c .before .before .close .ensures)
 
-scan-requires : tie.Need-scan-requires Inv-loop μ-loop
-scan-requires c κs = (c .before .before .before .before .before .before .before .before .pre .0, c .before .before .before .before .loop .inv .sees)
-
-put-group-requires : tie.Need-put-group-requires Inv-loop μ-loop
-put-group-requires c κs = (c .before .before .before .before .before .before .before .before .before .before .pre .0, c .before .before .before .before .before .before .loop .inv .sees, c .before .scan .ensures .low)
+put-next-requires : tie.Need-put-next-requires Inv-loop μ-loop
+put-next-requires c κs = (c .before .before .before .before .before .before .before .before .before .pre .0, c .before .before .before .before .before .loop .inv .sees, c .before .before .before .before .loop-test .taken)
 
 add-done : tie.Need-add-done Inv-loop μ-loop
 add-done c = omega (arith, c .before .before .before .before .before .before .before .wide .ensures .1)
 
 loop-less : tie.Need-loop-less Inv-loop μ-loop
-loop-less c = c .before .before .before .before .before .scan .ensures .less (c .before .before .before .before .before .before .before .before .before .loop-test .taken) refl
+loop-less c = c .before .before .before .before .put-next .ensures .scans .less (c .before .before .before .before .before .before .before .before .before .loop-test .taken) refl
 
 loop-again : tie.Need-loop-again Inv-loop μ-loop
-loop-again c = rowing-next _ _ _ _ _ _ _ _ _ _ _ (c .before .before .before .before .before .before .before .before .before .before .loop .inv) _ (c .before .before .before .before .before .scan .result) _ _ (c .before .before .before .before .before .before .before .before .before .loop-test .taken) (c .before .before .before .before .before .before .before .wide .ensures .0) (c .before .before .before .before .before .before .if1 .left) (c .before .before .before .before .before .scan .ensures) (c .before .before .before .put-group .ensures)
+loop-again c = rowing-next _ _ _ _ _ _ _ _ _ _ _ (c .before .before .before .before .before .before .before .before .before .before .loop .inv) _ (record { last = c .before .before .before .before .put-next .ensures .last; after = c .before .before .before .before .put-next .result .after }) _ _ (c .before .before .before .before .before .before .before .before .before .loop-test .taken) (c .before .before .before .before .before .before .before .wide .ensures .0) (c .before .before .before .before .before .before .if1 .left) (c .before .before .before .before .put-next .ensures .scans) (c .before .before .before .before .put-next .ensures .group)
 
 close-requires-2 : tie.Need-close-requires-2 Inv-loop μ-loop
 close-requires-2 c κs = search needs
@@ -63,8 +60,7 @@ put-groups-spec =
     close-requires
     same-length
     returns
-    scan-requires
-    put-group-requires
+    put-next-requires
     add-done
     loop-less
     loop-again

@@ -6,7 +6,7 @@ use native.Mathlib.Omega.{arith}
 use lib.ListN.{length}
 use Prim.Native.Nat.{_≤_}
 use mathlib.Core.Option.{none}
-use Rattle.lent.specs.Fit.{cap}
+use Rattle.lent.specs.Fit.{wide}
 use Rattle.nest.specs.Finding.{field}
 use Rattle.emit.specs.Puts.{placeOf}
 use borrow.Author.Needs.{needs}
@@ -27,7 +27,7 @@ same-length : tie.Need-same-length
 same-length c = search needs
 
 returns : tie.Need-returns
-returns c = λ j trigger e q. let a = c .before .before .before .before .before .before .before .before .before .before .before .args in let h : length (now (a .findings)) ≤ cap = omega (arith, c .before .before .before .before .before .before .before .before .before .before .before) in let w = spot-is trigger (a .w .name) (a .f) (a .p) q in field-stored j trigger (valueText (now (a .job)) (a .v)) (a .f) (a .p) (a .reason) (a .checked) (a .w .tried) e h (c .before .before .before .before .before .before .try-checked .ensures (field (a .f)) (placeOf trigger (a .p) none) w) (c .before .before .note-reason .ensures (field (a .f)) (placeOf trigger (a .p) none) w)
+returns c = λ j trigger e q. let a = c .before .before .before .before .before .before .before .before .before .before .before .args in let h : length (now (a .findings)) ≤ wide = omega (arith, c .before .before .before .before .before .before .before .before .before .before .before) in let w = spot-is trigger (a .w .name) (a .f) (a .p) q in field-stored j trigger (valueText (now (a .job)) (a .v)) (a .f) (a .p) (a .reason) (a .checked) (a .w .tried) e h (c .before .before .before .before .before .before .try-checked .ensures (field (a .f)) (placeOf trigger (a .p) none) w) (c .before .before .note-reason .ensures (field (a .f)) (placeOf trigger (a .p) none) w)
 
 pub note-field-spec : {M : Type 1} → statement M
 note-field-spec =

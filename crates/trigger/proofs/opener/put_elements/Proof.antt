@@ -5,7 +5,7 @@ use lib.ListN.{length}
 use Prim.Native.Nat.{_≤_}
 use mathlib.Core.Path.{_≡_, refl, _∙_}
 use denote.Ref.{now}
-use Rattle.lent.specs.Fit.{cap}
+use Rattle.lent.specs.Fit.{wide}
 use Rattle.format.specs.Sections.{jobOf}
 use Rattle.format.specs.Ask.{loopOf}
 use Rattle.trigger.specs.Drawn.{elementPut, Opening}
@@ -44,7 +44,7 @@ loop-less : tie.Need-loop-less Inv-loop μ-loop
 loop-less c = one-less (c .before .before .before .before .before .before .before .before .before .before .before .loop .inv .2 (c .before .before .before .before .before .before .before .before .before .before .before .before .before .before .before .before .before .pre .2)) (c .before .before .before .before .before .before .before .before .before .if1 .taken) (c .next-element .ensures)
 
 loop-again : tie.Need-loop-again Inv-loop μ-loop
-loop-again c = (c .before .before .before .before .before .put-element .kept .1 .1 .0 ∙ c .before .before .before .before .before .before .before .before .before .before .before .loop .inv .0, c .before .before .before .before .before .put-element .kept .1 .1 .1 .0 ∙ c .before .before .before .before .before .before .before .before .before .before .before .loop .inv .1, λ o. let h : length (now (c .before .before .before .before .before .before .before .before .before .before .before .before .before .before .before .before .before .args .findings)) ≤ cap = omega (arith, c .before .before .before .before .before .before .before .before .before .before .before .before .before .before .before .before .before) in one-more (c .before .before .before .before .before .before .before .before .before .before .before .loop .inv .2 o) (element-shape _ _ _ _ _) h (c .before .before .before .before .before .before .before .before .before .if1 .taken) (c .before .before .before .before .before .before .before .before .element .ensures) (λ y says m. c .before .before .before .before .before .put-element .ensures (o .loop) (o .control) (o .number) y (o .framed) says m) (c .next-element .ensures))
+loop-again c = (c .before .before .before .before .before .put-element .kept .1 .1 .0 ∙ c .before .before .before .before .before .before .before .before .before .before .before .loop .inv .0, c .before .before .before .before .before .put-element .kept .1 .1 .1 .0 ∙ c .before .before .before .before .before .before .before .before .before .before .before .loop .inv .1, λ o. let h : length (now (c .before .before .before .before .before .before .before .before .before .before .before .before .before .before .before .before .before .args .findings)) ≤ wide = omega (arith, c .before .before .before .before .before .before .before .before .before .before .before .before .before .before .before .before .before) in one-more (c .before .before .before .before .before .before .before .before .before .before .before .loop .inv .2 o) (element-shape _ _ _ _ _) h (c .before .before .before .before .before .before .before .before .before .if1 .taken) (c .before .before .before .before .before .before .before .before .element .ensures) (λ y says m. c .before .before .before .before .before .put-element .ensures (o .loop) (o .control) (o .number) y (o .framed) says m) (c .next-element .ensures))
 
 same-length : tie.Need-same-length Inv-loop μ-loop
 same-length c = c .before .before .loop .inv .0

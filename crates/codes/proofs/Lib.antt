@@ -1,0 +1,5 @@
+pub mod Laws
+pub mod Listing
+pub mod Reading
+pub mod Coding
+pub mod Whole

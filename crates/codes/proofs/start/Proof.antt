@@ -1,0 +1,17 @@
+-- `codes::start` meets its contract. Assumes nothing.
+use native.Mathlib.Omega.{arith}
+use borrow.Author.Needs.{needs}
+use Rattle.codes.proofs.start.Statement.{statement}
+use Rattle.codes.proofs.start.Tie as tie
+
+sub-t : tie.Need-sub-t
+sub-t c = omega (arith, c .before .pre .sound .least)
+
+num-requires : tie.Need-num-requires
+num-requires c κs = omega (arith, c .before .pre .sound .most)
+
+returns : tie.Need-returns
+returns c = c .num .ensures .0
+
+pub start-spec : {M : Type 1} → statement M
+start-spec = tie.close (tie.spec sub-t (λ c. search needs) num-requires (λ c. search needs) returns)

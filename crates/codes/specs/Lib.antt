@@ -1,0 +1,5 @@
+pub mod Refutes
+pub mod Fits
+pub mod Rules
+pub mod Maps
+pub mod Codes

@@ -1,0 +1,15 @@
+-- `limits::segment_over` meets its contract. Assumes nothing.
+use Rattle.codec.specs.Maps.{is-num-map}
+use Rattle.codec.specs.Field.{is-pair}
+use Rattle.format.specs.Refusal.{overSegment}
+use Rattle.says.proofs.Walk.{says-at}
+use borrow.Author.Needs.{needs}
+use Rattle.limits.proofs.segment_over.Statement.{statement}
+use Rattle.limits.proofs.segment_over.Tie as tie
+
+returns : tie.Need-returns
+unfolding overSegment
+returns c v i = let t = is-pair _ _ _ _ _ v i in (says-at _ _ _ _ _ _ _ _ (c .elements-over .ensures) (is-num-map _ _ _ _ _ (t .1) .0) (cc))
+
+pub segment-over-spec : {M : Type 1} → statement M
+segment-over-spec = tie.close (tie.spec (λ c κs. search needs) (λ c κs. search needs) returns)

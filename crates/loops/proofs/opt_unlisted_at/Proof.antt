@@ -1,0 +1,14 @@
+-- `loops::opt_unlisted_at` meets its contract. Assumes nothing.
+use Rattle.says.proofs.Walk.{opt-there, opt-none}
+use borrow.Author.Needs.{needs}
+use Rattle.loops.proofs.opt_unlisted_at.Statement.{statement}
+use Rattle.loops.proofs.opt_unlisted_at.Tie as tie
+
+returns : tie.Need-returns
+returns c = λ ls q. opt-there _ _ _ _ _ _ _ _ (c .before .before .before .tag-at .ensures) (c .before .before .if1 .taken) (c .before .le-at .ensures) (c .unlisted-at .ensures ls q)
+
+returns-2 : tie.Need-returns-2
+returns-2 c = λ ls q. opt-none _ _ _ _ _ _ (c .before .tag-at .ensures) (c .if1 .left)
+
+pub opt-unlisted-at-spec : {M : Type 1} → statement M
+opt-unlisted-at-spec = tie.close (tie.spec (λ c κs. search needs) (λ c κs. search needs) (λ c κs. search needs) returns returns-2)

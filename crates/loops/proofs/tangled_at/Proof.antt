@@ -1,0 +1,48 @@
+-- `loops::tangled_at` meets its contract. Assumes nothing.
+use mathlib.Core.Path.{refl}
+use Rattle.format.specs.Decoding.{read-job}
+use Rattle.says.proofs.Walk.{section-says}
+use Rattle.says.proofs.Walk.{count-length}
+use Rattle.loops.proofs.Forest.{order-says, order-out, spec-loops, spec-roots, tangled-outside, tangled-order, tangled-rest, tangled-roots, tangled-spec}
+use borrow.Author.Needs.{needs}
+use Rattle.loops.proofs.tangled_at.Statement.{statement}
+use Rattle.loops.proofs.tangled_at.Tie as tie
+
+returns : tie.Need-returns
+returns c = let r = read-job _ (c .before .before .before .before .before .before .before .pre .0) (c .before .before .before .before .before .before .before .pre .1) in tangled-outside _ _ r _ (section-says _ _ _ _ _ _ _ _ _ (c .before .spec-outside .ensures) refl (c .before .before .before .before .before .start .ensures) (r .spec)) (c .if1 .taken)
+
+returns-2 : tie.Need-returns-2
+returns-2 c =
+    let r = read-job _ (c .before .before .before .before .before .before .before .before .before .pre .0) (c .before .before .before .before .before .before .before .before .before .pre .1) in
+    let z = count-length _ _ _ _ _ _ (c .before .before .before .before .count-at .ensures .0) (spec-loops _ _ _ _ (c .before .before .before .before .before .before .before .start .ensures) (r .spec)) in
+    tangled-order _ _ r _ (section-says _ _ _ _ _ _ _ _ _ (c .before .before .before .spec-outside .ensures) refl (c .before .before .before .before .before .before .before .start .ensures) (r .spec)) _
+    (order-out _ _ r _ _ _ _ (c .before .orders-outside .ensures) (c .before .before .before .before .before .before .start2 .ensures) (c .before .before .before .before .before .start3 .ensures) z) (c .before .before .if1 .left) (c .if2 .taken)
+
+returns-3 : tie.Need-returns-3
+returns-3 c =
+    let r = read-job _ (c .before .before .before .before .before .before .before .before .before .before .before .before .pre .0) (c .before .before .before .before .before .before .before .before .before .before .before .before .pre .1) in
+    let z = count-length _ _ _ _ _ _ (c .before .before .before .before .before .before .before .count-at .ensures .0) (spec-loops _ _ _ _ (c .before .before .before .before .before .before .before .before .before .before .start .ensures) (r .spec)) in
+    tangled-roots _ _ r _ (section-says _ _ _ _ _ _ _ _ _ (c .before .before .before .before .before .before .spec-outside .ensures) refl (c .before .before .before .before .before .before .before .before .before .before .start .ensures) (r .spec)) _
+    (order-out _ _ r _ _ _ _ (c .before .before .before .before .orders-outside .ensures) (c .before .before .before .before .before .before .before .before .before .start2 .ensures) (c .before .before .before .before .before .before .before .before .start3 .ensures) z) (c .before .before .before .before .before .if1 .left) (c .before .before .before .if2 .left)
+    _ (spec-roots _ _ _ _ _ _ (c .before .repeats-at .ensures) (c .before .before .loops-at .ensures) (c .before .before .before .before .before .before .before .before .before .before .start .ensures) (r .spec)) (c .if3 .taken)
+
+returns-4 : tie.Need-returns-4
+returns-4 c =
+    let r = read-job _ (c .before .before .before .before .before .before .before .before .before .before .before .before .before .before .before .before .before .before .pre .0) (c .before .before .before .before .before .before .before .before .before .before .before .before .before .before .before .before .before .before .pre .1) in
+    let z = count-length _ _ _ _ _ _ (c .before .before .before .before .before .before .before .before .before .before .before .before .before .count-at .ensures .0) (spec-loops _ _ _ _ (c .before .before .before .before .before .before .before .before .before .before .before .before .before .before .before .before .start .ensures) (r .spec)) in
+    tangled-spec _ _ r _ (section-says _ _ _ _ _ _ _ _ _ (c .before .before .before .before .before .before .before .before .before .before .before .before .spec-outside .ensures) refl (c .before .before .before .before .before .before .before .before .before .before .before .before .before .before .before .before .start .ensures) (r .spec)) _
+    (order-out _ _ r _ _ _ _ (c .before .before .before .before .before .before .before .before .before .before .orders-outside .ensures) (c .before .before .before .before .before .before .before .before .before .before .before .before .before .before .before .start2 .ensures) (c .before .before .before .before .before .before .before .before .before .before .before .before .before .before .start3 .ensures) z) (c .before .before .before .before .before .before .before .before .before .before .before .if1 .left) (c .before .before .before .before .before .before .before .before .before .if2 .left)
+    _ (section-says _ _ _ _ _ _ _ _ _ (c .before .spec-tangled .ensures) refl (c .before .before .before .before .before .before .before .before .before .before .before .before .before .before .before .before .start .ensures) (r .spec)) (c .if4 .taken)
+
+returns-5 : tie.Need-returns-5
+returns-5 c =
+    let r = read-job _ (c .before .before .before .before .before .before .before .before .before .before .before .before .before .before .before .before .before .before .before .before .pre .0) (c .before .before .before .before .before .before .before .before .before .before .before .before .before .before .before .before .before .before .before .before .pre .1) in
+    let ls = spec-loops _ _ _ _ (c .before .before .before .before .before .before .before .before .before .before .before .before .before .before .before .before .before .before .start .ensures) (r .spec) in
+    let z = count-length _ _ _ _ _ _ (c .before .before .before .before .before .before .before .before .before .before .before .before .before .before .before .count-at .ensures .0) ls in
+    tangled-rest _ _ r _ (section-says _ _ _ _ _ _ _ _ _ (c .before .before .before .before .before .before .before .before .before .before .before .before .before .before .spec-outside .ensures) refl (c .before .before .before .before .before .before .before .before .before .before .before .before .before .before .before .before .before .before .start .ensures) (r .spec)) _
+    (order-out _ _ r _ _ _ _ (c .before .before .before .before .before .before .before .before .before .before .before .before .orders-outside .ensures) (c .before .before .before .before .before .before .before .before .before .before .before .before .before .before .before .before .before .start2 .ensures) (c .before .before .before .before .before .before .before .before .before .before .before .before .before .before .before .before .start3 .ensures) z) (c .before .before .before .before .before .before .before .before .before .before .before .before .before .if1 .left) (c .before .before .before .before .before .before .before .before .before .before .before .if2 .left)
+    _ _ (section-says _ _ _ _ _ _ _ _ _ (c .before .before .before .spec-tangled .ensures) refl (c .before .before .before .before .before .before .before .before .before .before .before .before .before .before .before .before .before .before .start .ensures) (r .spec)) (c .before .before .if4 .left)
+    (order-says _ _ _ _ _ _ _ _ (c .misorders .ensures _ ls) (c .before .before .before .before .before .before .before .before .before .before .before .before .before .before .before .before .before .start2 .ensures) (c .before .before .before .before .before .before .before .before .before .before .before .before .before .before .before .before .start3 .ensures) (r .layout))
+
+pub tangled-at-spec : {M : Type 1} → statement M
+tangled-at-spec = tie.close (tie.spec (λ c κs. search needs) (λ c κs. search needs) (λ c κs. search needs) (λ c κs. search needs) (λ c κs. search needs) returns (λ c. search needs) (λ c κs. search needs) returns-2 (λ c κs. search needs) (λ c κs. search needs) returns-3 (λ c. search needs) (λ c κs. search needs) (λ c. search needs) (λ c κs. search needs) returns-4 (λ c. search needs) (λ c. search needs) (λ c κs. search needs) returns-5)

@@ -1,0 +1,192 @@
+// Segments whose parts are plain and come, row by row, in the order of their places: texts are written as they come.
+use crate::places;
+use crate::planned::Planned;
+use plan::answers::ElementPlan;
+use plan::read;
+use segment::Pen;
+use segment::Separators;
+use spec::ids::Number;
+use spec::ids::RowId;
+ghost use mathlib.Core.Path.{_≡_};
+ghost use mathlib.Core.Bool.{true};
+ghost use mathlib.Core.List.{List};
+ghost use Prim.Native.Nat.{ℕ, _≤_, _<_};
+ghost use lib.ListN.{length};
+ghost use Rattle.lent.specs.Fit.{Stored};
+ghost use Rattle.segment.specs.Parts.{joined, sorted};
+ghost use Rattle.spec.specs.Answers.{numberOf};
+ghost use Rattle.plan.specs.Answers.{elementOf};
+ghost use Rattle.nest.specs.Ready.{Ready};
+ghost use Rattle.repeat_segment.specs.Planned.{Of, idOf, plansOf};
+ghost use Rattle.repeat_segment.specs.Places.{elementPut, rowPuts, partsOf};
+ghost use Rattle.repeat_segment.specs.Order.{Ends, Ordered, Fed};
+
+// ---- the order
+
+// The last place once a planned element stands behind `last` for row number k; none if it doesn't, or has a component.
+fn behind(s: Planned, e: ElementPlan, k: u32, last: u32) -> Number
+    requires { ⌜ (e .element ≤ 255) × (s .step ≤ 255) × (k < 256) ⌝ }
+    ensures { λ n. ⌜ ((b : List ℕ) (row : ℕ) → Ends last ((elementPut b s k row (elementOf b e)) .parts) (numberOf n)) ⌝ }
+{
+    let c = e.component;
+    match c {
+        Number::Is(_) => Number::None,
+        Number::None => {
+            let place = places::place_of(e, s.step, k);
+            match place {
+                Number::None => Number::Is(last),
+                Number::Is(m) => {
+                    if last < m {
+                        return Number::Is(m);
+                    }
+                    Number::None
+                }
+            }
+        }
+    }
+}
+
+// The same for all planned elements.
+fn row_behind(job: &[u8], s: Planned, k: u32, from: u32) -> Number
+    requires { ⌜ Of (now job) s × (k < 256) ⌝ }
+    ensures { λ n. ⌜ ((row : ℕ) → Ends from ((rowPuts (now (job .entry)) s k row (plansOf (now (job .entry)) s)) .parts) (numberOf n)) ⌝ }
+{
+    let mut last = from;
+    let mut at = s.first;
+    let mut i: u32 = 0;
+    while i < s.count {
+        let e = read::element_at(job, at);
+        let n = behind(s, e, k, last);
+        match n {
+            Number::None => {
+                return Number::None;
+            }
+            Number::Is(m) => {
+                last = m;
+                at = e.next;
+                i += 1;
+            }
+        }
+    }
+    Number::Is(last)
+}
+
+// Whether the parts of so many rows are plain and come in the order of their places.
+pub fn in_order(job: &[u8], s: Planned, count: u32) -> bool
+    requires { ⌜ Of (now job) s × (count ≤ 256) ⌝ }
+    ensures { λ r. ⌜ (r ≡ true → (rows : List ℕ) → Ordered (partsOf (now (job .entry)) s rows count)) ⌝ }
+{
+    let mut last: u32 = 0;
+    let mut k: u32 = 0;
+    while k < count {
+        let n = row_behind(job, s, k, last);
+        match n {
+            Number::None => {
+                return false;
+            }
+            Number::Is(m) => {
+                last = m;
+                k += 1;
+            }
+        }
+    }
+    true
+}
+
+// ---- the texts
+
+// The text of a planned element for row number k, if it has a place.
+fn put_element(
+    doc: &mut [u8],
+    job: &[u8],
+    index: &[u32],
+    sep: Separators,
+    s: Planned,
+    pen: Pen,
+    e: ElementPlan,
+    k: u32,
+    r: RowId,
+) -> Pen
+    requires { ⌜ Ready (now job) (now index) × Of (now job) s × (e .element ≤ 255) × (k < 256) ⌝ }
+    ensures { λ t. ⌜ Fed sep ((elementPut (now (job .entry)) s k (r .0) (elementOf (now (job .entry)) e)) .parts) pen (now (doc .entry)) t (now (doc .exit)) ⌝ }
+{
+    let place = places::place_of(e, s.step, k);
+    match place {
+        Number::None => pen,
+        Number::Is(p) => {
+            let w = places::text(job, index, s, e, p, r);
+            let v = w.value;
+            segment::element(doc, job, sep, pen, p as usize, v)
+        }
+    }
+}
+
+// The texts of row number k.
+fn put_row(
+    doc: &mut [u8],
+    job: &[u8],
+    index: &[u32],
+    sep: Separators,
+    s: Planned,
+    pen: Pen,
+    k: u32,
+    r: RowId,
+) -> Pen
+    requires { ⌜ Ready (now job) (now index) × Of (now job) s × (k < 256) ⌝ }
+    ensures { λ t. ⌜ Fed sep ((rowPuts (now (job .entry)) s k (r .0) (plansOf (now (job .entry)) s)) .parts) pen (now (doc .entry)) t (now (doc .exit)) ⌝ }
+{
+    let mut t = pen;
+    let mut at = s.first;
+    let mut i: u32 = 0;
+    while i < s.count {
+        let e = read::element_at(job, at);
+        t = put_element(doc, job, index, sep, s, t, e, k, r);
+        at = e.next;
+        i += 1;
+    }
+    t
+}
+
+// The texts of so many rows.
+fn put_rows(
+    doc: &mut [u8],
+    job: &[u8],
+    index: &[u32],
+    rows: &[u32],
+    count: u32,
+    sep: Separators,
+    s: Planned,
+    pen: Pen,
+) -> Pen
+    requires { ⌜ Ready (now job) (now index) × Of (now job) s × (count ≤ 256) × (count ≤ length (now rows)) ⌝ }
+    ensures { λ t. ⌜ Fed sep (partsOf (now (job .entry)) s (now (rows .entry)) count) pen (now (doc .entry)) t (now (doc .exit)) ⌝ }
+{
+    let mut t = pen;
+    let mut k: u32 = 0;
+    while k < count {
+        let r = RowId(rows[k as usize]);
+        t = put_row(doc, job, index, sep, s, t, k, r);
+        k += 1;
+    }
+    t
+}
+
+// The segment of a chunk whose parts come in order: its pen ends at the last filled element.
+pub fn put_ordered(
+    doc: &mut [u8],
+    at: usize,
+    job: &[u8],
+    index: &[u32],
+    rows: &[u32],
+    count: u32,
+    sep: Separators,
+    s: Planned,
+) -> usize
+    requires { ⌜ Ready (now job) (now index) × Of (now job) s × (count ≤ 256) × (count ≤ length (now rows)) × Ordered (partsOf (now job) s (now rows) count) ⌝ }
+    ensures { λ r. ⌜ Stored (now (doc .entry)) at (joined sep (idOf (now (job .entry)) s) (sorted (partsOf (now (job .entry)) s (now (rows .entry)) count))) r (now (doc .exit)) ⌝ }
+{
+    let id = s.id;
+    let pen = segment::begin(doc, at, job, id.start, id.len);
+    let end = put_rows(doc, job, index, rows, count, sep, s, pen);
+    segment::close(doc, sep, end, end.elements)
+}

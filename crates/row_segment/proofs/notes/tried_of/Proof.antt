@@ -1,0 +1,18 @@
+-- `row_segment::notes::tried_of` meets its contract. Assumes nothing.
+use mathlib.Core.Path.{ap, _∙_}
+use Rattle.nest.specs.Finding.{numberFrom}
+use borrow.Author.Needs.{needs}
+use Rattle.row_segment.proofs.notes.tried_of.Statement.{statement}
+use Rattle.row_segment.proofs.notes.tried_of.Tie as tie
+
+name-number-requires : tie.Need-name-number-requires
+name-number-requires c κs = search needs
+
+delimiters-of-requires : tie.Need-delimiters-of-requires
+delimiters-of-requires c κs = search needs
+
+returns : tie.Need-returns
+returns c = record { name = c .before .name-number .ensures ∙ ap (numberFrom 0) (c .before .before .before .before .before .pre .id .bytes); delimiters = c .delimiters-of .ensures }
+
+pub tried-of-spec : {M : Type 1} → statement M
+tried-of-spec = tie.close (tie.spec name-number-requires delimiters-of-requires returns)
