@@ -1,13 +1,12 @@
-// Nest for a program: where each row hangs, and what is found of the rows.
+// Nest for a program: where each row hangs.
 ghost use mathlib.Core.Path.{_≡_};
 ghost use Prim.Native.Nat.{_≤_};
 ghost use lib.ListN.{length, take};
 ghost use lib.Seq.{sets};
-ghost use Rattle.lent.specs.Fit.{base, Noted};
 ghost use Rattle.nest.specs.Nest.{nestArray};
-ghost use Rattle.nest.specs.NestFindings.{nestFindings};
-ghost use Rattle.nest.specs.Ready.{Ready, outlineAt, words};
-ghost use Rattle.exports.specs.Nesting.{nestAnswer, nestLent, findingsLent};
+ghost use Rattle.nest.specs.Ready.{Ready, outlineAt};
+ghost use Rattle.format.specs.Refusal.{refusalOf};
+ghost use Rattle.exports.specs.Nesting.{nestLent};
 use crate::numbered;
 use spec::ids::TableId;
 
@@ -34,31 +33,29 @@ fn nest_count(job: &[u8], index: &[u32]) -> usize
     rows as usize * 3
 }
 
-// Nest with lists of any length.
-fn nested(job: &[u8], index: &[u32], nest: &mut [u32], findings: &mut [u64]) -> usize
+// Nest with a list of any length.
+fn nested(job: &[u8], index: &[u32], nest: &mut [u32])
     requires { ⌜ Ready (now job) (now index) ⌝ }
-    ensures { λ n. ⌜ (now (nest .exit) ≡ sets (now (nest .entry)) 0 (nestArray (outlineAt (now (job .entry))))) × Noted (now (findings .entry)) base (words (nestFindings (outlineAt (now (job .entry))))) n (now (findings .exit)) ⌝ }
+    ensures { λ _. ⌜ now (nest .exit) ≡ sets (now (nest .entry)) 0 (nestArray (outlineAt (now (job .entry)))) ⌝ }
 {
     let mut all = [0u32; 12288];
-    let n = nest::nest(job, index, &mut all, findings);
+    nest::rows::nest_rows(job, index, &mut all);
     let count = nest_count(job, index);
     copy_front(nest, &all, count);
-    n
 }
 
-// Where each row hangs and what is found of the rows, in two lists of any length; a refused job leaves both as they were.
+// Where each row hangs, three numbers a row as far as the list takes them; the refusal, 1 to 5, or 0. A refused job leaves the list as it was.
 #[no_mangle]
-pub extern "C" fn baktuven_nest(job: &[u8], nest: &mut [u32], findings: &mut [u64]) -> u64
-    ensures { λ r. ⌜ r ≡ nestAnswer (now (job .entry)) ⌝ }
+pub extern "C" fn baktuven_nest(job: &[u8], nest: &mut [u32]) -> u32
+    ensures { λ r. ⌜ r ≡ refusalOf (now (job .entry)) ⌝ }
     ensures { λ r. ⌜ now (nest .exit) ≡ nestLent (now (job .entry)) (now (nest .entry)) ⌝ }
-    ensures { λ r. ⌜ now (findings .exit) ≡ findingsLent (now (job .entry)) (now (findings .entry)) ⌝ }
 {
     let refused = numbered(refusal::check(job));
     if refused == 0 {
         let mut index = [0u32; 10752];
         index::fill_index(job, &mut index);
-        let n = nested(job, &index, nest, findings);
-        return 16 + (n - 4611686018427387904) as u64;
+        nested(job, &index, nest);
+        return 0;
     }
-    refused as u64
+    refused
 }

@@ -6,12 +6,12 @@ use crate::subject::{Agreed, Subject};
 use job::Job;
 use oracle::{Answer, Bound, Finding};
 
-/// Where each row hangs and what is found of the rows, beside what the Rust finds of them: the findings
-/// number by number, the lists lent in many lengths, and each row's record against its findings.
+/// Where each row hangs, held to what the Rust finds of it, the list lent in many lengths. The findings of
+/// nest themselves are compared number by number with those of the whole writer.
 pub struct Nest<F>(pub F);
 
-/// A job and two lists to lend, as `native::nest` takes them.
-pub type Lending = fn(&[u8], &mut [u32], &mut [u64]) -> u64;
+/// A job and a list to lend, as `native::nest` takes them.
+pub type Lending = fn(&[u8], &mut [u32]) -> u32;
 
 impl Nest<Lending> {
     /// With the proved `nest`.
@@ -20,12 +20,12 @@ impl Nest<Lending> {
     }
 }
 
-impl<F: Fn(&[u8], &mut [u32], &mut [u64]) -> u64 + Sync> Subject for Nest<F> {
+impl<F: Fn(&[u8], &mut [u32]) -> u32 + Sync> Subject for Nest<F> {
     fn run(&self, bytes: &[u8]) -> Result<Agreed, String> {
         let job = match job::check(bytes) {
             Ok(job) => job,
             Err(refusal) => {
-                self.lend(bytes, u64::from(refusal.number()), (&[], 7), (&[], 7))?;
+                self.lend(bytes, u32::from(refusal.number()), &[], 7)?;
                 return Ok(Agreed { answer: refusal.number(), seen: Vec::new() });
             }
         };
@@ -35,7 +35,7 @@ impl<F: Fn(&[u8], &mut [u32], &mut [u64]) -> u64 + Sync> Subject for Nest<F> {
             Answer::Done(outcome) => outcome,
             // The Rust gave no findings to compare with.
             other => {
-                if (self.0)(bytes, &mut records, &mut []) < 16 {
+                if (self.0)(bytes, &mut records) != 0 {
                     return Err("nest refuses a job that passes refusals 1 to 5".to_string());
                 }
                 let (answer, seen) = match other {
@@ -46,49 +46,31 @@ impl<F: Fn(&[u8], &mut [u32], &mut [u64]) -> u64 + Sync> Subject for Nest<F> {
                 return Ok(Agreed { answer, seen: vec![seen.to_string()] });
             }
         };
-        let nests = || outcome.findings.iter().filter(|finding| records::is_nests(finding));
-        let wanted: Vec<u64> = nests().flat_map(records::finding).collect();
+        let nests: Vec<Finding> =
+            outcome.findings.iter().filter(|one| records::is_nests(one)).cloned().collect();
         let own = outcome.findings.iter().position(|finding| !records::is_nests(finding));
-        if own.is_some_and(|own| own * 10 != wanted.len()) {
+        if own.is_some_and(|own| own != nests.len()) {
             return Err("the Rust's walk finds something before nest has ended".to_string());
         }
-        (self.0)(bytes, &mut records, &mut []);
+        (self.0)(bytes, &mut records);
         hangs(&job, &records, &outcome.findings)?;
-        let (all, count) = (records.len(), wanted.len());
-        let answer = 16 + count as u64;
-        for (nest, findings) in [
-            (all, count),
-            (all + 1, count + 1),
-            (0, 0),
-            (all.saturating_sub(1), count),
-            (all, count.saturating_sub(1)),
-            (all / 2, count / 2),
-        ] {
-            self.lend(bytes, answer, (&records, nest), (&wanted, findings))?;
+        let all = records.len();
+        for length in [all, all + 1, 0, all.saturating_sub(1), all / 2] {
+            self.lend(bytes, 0, &records, length)?;
         }
-        Ok(Agreed { answer: 0, seen: records::kinds(&nests().cloned().collect::<Vec<_>>()) })
+        Ok(Agreed { answer: 0, seen: records::kinds(&nests) })
     }
 }
 
-impl<F: Fn(&[u8], &mut [u32], &mut [u64]) -> u64> Nest<F> {
-    /// A call with lists of two lengths: the answer, and what each list is to hold as far as it fits.
-    fn lend(
-        &self,
-        bytes: &[u8],
-        answer: u64,
-        nest: (&[u32], usize),
-        findings: (&[u64], usize),
-    ) -> Result<(), String> {
-        let mut records = Lent::new(nest.1, |at| 0xa5a5_0000 + at as u32);
-        let mut found = Lent::new(findings.1, |at| 0x5a5a_0000_0000_0000 + at as u64);
-        let got = (self.0)(bytes, records.list(), found.list());
+impl<F: Fn(&[u8], &mut [u32]) -> u32> Nest<F> {
+    /// A call with a list of some length: the answer, and what the list is to hold as far as it fits.
+    fn lend(&self, bytes: &[u8], answer: u32, nest: &[u32], length: usize) -> Result<(), String> {
+        let mut records = Lent::new(length, |at| 0xa5a5_0000 + at as u32);
+        let got = (self.0)(bytes, records.list());
         if got != answer {
-            return Err(format!("nest gives {got}, the Rust {answer}"));
+            return Err(format!("nest gives {got}, the tools {answer}"));
         }
-        match records.differs("nest", nest.0).or_else(|| found.differs("findings", findings.0)) {
-            Some(difference) => Err(difference),
-            None => Ok(()),
-        }
+        records.differs("nest", nest).map_or(Ok(()), Err)
     }
 }
 

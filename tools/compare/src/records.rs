@@ -3,7 +3,7 @@
 use oracle::{Finding, Origin, Outcome, Place};
 
 /// A finding as ten numbers, its kind first.
-pub fn finding(finding: &Finding) -> [u64; 10] {
+fn finding(finding: &Finding) -> [u64; 10] {
     let bits = |value: i64| value as u64;
     match finding {
         Finding::DuplicateKey { table, row, key, first } => {

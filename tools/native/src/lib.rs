@@ -11,14 +11,7 @@ mod bare {
     unsafe extern "C" {
         pub fn baktuven_check(job: *const u8, length: usize) -> u32;
         pub fn baktuven_plan(job: *const u8, length: usize) -> u32;
-        pub fn baktuven_nest(
-            job: *const u8,
-            length: usize,
-            nest: *mut u32,
-            nest_length: usize,
-            findings: *mut u64,
-            findings_length: usize,
-        ) -> u64;
+        pub fn baktuven_nest(job: *const u8, length: usize, nest: *mut u32, nest_length: usize) -> u32;
         pub fn baktuven_write(
             job: *const u8,
             length: usize,
@@ -48,25 +41,15 @@ pub fn check(_: &[u8]) -> u32 {
     panic!("built without the static library")
 }
 
-/// Where each row hangs, three numbers a row, and what nest finds of the rows, ten numbers a finding,
-/// each as far as its list takes it. The refusal, 1 to 5, or 16 and how many numbers the findings have.
+/// Where each row hangs, three numbers a row as far as the list takes them. The refusal, 1 to 5, or 0.
 #[cfg(linked)]
-pub fn nest(job: &[u8], nest: &mut [u32], findings: &mut [u64]) -> u64 {
+pub fn nest(job: &[u8], nest: &mut [u32]) -> u32 {
     // SAFETY: the pairs are those of slices, which are only used during the call; the job is only read.
-    unsafe {
-        bare::baktuven_nest(
-            job.as_ptr(),
-            job.len(),
-            nest.as_mut_ptr(),
-            nest.len(),
-            findings.as_mut_ptr(),
-            findings.len(),
-        )
-    }
+    unsafe { bare::baktuven_nest(job.as_ptr(), job.len(), nest.as_mut_ptr(), nest.len()) }
 }
 
 #[cfg(not(linked))]
-pub fn nest(_: &[u8], _: &mut [u32], _: &mut [u64]) -> u64 {
+pub fn nest(_: &[u8], _: &mut [u32]) -> u32 {
     panic!("built without the static library")
 }
 
