@@ -19,7 +19,8 @@ use Rattle.codec.specs.Codec.{pick as codec-pick}
 use Rattle.lent.specs.Fit.{wide, more, Noted}
 use Rattle.lent.proofs.Laws.{stored-none, stored-append, stored-length}
 use Rattle.segment.specs.Parts.{pick}
-use Rattle.segment.specs.Pen.{holds}
+use Rattle.segment.specs.Pen.{holds, holdsAny, oneOf}
+use Rattle.segment.proofs.Texts.{none-of}
 use Rattle.nest.specs.Lists.{each}
 use Rattle.nest.specs.Finding.{Finding, Origin, cell, field, Place, ofText, delimiter, notWritable, recordOf}
 use Rattle.emit.specs.declared.findings.Spot.{Spot}
@@ -59,7 +60,7 @@ same-test a b = go (eqb a b) refl
     go false e = e ∙ sym (ne-eqb b a (λ q. eqb-false a b e (sym q)))
 
 pub holds-member : (b : ℕ) (text : List ℕ) → holds b text ≡ memberOf b text
-unfolding holds memberOf
+unfolding holds holdsAny memberOf
 holds-member b [] = refl
 holds-member b (x ∷ xs) = rw (same-test x b, holds-member b xs) (both (eqb b x))
   where
@@ -96,9 +97,28 @@ pub stored-next : {d d₁ d₂ : List ℕ} {at n m : ℕ} (o : Origin) (p : Plac
 stored-next o p text role b bs h s t = rw (held-rest o p text role b bs) (stored-findings (heldIn o p text role (b ∷ [])) (heldIn o p text (role + 1) bs) h s t)
 
 -- none is left to try
-pub none-tried : {d : List ℕ} {at n : ℕ} (o : Origin) (p : Place) (text : List ℕ) (role : ℕ) → n ≡ more at 0 → Noted d at (wordsOf (heldIn o p text role [])) n d
+none-left : (o : Origin) (p : Place) (text : List ℕ) (role : ℕ) → heldIn o p text role [] ≡ []
 unfolding heldIn
-none-tried o p text role e = none-stored e
+none-left o p text role = refl
+
+pub none-tried : {d : List ℕ} {at n : ℕ} (o : Origin) (p : Place) (text : List ℕ) (role : ℕ) → n ≡ more at 0 → Noted d at (wordsOf (heldIn o p text role [])) n d
+none-tried o p text role e = rw (none-left o p text role) (none-stored e)
+
+-- the byte that is tried last, or the first again
+abbrev pub lastOr : ℕ → Repetition → ℕ
+lastOr a Absent = a
+lastOr a (Byte b) = b
+
+-- none of the separators is held
+pub none-held : (o : Origin) (p : Place) (text : List ℕ) (a b c : ℕ) (r : Repetition) → holdsAny (oneOf a b c (lastOr a r)) text ≡ false → heldIn o p text 0 (a ∷ b ∷ c ∷ triedLast r) ≡ []
+none-held o p text a b c r e =
+    let n = none-of a b c (lastOr a r) text e in
+    rw (held-rest o p text 0 a (b ∷ c ∷ triedLast r), not-held o p text 0 a (n .0), held-rest o p text 1 b (c ∷ triedLast r), not-held o p text 1 b (n .1), held-rest o p text 2 c (triedLast r), not-held o p text 2 c (n .2))
+    (go r (n .3))
+  where
+    go : (x : Repetition) → holds (lastOr a x) text ≡ false → heldIn o p text 3 (triedLast x) ≡ []
+    go Absent f = none-left o p text 3
+    go (Byte d) f = not-held o p text 3 d f
 
 -- ---- a reason
 

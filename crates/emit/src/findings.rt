@@ -2,6 +2,7 @@
 use crate::cells::Written;
 use segment::Value;
 ghost use mathlib.Core.Path.{_≡_};
+ghost use mathlib.Core.Bool.{false};
 ghost use mathlib.Core.List.{List, [], _∷_, _++_};
 ghost use Prim.Native.Nat.{ℕ};
 ghost use Rattle.lent.specs.Fit.{Noted};
@@ -105,6 +106,29 @@ fn try_from_segment(
     try_last(findings, a, job, v, w, r)
 }
 
+fn try_each(findings: &mut [u64], at: usize, job: &[u8], v: Value, w: Spot, d: Delimiters) -> usize
+    ensures { λ n. ⌜ ((o : Origin) (p : Place) → w ≡ spotOf o p
+        → Noted (now (findings .entry)) at (wordsOf (heldIn o p (valueText (now (job .entry)) v) 0 (tried d))) n (now (findings .exit))) ⌝ }
+{
+    let a = try_one(findings, at, job, v, w, d.element, 0);
+    let b = try_one(findings, a, job, v, w, d.component, 1);
+    let r = d.repetition;
+    try_from_segment(findings, b, job, v, w, d.segment, r)
+}
+
+// Whether a text holds a separator: if not, nothing is to be written.
+fn holds_delimiter(job: &[u8], v: Value, d: Delimiters) -> bool
+    ensures { λ h. ⌜ ((o : Origin) (p : Place) → h ≡ false → heldIn o p (valueText (now (job .entry)) v) 0 (tried d) ≡ []) ⌝ }
+{
+    let r = d.repetition;
+    match r {
+        Repetition::Absent => {
+            segment::holds_any(job, v, d.element, d.component, d.segment, d.element)
+        }
+        Repetition::Byte(b) => segment::holds_any(job, v, d.element, d.component, d.segment, b),
+    }
+}
+
 // A finding for each separator that a text holds, in the order in which they are tried.
 pub fn try_delimiters(
     findings: &mut [u64],
@@ -117,10 +141,10 @@ pub fn try_delimiters(
     ensures { λ n. ⌜ ((o : Origin) (p : Place) → w ≡ spotOf o p
         → Noted (now (findings .entry)) at (wordsOf (heldIn o p (valueText (now (job .entry)) v) 0 (tried d))) n (now (findings .exit))) ⌝ }
 {
-    let a = try_one(findings, at, job, v, w, d.element, 0);
-    let b = try_one(findings, a, job, v, w, d.component, 1);
-    let r = d.repetition;
-    try_from_segment(findings, b, job, v, w, d.segment, r)
+    if holds_delimiter(job, v, d) {
+        return try_each(findings, at, job, v, w, d);
+    }
+    lent::more(at, 0)
 }
 
 // A finding for a reason other than 0.

@@ -17,10 +17,18 @@ use Rattle.segment.specs.Parts.{pick, isEmpty}
 unfoldable pub valueText : List ℕ → Value → List ℕ
 valueText job v = replicate (v .zeros) 48 ++ (take (v .count) (v .bytes) ++ (stretch job (v .start) (v .len) ++ replicate (v .spaces) 32))
 
+-- whether a byte of a text passes a test
+unfoldable pub holdsAny : (ℕ → Bool) → List ℕ → Bool
+holdsAny f [] = false
+holdsAny f (x ∷ xs) = pick (f x) true (holdsAny f xs)
+
 -- whether a byte is in a text
 unfoldable pub holds : ℕ → List ℕ → Bool
-holds b [] = false
-holds b (x ∷ xs) = pick (eqb x b) true (holds b xs)
+holds b = holdsAny (λ x. eqb x b)
+
+-- whether a byte is one of four
+unfoldable pub oneOf : ℕ → ℕ → ℕ → ℕ → ℕ → Bool
+oneOf a b c d x = pick (eqb x a) true (pick (eqb x b) true (pick (eqb x c) true (eqb x d)))
 
 -- what is written, and the separators that stand then
 pub record Wrote : Type 0 where

@@ -7,7 +7,7 @@ ghost use Prim.Native.Nat.{ℕ, _+_, _-_, _<_};
 ghost use lib.ListN.{length, take, replicate};
 ghost use Rattle.lent.specs.Fit.{more, stretch, Stored};
 ghost use Rattle.segment.specs.Parts.{isEmpty};
-ghost use Rattle.segment.specs.Pen.{valueText, holds, componentsIn, reached, placed, finished, opened, ending, closing, Penned};
+ghost use Rattle.segment.specs.Pen.{valueText, holds, holdsAny, oneOf, componentsIn, reached, placed, finished, opened, ending, closing, Penned};
 
 // The bytes that part a document, and whether a line feed follows each terminator.
 pub struct Separators {
@@ -105,22 +105,37 @@ pub fn text_len(job: &[u8], v: Value) -> usize
     lent::more(b, v.spaces)
 }
 
-fn run_holds(n: usize, a: u8, b: u8) -> bool
-    ensures { λ r. ⌜ r ≡ holds b (replicate n a) ⌝ }
+fn one_of(x: u8, a: u8, b: u8, c: u8, d: u8) -> bool
+    ensures { λ r. ⌜ r ≡ oneOf a b c d x ⌝ }
+{
+    if x == a {
+        return true;
+    }
+    if x == b {
+        return true;
+    }
+    if x == c {
+        return true;
+    }
+    x == d
+}
+
+fn run_holds(n: usize, x: u8, a: u8, b: u8, c: u8, d: u8) -> bool
+    ensures { λ r. ⌜ r ≡ holdsAny (oneOf a b c d) (replicate n x) ⌝ }
 {
     if n == 0 {
         return false;
     }
-    a == b
+    one_of(x, a, b, c, d)
 }
 
-fn stretch_holds(source: &[u8], start: usize, len: usize, b: u8) -> bool
-    ensures { λ r. ⌜ r ≡ holds b (stretch (now (source .entry)) start len) ⌝ }
+fn stretch_holds(source: &[u8], start: usize, len: usize, a: u8, b: u8, c: u8, d: u8) -> bool
+    ensures { λ r. ⌜ r ≡ holdsAny (oneOf a b c d) (stretch (now (source .entry)) start len) ⌝ }
 {
     let n = lent::stretch_len(source, start, len);
     let mut i = 0;
     while i < n {
-        if source[start + i] == b {
+        if one_of(source[start + i], a, b, c, d) {
             return true;
         }
         i += 1;
@@ -128,28 +143,47 @@ fn stretch_holds(source: &[u8], start: usize, len: usize, b: u8) -> bool
     false
 }
 
+fn own_holds(v: Value, a: u8, b: u8, c: u8, d: u8) -> bool
+    ensures { λ r. ⌜ r ≡ holdsAny (oneOf a b c d) (take (v .count) (v .bytes)) ⌝ }
+{
+    if v.count == 0 {
+        return false;
+    }
+    let bytes = v.bytes;
+    stretch_holds(&bytes, 0, v.count, a, b, c, d)
+}
+
+// Whether one of four bytes is in a text.
+pub fn holds_any(job: &[u8], v: Value, a: u8, b: u8, c: u8, d: u8) -> bool
+    ensures { λ r. ⌜ r ≡ holdsAny (oneOf a b c d) (valueText (now (job .entry)) v) ⌝ }
+{
+    if run_holds(v.zeros, b'0', a, b, c, d) {
+        return true;
+    }
+    if run_holds(v.spaces, b' ', a, b, c, d) {
+        return true;
+    }
+    if own_holds(v, a, b, c, d) {
+        return true;
+    }
+    stretch_holds(job, v.start, v.len, a, b, c, d)
+}
+
 // Whether a byte is in a text.
 pub fn holds(job: &[u8], v: Value, b: u8) -> bool
     ensures { λ r. ⌜ r ≡ holds b (valueText (now (job .entry)) v) ⌝ }
 {
-    if run_holds(v.zeros, b'0', b) {
-        return true;
-    }
-    if run_holds(v.spaces, b' ', b) {
-        return true;
-    }
-    let bytes = v.bytes;
-    if stretch_holds(&bytes, 0, v.count, b) {
-        return true;
-    }
-    stretch_holds(job, v.start, v.len, b)
+    holds_any(job, v, b, b, b, b)
 }
 
 fn put_front(doc: &mut [u8], at: usize, v: Value) -> usize
     ensures { λ r. ⌜ Stored (now (doc .entry)) at (replicate (v .zeros) 48 ++ take (v .count) (v .bytes)) r (now (doc .exit)) ⌝ }
 {
-    let bytes = v.bytes;
     let a = lent::put_run(doc, at, b'0', v.zeros);
+    if v.count == 0 {
+        return a;
+    }
+    let bytes = v.bytes;
     lent::put_stretch(doc, a, &bytes, 0, v.count)
 }
 
@@ -157,6 +191,9 @@ fn put_back(doc: &mut [u8], at: usize, job: &[u8], v: Value) -> usize
     ensures { λ r. ⌜ Stored (now (doc .entry)) at (stretch (now (job .entry)) (v .start) (v .len) ++ replicate (v .spaces) 32) r (now (doc .exit)) ⌝ }
 {
     let a = lent::put_stretch(doc, at, job, v.start, v.len);
+    if v.spaces == 0 {
+        return a;
+    }
     lent::put_run(doc, a, b' ', v.spaces)
 }
 

@@ -1,52 +1,18 @@
 -- `segment::holds` meets its contract. Assumes nothing.
-use mathlib.Core.Path.{sym, _∙_}
+use mathlib.Core.Path.{_∙_}
 use denote.Ref.{now}
-use Rattle.segment.proofs.Texts.{in-zeros, in-spaces, in-own, in-held}
+use Rattle.segment.specs.Pen.{valueText}
+use Rattle.segment.proofs.Texts.{one-byte}
 use borrow.Author.Needs.{needs}
 use Rattle.segment.proofs.holds.Statement.{statement}
 use Rattle.segment.proofs.holds.Tie as tie
 
-run-holds-requires : tie.Need-run-holds-requires
-run-holds-requires c κs = search needs
+holds-any-requires : tie.Need-holds-any-requires
+holds-any-requires c κs = search needs
 
 returns : tie.Need-returns
 returns c =
-    let a = c .before .before .before .args in in-zeros (a .b) (now (a .job)) (a .v) (sym (c .if1 .taken) ∙ c .before .run-holds .ensures)
-
-run-holds-requires-2 : tie.Need-run-holds-requires-2
-run-holds-requires-2 c κs = search needs
-
-returns-2 : tie.Need-returns-2
-returns-2 c =
-    let a = c .before .before .before .before .before .args in in-spaces (a .b) (now (a .job)) (a .v) (sym (c .if2 .taken) ∙ c .before .run-holds2 .ensures)
-
-slice-aggregate-stretch-holds : tie.Need-slice-aggregate-stretch-holds
-slice-aggregate-stretch-holds c = search needs
-
-stretch-holds-requires : tie.Need-stretch-holds-requires
-stretch-holds-requires c κs = search needs
-
-returns-3 : tie.Need-returns-3
-returns-3 c =
-    let a = c .before .before .before .before .before .before .before .before .before .args in in-own (a .b) (now (a .job)) (a .v) (sym (c .before .before .before .before .before .before .if1 .left) ∙ c .before .before .before .before .before .before .before .run-holds .ensures) (sym (c .if3 .taken) ∙ c .before .stretch-holds .ensures)
-
-stretch-holds-requires-2 : tie.Need-stretch-holds-requires-2
-stretch-holds-requires-2 c κs = search needs
-
-returns-4 : tie.Need-returns-4
-returns-4 c =
-    let a = c .before .before .before .before .before .before .before .before .before .before .args in in-held (a .b) (now (a .job)) (a .v) (sym (c .before .before .before .before .before .before .before .if1 .left) ∙ c .before .before .before .before .before .before .before .before .run-holds .ensures) (sym (c .before .before .before .before .before .if2 .left) ∙ c .before .before .before .before .before .before .run-holds2 .ensures) (sym (c .before .if3 .left) ∙ c .before .before .stretch-holds .ensures) (c .stretch-holds2 .ensures)
+    let a = c .before .before .args in c .holds-any .ensures ∙ one-byte (a .b) (valueText (now (a .job)) (a .v))
 
 pub holds-spec : {M : Type 1} → statement M
-holds-spec =
-    tie.close
-    (tie.spec
-    run-holds-requires
-    returns
-    run-holds-requires-2
-    returns-2
-    slice-aggregate-stretch-holds
-    stretch-holds-requires
-    returns-3
-    stretch-holds-requires-2
-    returns-4)
+holds-spec = tie.close (tie.spec holds-any-requires returns)

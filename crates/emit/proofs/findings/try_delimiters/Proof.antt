@@ -1,19 +1,11 @@
 -- `emit::findings::try_delimiters` meets its contract. Assumes nothing.
-use Rattle.emit.specs.Written.{triedLast}
-use mathlib.Core.List.{_∷_}
-use Rattle.emit.proofs.FindingLaws.{stored-next, still-fits}
-use Rattle.lent.specs.Fit.{wide}
-use lib.ListN.{length}
-use native.Mathlib.Omega.{arith}
-use Prim.Native.Nat.{_≤_}
-use Rattle.segment.specs.Pen.{valueText}
-use denote.Ref.{now}
+use Rattle.emit.proofs.FindingLaws.{none-stored}
 use borrow.Author.Needs.{needs}
 use Rattle.emit.proofs.findings.try_delimiters.Statement.{statement}
 use Rattle.emit.proofs.findings.try_delimiters.Tie as tie
 
-returns : tie.Need-returns
-returns c = λ o p e. let a = c .before .before .before .before .before .before .before .before .before .before .before .before .before .before .args in let h : length (now (a .findings)) ≤ wide = omega (arith, c .before .before .before .before .before .before .before .before .before .before .before .before .before .before) in let s = c .before .before .before .before .before .before .before .before .before .before .try-one .ensures o p e in stored-next o p (valueText (now (a .job)) (a .v)) 0 (a .d .element) (a .d .component ∷ a .d .segment ∷ triedLast (a .d .repetition)) h s (stored-next o p (valueText (now (a .job)) (a .v)) 1 (a .d .component) (a .d .segment ∷ triedLast (a .d .repetition)) (still-fits h s) (c .before .before .before .before .before .before .try-one2 .ensures o p e) (c .before .before .try-from-segment .ensures o p e))
+returns-2 : tie.Need-returns-2
+returns-2 c = λ o p e. rw (c .before .before .holds-delimiter .ensures o p (c .before .if1 .left)) (none-stored (c .more .ensures))
 
 pub try-delimiters-spec : {M : Type 1} → statement M
-try-delimiters-spec = tie.close (tie.spec (λ c κs. search needs) (λ c κs. search needs) (λ c κs. search needs) (λ c. search needs) returns)
+try-delimiters-spec = tie.close (tie.spec (λ c κs. search needs) (λ c κs. search needs) (λ c. search needs) (λ c. search needs) (λ c κs. search needs) returns-2)
