@@ -15,6 +15,7 @@ use Rattle.emit.specs.declared.cells.Written.{Written}
 use Rattle.emit.specs.Written.{Writes}
 use Rattle.row_segment.specs.declared.parts.Line.{Line}
 use Rattle.row_segment.specs.declared.parts.Look.{Look}
+use Rattle.row_segment.specs.declared.notes.Tally.{Tally}
 use Rattle.row_segment.specs.Stream.{Lined, outcomeOf, ahead, Sees, Looks}
 use Rattle.row_segment.specs.Groups.{Scans, Alone, Steps}
 use Rattle.row_segment.proofs.GroupLaws.{Scanning, scanning-start, scanning-next, scanned-else, scanned-none, finding-start, found-here}
@@ -39,12 +40,12 @@ module _ (b idx : List ℕ) (x : Line) (a m : Look) (w : Written) (l : Lined b i
   scanned : Scanning b x a (a .part .element) m (max 0 (pick (isEmpty (valueText b (w .value))) 0 1))
   scanned = scanning-next b x a (a .part .element) a 0 (scanning-start b x a (a .part .element) v) idx w 1 _ m l more refl y (sym (one .first)) (omega arith) refl k
 
-  passed : (u : Bool) → m .more ≡ u → Scans b x a (a .part .element) (record { last = max 0 (pick (isEmpty (valueText b (w .value))) 0 1); after = m })
+  passed : (u : Bool) → m .more ≡ u → Scans b x a (a .part .element) (max 0 (pick (isEmpty (valueText b (w .value))) 0 1)) m
   passed true e = scanned-else b x a (a .part .element) m _ scanned e (one .other e)
   passed false e = scanned-none b x a (a .part .element) m _ scanned e
 
-  pub alone-steps : {t : Pen} {d d₁ : List ℕ} (s : Separators) (pen : Pen) → Penned (placed s pen (a .part .element) 1 (valueText b (w .value))) (pen .at) t d d₁ → Steps s b x a pen d (record { pen = t; after = m }) d₁
-  alone-steps s pen p = record {
+  pub alone-steps : {t : Pen} {d d₁ : List ℕ} (s : Separators) (pen : Pen) (u : Tally) → Penned (placed s pen (a .part .element) 1 (valueText b (w .value))) (pen .at) t d d₁ → Steps s b x a pen d (record { pen = t; after = m; tally = u }) d₁
+  alone-steps s pen u p = record {
     last = max 0 (pick (isEmpty (valueText b (w .value))) 0 1);
     scans = passed (m .more) refl;
     group = one-group s pen (componentText (here (a .part .element) ((ahead b x a) .parts))) (a .part .element) (valueText b (w .value))

@@ -86,7 +86,7 @@ module _ (b : List ℕ) (x : Line) (n : Look) (e : ℕ) (a : Look) (m : ℕ) (i 
       lower true = omega (arith, i .low)
       lower false = omega (arith, i .low, k)
 
-  pub scanned-else : a .more ≡ true → (a .part .element ≡ e → ⊥) → Scans b x n e (record { last = m; after = a })
+  pub scanned-else : a .more ≡ true → (a .part .element ≡ e → ⊥) → Scans b x n e m a
   unfolding highest
   scanned-else t q = record {
     last = i .last ∙ rw (here-else b x a e t q) (omega arith);
@@ -100,7 +100,7 @@ module _ (b : List ℕ) (x : Line) (n : Look) (e : ℕ) (a : Look) (m : ℕ) (i 
       go (inl p) u v = absurd (q (ap (λ (y : Look). y .part .element) p ∙ v))
       go (inr p) u v = p
 
-  pub scanned-none : a .more ≡ false → Scans b x n e (record { last = m; after = a })
+  pub scanned-none : a .more ≡ false → Scans b x n e m a
   unfolding highest
   scanned-none t = record {
     last = i .last ∙ rw (here-none b x a e t (i .sees)) (omega arith);

@@ -1,6 +1,6 @@
 -- What is noted of a line, part by part.
 use Prim.Native.Nat.{ℕ, _+_, _≤_, _<_, max}
-use mathlib.Core.Path.{_≡_, refl, sym, _∙_}
+use mathlib.Core.Path.{_≡_, refl, _∙_}
 use mathlib.Core.Bool.{true, false}
 use mathlib.Core.List.{List, [], _∷_, _++_}
 use native.Mathlib.Omega.{arith}
@@ -26,8 +26,8 @@ use Rattle.row_segment.specs.declared.parts.Source.the-variants.{Cell, C
 use Rattle.row_segment.specs.declared.parts.Look.{Look}
 use Rattle.row_segment.specs.declared.notes.Tally.{Tally}
 use Rattle.row_segment.specs.declared.notes.Tried.{Tried}
-use Rattle.row_segment.specs.Stream.{idOf, plans, elementPut, puts, partPut, outcomeOf, ahead, Sees, Looks}
-use Rattle.row_segment.specs.Notes.{Tries, Noted, Totals}
+use Rattle.row_segment.specs.Stream.{idOf, plans, Lined, elementPut, puts, partPut, outcomeOf, ahead, Sees, Looks}
+use Rattle.row_segment.specs.Notes.{Tries, Notes, Between, Room, Totals}
 use Rattle.row_segment.proofs.StreamLaws.{part-is, ahead-more, ahead-none}
 
 -- ---- one part
@@ -61,7 +61,7 @@ module _ (b : List ℕ) (x : Line) (p : Planned) where
       go (Code s) e = rw e (omega arith)
 
   pub noted : {s r : Tally} {f f′ : List ℕ} (w : Written) → Writes b w (outcomeOf b x p) → StoredAt base f (s .findings) (wordsOf ((partPut b x p) .findings)) (r .findings) f′
-      → r .entries ≡ s .entries + (partPut b x p) .entries → r .last ≡ max (s .last) (pick (isEmpty (valueText b (w .value))) 0 (p .element)) → Noted b x p s r f f′
+      → r .entries ≡ s .entries + (partPut b x p) .entries → r .last ≡ max (s .last) (pick (isEmpty (valueText b (w .value))) 0 (p .element)) → Notes (partPut b x p) s r f f′
   unfolding highest
   noted w q n e l = record { findings = n; entries = e; last = rw (part-is b x p) (let t = w in l ∙ rw (q .text) (omega arith)) }
 
@@ -83,53 +83,56 @@ puts-few b x = entries-few b x (plans b x)
 
 -- ---- one part after the other
 
--- what is stored from here on completes the whole
-pub record Noting (b : List ℕ) (x : Line) (at : ℕ) (f₀ f : List ℕ) (s : Tally) (n : Look) : Type 0 where
-  pub findings : (q : ℕ) (g : List ℕ) → StoredAt base f (s .findings) (wordsOf ((ahead b x n) .findings)) q g → StoredAt base f₀ at (wordsOf ((puts b x 0) .findings)) q g
-  pub small : s .findings ≤ cap
-  pub long : length f ≡ length f₀
-  pub entries : (puts b x 0) .entries ≡ s .entries + (ahead b x n) .entries
-  pub last : lastElement ((puts b x 0) .parts) ≡ max (s .last) (lastElement ((ahead b x n) .parts))
-  pub sees : Sees b x n
+pub between-none : (b : List ℕ) (x : Line) (n : Look) (s : Tally) (f : List ℕ) → Between b x n n s s f f
+between-none b x n s f = record { whole = λ r g w. w; entries = refl; small = λ h. h; long = refl }
 
-module _ (b : List ℕ) (x : Line) (at : ℕ) (f₀ : List ℕ) where
-  pub noting-start : (s : Tally) (n : Look) → length f₀ ≤ wide → s .findings ≡ more at 0 → s .entries ≡ 0 → s .last ≡ 0 → Looks b x 0 n → Noting b x at f₀ f₀ s n
-  noting-start s n h e c m l = record {
-    findings = λ q g w. stored-append [] (wordsOf ((puts b x 0) .findings)) h (stored-none f₀ at) (rw (← e, ← l .whole) w);
-    small = omega arith;
-    long = refl;
-    entries = rw (c, l .whole) (omega arith);
-    last = rw (m, l .whole) (omega arith);
-    sees = l .sees;
-  }
+module _ {b : List ℕ} {x : Line} {n m : Look} {s t : Tally} {f₀ f : List ℕ} (i : Between b x n m s t f₀ f) where
+  pub between-next : {f′ : List ℕ} {r : Tally} (a : Look) → length f₀ ≤ wide → m .more ≡ true → Notes (partPut b x (m .part)) t r f f′ → Looks b x (m .k) a → Between b x n a s r f₀ f′
+  between-next {f′} {r} a h e d l =
+      let p : Put = partPut b x (m .part) in
+      let u : ahead b x m ≡ andPut p (ahead b x a) = ahead-more m a e l in
+      let k : length f ≤ wide = rw (i .long) h in
+      record {
+        whole = λ z g w. i .whole z g (rw u (record {
+          findings = stored-findings (p .findings) ((ahead b x a) .findings) k (d .findings) (w .findings);
+          entries = w .entries ∙ rw (d .entries) (omega arith);
+          last = w .last ∙ rw (highest-append (λ (y : Part). y .element) (p .parts) ((ahead b x a) .parts), d .last) (omega arith);
+        }));
+        entries = rw (d .entries) (let q = rw u at (i .entries) in omega (arith, q));
+        small = λ z. stored-small (wordsOf (p .findings)) (d .findings);
+        long = stored-length (wordsOf (p .findings)) (d .findings) ∙ i .long;
+      }
 
-  module _ (f : List ℕ) (s : Tally) (n : Look) (h : length f₀ ≤ wide) (i : Noting b x at f₀ f s n) where
-    pub noting-next : (f′ : List ℕ) (r : Tally) (m : Look) → n .more ≡ true → Noted b x (n .part) s r f f′ → Looks b x (n .k) m → Noting b x at f₀ f′ r m
-    noting-next f′ r m e d l =
-        let a : Put = partPut b x (n .part) in
-        let u : ahead b x n ≡ andPut a (ahead b x m) = ahead-more n m e l in
-        let k : length f ≤ wide = rw (i .long) h in
-        record {
-          findings = λ q g w. i .findings q g (rw u (stored-findings (a .findings) ((ahead b x m) .findings) k (d .findings) w));
-          small = stored-small (wordsOf (a .findings)) (d .findings);
-          long = stored-length (wordsOf (a .findings)) (d .findings) ∙ i .long;
-          entries = i .entries ∙ rw (u, d .entries) (omega arith);
-          last = i .last ∙ rw (u, highest-append (λ (y : Part). y .element) (a .parts) ((ahead b x m) .parts), d .last) (omega arith);
-          sees = l .sees;
-        }
+  pub between-trans : {a : Look} {r : Tally} {f′ : List ℕ} → Between b x m a t r f f′ → Between b x n a s r f₀ f′
+  between-trans j = record { whole = λ z g w. i .whole z g (j .whole z g w); entries = j .entries ∙ i .entries; small = λ h. j .small (i .small h); long = j .long ∙ i .long }
 
-    pub noting-end : n .more ≡ false → Totals b x at s f₀ f
-    unfolding highest
-    noting-end e =
-        let u : ahead b x n ≡ nothing = ahead-none b x n e (i .sees) in
-        record {
-          findings = i .findings (s .findings) f (rw u (none-stored (still (s .findings) (i .small))));
-          entries = sym (i .entries ∙ rw u (omega arith));
-          last = sym (i .last ∙ rw u (omega arith));
-        }
-      where
-        still : (m : ℕ) → m ≤ cap → m ≡ more m 0
-        still m h = omega arith
+  pub between-room : Room b x s n → Room b x t m
+  between-room h = omega (arith, i .entries, h)
 
-    pub noting-room : length (plans b x) < 4294967296 → n .more ≡ true → s .entries < 4294967296
-    noting-room q e = let k = puts-few b x in let j = i .entries in omega (arith, k, j)
+  -- no part is left
+  pub between-end : m .more ≡ false → Sees b x m → s .findings ≤ cap → Notes (ahead b x n) s t f₀ f
+  unfolding highest
+  between-end e v h = i .whole t f (rw (ahead-none b x m e v) (record { findings = none-stored (still (t .findings) (i .small h)); entries = omega arith; last = omega arith }))
+    where
+      still : (k : ℕ) → k ≤ cap → k ≡ more k 0
+      still k q = omega arith
+
+-- ---- the whole line
+
+module _ (b idx : List ℕ) (x : Line) (w : Lined b idx x) (n : Look) (l : Looks b x 0 n) (from : ℕ) (t : Tally) (e : t ≡ record { findings = more from 0; entries = 0; last = 0 }) where
+  pub room-first : x .count < 4294967296 → Room b x t n
+  room-first h = rw (e, l .whole) (let k = puts-few b x in let c = w .count in omega (arith, k, c))
+
+  pub small-first : t .findings ≤ cap
+  small-first = rw e (omega arith)
+
+  pub all-noted : {r : Tally} {f f′ : List ℕ} → length f ≤ wide → Notes (ahead b x n) t r f f′ → Totals b x from r f f′
+  all-noted {r} {f} h q =
+      let q′ = rw (l .whole) at q in
+      record {
+        findings = stored-append [] (wordsOf ((puts b x 0) .findings)) h (stored-none f from) (rw e at (q′ .findings));
+        entries = q′ .entries ∙ rw e (omega arith);
+      }
+
+  pub last-noted : {r : Tally} {f f′ : List ℕ} → Notes (ahead b x n) t r f f′ → r .last ≡ lastElement ((puts b x 0) .parts)
+  last-noted q = q .last ∙ rw (e, l .whole) (omega arith)

@@ -6,11 +6,11 @@ use mathlib.Core.List.{List}
 use native.Mathlib.Omega.{arith}
 use borrow.Author.Tests.{lt-ltb}
 use lib.ListN.{length}
-use Rattle.lent.specs.Fit.{cap, stretch, Stored}
+use Rattle.lent.specs.Fit.{cap, wide, more, stretch, Stored}
 use Rattle.lent.proofs.Laws.{stored-length}
 use Rattle.segment.specs.declared.Separators.{Separators}
 use Rattle.segment.specs.declared.Pen.{Pen}
-use Rattle.segment.specs.Parts.{lastElement, here, after, componentText, joined}
+use Rattle.segment.specs.Parts.{here, after, componentText, joined}
 use Rattle.segment.specs.Pen.{placed, finished, opened, closing, Penned}
 use Rattle.segment.specs.Calls.{Group, next, finish, Row, group, close, stays}
 use Rattle.segment.proofs.Runs.{run-stored}
@@ -23,12 +23,14 @@ use Rattle.emit.specs.Did.{stateOf, Did, Small, Finished}
 use Rattle.emit.proofs.StepLaws.{did-segment}
 use Rattle.row_segment.specs.declared.parts.Line.{Line}
 use Rattle.row_segment.specs.declared.parts.Look.{Look}
-use Rattle.row_segment.specs.declared.join.Scanned.{Scanned}
+use Rattle.row_segment.specs.declared.join.Step.{Step}
+use Rattle.row_segment.specs.declared.join.Joined.{Joined}
 use Rattle.row_segment.specs.declared.notes.Tally.{Tally}
 use Rattle.row_segment.specs.Stream.{Lined, idOf, puts, ahead, Sees, Looks}
-use Rattle.row_segment.specs.Groups.{Scans}
-use Rattle.row_segment.specs.Notes.{Totals}
+use Rattle.row_segment.specs.Groups.{Steps, Rows}
+use Rattle.row_segment.specs.Notes.{Notes, Between, Totals}
 use Rattle.row_segment.proofs.StreamLaws.{parts-here, ahead-none}
+use Rattle.row_segment.proofs.NoteLaws.{all-noted, last-noted}
 
 -- ---- one element: calls from component c on complete it
 
@@ -56,52 +58,60 @@ group-long : {s : Separators} {k : ℕ} {f : ℕ → List ℕ} {e c : ℕ} {pen 
 group-long (next h w g) = group-long g ∙ stored-length _ (w .stored)
 group-long (finish h w) = stored-length _ (w .stored)
 
--- ---- element by element: calls where the elements below p are done complete the segment
+-- ---- element by element: where the elements below p are done, calls that write the parts left complete the segment
 
-pub record Rowing (s : Separators) (last : ℕ) (b : List ℕ) (x : Line) (n : Look) (pen : Pen) (d₀ : List ℕ) (a : Look) (q : Pen) (p : ℕ) (d : List ℕ) : Type 0 where
-  pub rest : (e : ℕ) (d₂ : List ℕ) → Row s last p ((ahead b x a) .parts) q d e d₂ → Row s last 1 ((ahead b x n) .parts) pen d₀ e d₂
+pub record Rowing (s : Separators) (b : List ℕ) (x : Line) (n : Look) (pen : Pen) (d₀ : List ℕ) (a : Look) (q : Pen) (p : ℕ) (d : List ℕ) : Type 0 where
+  pub rest : (last e : ℕ) (d₂ : List ℕ) → Row s last p ((ahead b x a) .parts) q d e d₂ → Row s last 1 ((ahead b x n) .parts) pen d₀ e d₂
   pub long : length d ≡ length d₀
   pub sees : Sees b x a
 
-pub rowing-start : (s : Separators) (last : ℕ) (b : List ℕ) (x : Line) (n : Look) (pen : Pen) (d : List ℕ) → Sees b x n → Rowing s last b x n pen d n pen 1 d
-rowing-start s last b x n pen d h = record { rest = λ e d₂ z. z; long = refl; sees = h }
+pub rowing-start : (s : Separators) (b : List ℕ) (x : Line) (n : Look) (pen : Pen) (d : List ℕ) → Sees b x n → Rowing s b x n pen d n pen 1 d
+rowing-start s b x n pen d h = record { rest = λ last e d₂ z. z; long = refl; sees = h }
 
-module _ (s : Separators) (last : ℕ) (b : List ℕ) (x : Line) (n : Look) (pen : Pen) (d₀ : List ℕ) (a : Look) (q : Pen) (p : ℕ) (d : List ℕ) (i : Rowing s last b x n pen d₀ a q p d) where
-  pub rowing-next : (place : ℕ) (g : Scanned) (r : Pen) (d₁ : List ℕ) → a .more ≡ true → place ≡ a .part .element → p ≤ place → Scans b x a (a .part .element) g
-      → Group s (g .last) (componentText (here (a .part .element) ((ahead b x a) .parts))) (a .part .element) 1 q d r d₁
-      → Rowing s last b x n pen d₀ (g .after) r (place + 1) d₁
-  rowing-next place g r d₁ t f h c w = record {
-    rest = λ e d₂ z. i .rest e d₂ (onward e d₂ (rw f at z));
-    long = group-long w ∙ i .long;
-    sees = c .sees;
+module _ (s : Separators) (b : List ℕ) (x : Line) (n : Look) (pen : Pen) (d₀ : List ℕ) (a : Look) (q : Pen) (p : ℕ) (d : List ℕ) (i : Rowing s b x n pen d₀ a q p d) where
+  pub rowing-next : (place : ℕ) (r : Step) (d₁ : List ℕ) → a .more ≡ true → place ≡ a .part .element → p ≤ place → Steps s b x a q d r d₁ → Rowing s b x n pen d₀ (r .after) (r .pen) (place + 1) d₁
+  rowing-next place r d₁ t f h c = record {
+    rest = λ last e d₂ z. i .rest last e d₂ (onward last e d₂ (rw f at z));
+    long = group-long (c .group) ∙ i .long;
+    sees = c .scans .sees;
   }
     where
-      onward : (e : ℕ) (d₂ : List ℕ) → Row s last (a .part .element + 1) ((ahead b x (g .after)) .parts) r d₁ e d₂ → Row s last p ((ahead b x a) .parts) q d e d₂
-      onward e d₂ z =
+      onward : (last e : ℕ) (d₂ : List ℕ) → Row s last (a .part .element + 1) ((ahead b x (r .after)) .parts) (r .pen) d₁ e d₂ → Row s last p ((ahead b x a) .parts) q d e d₂
+      onward last e d₂ z =
           let u = parts-here b x a t in
-          let these = rw (← c .last, u) at w in
-          let those = rw (← c .rest, u) at z in
+          let these = rw (← c .scans .last, u) at (c .group) in
+          let those = rw (← c .scans .rest, u) at z in
           rw u (group (rw f at h) these those)
 
-  pub rowing-below : (place e : ℕ) (d₂ : List ℕ) → a .more ≡ true → place ≡ a .part .element → place < p → Stored d (q .at) (closing s q last) e d₂ → Row s last 1 ((ahead b x n) .parts) pen d₀ e d₂
+  -- the next part is at an element that is done
+  pub rowing-below : (place : ℕ) (u : Tally) → a .more ≡ true → place ≡ a .part .element → place < p → Rows s b x n pen d₀ (record { pen = q; after = a; tally = u }) d
   unfolding stays
-  rowing-below place e d₂ t f h w = i .rest e d₂ (rw (parts-here b x a t) (close (lt-ltb (a .part .element) p (rw f at h)) w))
+  rowing-below place u t f h = record {
+    row = λ last e d₂ w. i .rest last e d₂ (rw (parts-here b x a t) (close (lt-ltb (a .part .element) p (rw f at h)) w));
+    sees = i .sees;
+    long = i .long;
+  }
 
-  pub rowing-none : (e : ℕ) (d₂ : List ℕ) → a .more ≡ false → Stored d (q .at) (closing s q last) e d₂ → Row s last 1 ((ahead b x n) .parts) pen d₀ e d₂
+  -- no part is left
+  pub rowing-none : (u : Tally) → a .more ≡ false → Rows s b x n pen d₀ (record { pen = q; after = a; tally = u }) d
   unfolding stays
-  rowing-none e d₂ t w = i .rest e d₂ (rw (ahead-none b x a t (i .sees)) (close refl w))
-
-  pub rowing-long : (e : ℕ) (d₂ : List ℕ) → Stored d (q .at) (closing s q last) e d₂ → length d₂ ≡ length d₀
-  rowing-long e d₂ w = stored-length _ w ∙ i .long
+  rowing-none u t = record { row = λ last e d₂ w. i .rest last e d₂ (rw (ahead-none b x a t (i .sees)) (close refl w)); sees = i .sees; long = i .long }
 
 -- ---- the whole segment
 
-pub line-joined : {idx d d₁ d₂ : List ℕ} {at e last : ℕ} {pen : Pen} {s : Separators} (b : List ℕ) (x : Line) (n : Look) → Lined b idx x → length d ≤ cap → s ≡ separatorsOf (jobOf b)
-    → last ≡ lastElement ((puts b x 0) .parts) → Looks b x 0 n → Penned (opened (stretch b (x .id .start) (x .id .len))) at pen d d₁ → Row s last 1 ((ahead b x n) .parts) pen d₁ e d₂
-    → Stored d at (joined (separatorsOf (jobOf b)) (idOf b x) ((puts b x 0) .parts)) e d₂
+-- its parts joined in one pass, and noted
+pub line-joined : {idx d d₁ d₂ d₃ f f₁ f₂ : List ℕ} {at from : ℕ} {pen : Pen} {s : Separators} {t : Tally} {g : Step} (b : List ℕ) (x : Line) (n : Look) (r : Joined) → Lined b idx x
+    → length d ≤ cap → length f ≤ wide → s ≡ separatorsOf (jobOf b) → Looks b x 0 n → Penned (opened (stretch b (x .id .start) (x .id .len))) at pen d d₁ → t ≡ record { findings = more from 0; entries = 0; last = 0 }
+    → Rows s b x n pen d₁ g d₂ × Between b x n (g .after) t (g .tally) f f₁
+    → Stored d₂ (g .pen .at) (closing s (g .pen) (r .tally .last)) (r .bytes) d₃ × Notes (ahead b x (g .after)) (g .tally) (r .tally) f₁ f₂
+    → Stored d at (joined (separatorsOf (jobOf b)) (idOf b x) ((puts b x 0) .parts)) (r .bytes) d₃ × Totals b x from (r .tally) f f₂
 unfolding stretchOf
-line-joined b x n w h q l k v z =
-    run-stored (separatorsOf (jobOf b)) (idOf b x) ((puts b x 0) .parts) h (rw (w .id .bytes) at v) (rw (q, l, k .whole) at z)
+line-joined {idx} {at = at} {from = from} {t = t} b x n r w h k q l v e (z, u) (o, m) =
+    let all = u .whole (r .tally) _ m in
+    let row = z .row (r .tally .last) (r .bytes) _ o in (
+      run-stored (separatorsOf (jobOf b)) (idOf b x) ((puts b x 0) .parts) h (rw (w .id .bytes) at v) (rw (q, last-noted b idx x w n l from t e all, l .whole) at row),
+      all-noted b idx x w n l from t e k all,
+    )
 
 pub did-line : {s n : State} {d d′ g g′ f f′ p : List ℕ} {k : ℕ} (b : List ℕ) (x : Line) (y : Tally) → Small s → Totals b x (s .findings) y f f′
     → Stored d (s .bytes) (joined (separatorsOf (jobOf b)) (idOf b x) ((puts b x 0) .parts)) k d′ → Finished (From.Row (x .t) (x .r)) (y .entries) k (y .findings) s n g g′

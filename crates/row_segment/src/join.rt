@@ -1,5 +1,8 @@
-// The bytes of a row segment: its parts joined, element by element in the order in which they come.
+// A row segment in one pass: its parts are noted and joined, element by element in the order in which they come.
 use crate::marks;
+use crate::notes;
+use crate::notes::Tally;
+use crate::notes::Tried;
 use crate::parts;
 use crate::parts::Line;
 use crate::parts::Look;
@@ -8,41 +11,62 @@ use segment::Separators;
 use segment::Value;
 ghost use mathlib.Core.Path.{_≡_};
 ghost use mathlib.Core.Bool.{true};
-ghost use Prim.Native.Nat.{_<_};
-ghost use Rattle.lent.specs.Fit.{Stored};
+ghost use Prim.Native.Nat.{_≤_, _<_};
+ghost use Rattle.lent.specs.Fit.{cap, Stored};
 ghost use Rattle.format.specs.Sections.{jobOf};
-ghost use Rattle.segment.specs.Parts.{here, componentText, lastElement, joined};
-ghost use Rattle.segment.specs.Pen.{valueText};
-ghost use Rattle.segment.specs.Calls.{Group, Row};
+ghost use Rattle.segment.specs.Parts.{here, componentText, joined};
+ghost use Rattle.segment.specs.Pen.{valueText, closing};
+ghost use Rattle.segment.specs.Calls.{Group};
 ghost use Rattle.emit.specs.Fold.{separatorsOf};
 ghost use Rattle.row_segment.specs.Stream.{Lined, Sees, ahead, puts, idOf};
-ghost use Rattle.row_segment.specs.Groups.{Scans, Alone, Steps};
+ghost use Rattle.row_segment.specs.Groups.{Scans, Alone, Steps, Rows};
+ghost use Rattle.row_segment.specs.Notes.{Tries, Notes, Between, Room, Totals};
 
-// The last filled component of an element, and the look behind its parts.
+// The last filled component of an element, the look behind its parts, and the tally with them.
 pub struct Scanned {
     pub last: usize,
     pub after: Look,
+    pub tally: Tally,
 }
 
-// The parts at element e with which a look begins.
-fn scan(job: &[u8], index: &[u32], x: Line, n: Look, e: u32) -> Scanned
-    requires { ⌜ Lined (now job) (now index) x × Sees (now job) x n ⌝ }
-    ensures { λ r. ⌜ Scans (now (job .entry)) x n e r ⌝ }
+// The parts at element e with which a look begins are noted.
+fn scan(
+    job: &[u8],
+    index: &[u32],
+    findings: &mut [u64],
+    t: Tally,
+    x: Line,
+    y: Tried,
+    n: Look,
+    e: u32,
+) -> Scanned
+    requires { ⌜ Lined (now job) (now index) x × Tries (now job) x y × Sees (now job) x n × Room (now job) x t n ⌝ }
+    ensures { λ r. ⌜ Scans (now (job .entry)) x n e (r .last) (r .after) × Between (now (job .entry)) x n (r .after) t (r .tally) (now (findings .entry)) (now (findings .exit)) ⌝ }
 {
     let mut a = n;
+    let mut s = t;
     let mut m: usize = 0;
     while a.more {
         let p = a.part;
         if p.element != e {
-            return Scanned { last: m, after: a };
+            return Scanned {
+                last: m,
+                after: a,
+                tally: s,
+            };
         }
         let w = parts::text_of(job, index, x, p);
         let c = p.component;
         let v = w.value;
         m = parts::raised(job, m, v, parts::component_of(c));
+        s = notes::note_text(job, findings, s, x, y, p, w);
         a = parts::next_part(job, index, x, a.k, a.at);
     }
-    Scanned { last: m, after: a }
+    Scanned {
+        last: m,
+        after: a,
+        tally: s,
+    }
 }
 
 // The text at component c of element e: that of the first part there.
@@ -98,10 +122,11 @@ fn wide(n: u32) -> usize
     n as usize
 }
 
-// The pen behind an element, and the look behind its parts.
+// The pen behind some elements, the look behind their parts, and the tally with them.
 pub struct Step {
     pub pen: Pen,
     pub after: Look,
+    pub tally: Tally,
 }
 
 // Whether the part of a look is component 1 of its element and stands alone there; `after` is the next look.
@@ -123,85 +148,140 @@ fn alone(a: Look, after: Look) -> bool
     false
 }
 
-// The element of a look: a part that stands alone is written as it comes.
+// The element of a look, written and noted: a part that stands alone as it comes.
 fn put_next(
     job: &[u8],
     index: &[u32],
     doc: &mut [u8],
+    findings: &mut [u64],
     s: Separators,
     pen: Pen,
+    t: Tally,
     x: Line,
+    y: Tried,
     a: Look,
 ) -> Step
-    requires { ⌜ Lined (now job) (now index) x × Sees (now job) x a × (a .more ≡ true) ⌝ }
-    ensures { λ r. ⌜ Steps s (now (job .entry)) x a pen (now (doc .entry)) r (now (doc .exit)) ⌝ }
+    requires { ⌜ Lined (now job) (now index) x × Tries (now job) x y × Sees (now job) x a × Room (now job) x t a × (a .more ≡ true) ⌝ }
+    ensures { λ r. ⌜ Steps s (now (job .entry)) x a pen (now (doc .entry)) r (now (doc .exit)) × Between (now (job .entry)) x a (r .after) t (r .tally) (now (findings .entry)) (now (findings .exit)) ⌝ }
 {
     let p = a.part;
     let after = parts::next_part(job, index, x, a.k, a.at);
     if alone(a, after) {
         let w = parts::text_of(job, index, x, p);
         let v = w.value;
-        let t = segment::element(doc, job, s, pen, p.element as usize, v);
-        return Step { pen: t, after };
+        let q = segment::element(doc, job, s, pen, p.element as usize, v);
+        let u = notes::note_text(job, findings, t, x, y, p, w);
+        return Step {
+            pen: q,
+            after,
+            tally: u,
+        };
     }
-    let g = scan(job, index, x, a, p.element);
-    let t = put_group(job, index, doc, s, pen, x, a, p.element, g.last);
+    let g = scan(job, index, findings, t, x, y, a, p.element);
+    let q = put_group(job, index, doc, s, pen, x, a, p.element, g.last);
     let rest = g.after;
+    let u = g.tally;
     Step {
-        pen: t,
+        pen: q,
         after: rest,
+        tally: u,
     }
 }
 
-// The parts of a look, joined as far as their elements rise, and the end of the segment, whose last filled element is `last`.
+// The parts of a look, as far as their elements rise.
 fn put_groups(
     job: &[u8],
     index: &[u32],
     doc: &mut [u8],
+    findings: &mut [u64],
     s: Separators,
     pen: Pen,
+    t: Tally,
     x: Line,
+    y: Tried,
     n: Look,
-    last: usize,
-) -> usize
-    requires { ⌜ Lined (now job) (now index) x × Sees (now job) x n ⌝ }
-    ensures { λ r. ⌜ Row s last 1 ((ahead (now (job .entry)) x n) .parts) pen (now (doc .entry)) r (now (doc .exit)) ⌝ }
+) -> Step
+    requires { ⌜ Lined (now job) (now index) x × Tries (now job) x y × Sees (now job) x n × Room (now job) x t n ⌝ }
+    ensures { λ r. ⌜ Rows s (now (job .entry)) x n pen (now (doc .entry)) r (now (doc .exit)) × Between (now (job .entry)) x n (r .after) t (r .tally) (now (findings .entry)) (now (findings .exit)) ⌝ }
 {
     let mut a = n;
     let mut q = pen;
+    let mut u = t;
     let mut done: usize = 1;
     while a.more {
         let p = a.part;
-        let e = p.element;
-        let place = wide(e);
+        let place = wide(p.element);
         if place < done {
-            return segment::close(doc, s, q, last);
+            return Step {
+                pen: q,
+                after: a,
+                tally: u,
+            };
         }
-        let g = put_next(job, index, doc, s, q, x, a);
-        let t = g.pen;
+        let g = put_next(job, index, doc, findings, s, q, u, x, y, a);
         let after = g.after;
-        q = t;
+        let e = g.pen;
+        let v = g.tally;
         a = after;
+        q = e;
+        u = v;
         done = place + 1;
     }
-    segment::close(doc, s, q, last)
+    Step {
+        pen: q,
+        after: a,
+        tally: u,
+    }
 }
 
-// The bytes of a line from `at` on; its last filled element is `last`.
+// The end of a segment, and the tally of all its parts.
+pub struct Joined {
+    pub bytes: usize,
+    pub tally: Tally,
+}
+
+// The parts that no element takes are noted, and the segment ends behind its last filled element.
+fn end_line(
+    job: &[u8],
+    index: &[u32],
+    doc: &mut [u8],
+    findings: &mut [u64],
+    s: Separators,
+    g: Step,
+    x: Line,
+    y: Tried,
+) -> Joined
+    requires { ⌜ Lined (now job) (now index) x × Tries (now job) x y × Sees (now job) x (g .after) × Room (now job) x (g .tally) (g .after) × (g .tally .findings ≤ cap) ⌝ }
+    ensures { λ r. ⌜ Stored (now (doc .entry)) (g .pen .at) (closing s (g .pen) (r .tally .last)) (r .bytes) (now (doc .exit)) × Notes (ahead (now (job .entry)) x (g .after)) (g .tally) (r .tally) (now (findings .entry)) (now (findings .exit)) ⌝ }
+{
+    let n = g.after;
+    let t = g.tally;
+    let pen = g.pen;
+    let u = notes::note_rest(job, index, findings, t, x, y, n);
+    let bytes = segment::close(doc, s, pen, u.last);
+    Joined { bytes, tally: u }
+}
+
+// The bytes of a line from `at` on, and its notes; `from` numbers of findings stand before.
 pub fn join_line(
     job: &[u8],
     index: &[u32],
     doc: &mut [u8],
+    findings: &mut [u64],
     at: usize,
+    from: usize,
     x: Line,
-    last: usize,
-) -> usize
-    requires { ⌜ Lined (now job) (now index) x × (last ≡ lastElement ((puts (now job) x 0) .parts)) ⌝ }
-    ensures { λ r. ⌜ Stored (now (doc .entry)) at (joined (separatorsOf (jobOf (now (job .entry)))) (idOf (now (job .entry)) x) ((puts (now (job .entry)) x 0) .parts)) r (now (doc .exit)) ⌝ }
+) -> Joined
+    requires { ⌜ Lined (now job) (now index) x ⌝ }
+    ensures { λ r. ⌜ Stored (now (doc .entry)) at (joined (separatorsOf (jobOf (now (job .entry)))) (idOf (now (job .entry)) x) ((puts (now (job .entry)) x 0) .parts)) (r .bytes) (now (doc .exit))
+        × Totals (now (job .entry)) x from (r .tally) (now (findings .entry)) (now (findings .exit)) ⌝ }
 {
+    let y = notes::tried_of(job, index, x);
     let s = marks::separators_of(job, index);
     let n = parts::first_part(job, index, x);
     let id = x.id;
     let pen = segment::begin(doc, at, job, id.start, id.len);
-    put_groups(job, index, doc, s, pen, x, n, last)
+    let t = notes::none_noted(from);
+    let g = put_groups(job, index, doc, findings, s, pen, t, x, y, n);
+    end_line(job, index, doc, findings, s, g, x, y)
 }

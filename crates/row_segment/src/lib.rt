@@ -34,8 +34,8 @@ fn put_line(
     ensures { λ n. ⌜ ((p : List ℕ) → Did (rowOut (jobOf (now (job .entry))) (x .l .0) (x .i) (x .t .0) (x .r .0) (stateOf s)) s n
         (now (doc .entry)) (now (doc .exit)) (now (segments .entry)) (now (segments .exit)) (now (findings .entry)) (now (findings .exit)) p p) ⌝ }
 {
-    let tally = notes::note_line(job, index, findings, s.findings, x);
-    let bytes = join::join_line(job, index, doc, s.bytes, x, tally.last);
+    let g = join::join_line(job, index, doc, findings, s.bytes, s.findings, x);
+    let tally = g.tally;
     let t = x.t;
     let r = x.r;
     state::finish_segment(
@@ -43,7 +43,7 @@ fn put_line(
         s,
         From::Row(t, r),
         tally.entries,
-        bytes,
+        g.bytes,
         tally.findings,
     )
 }

@@ -2,6 +2,7 @@
 use crate::marks;
 use crate::parts;
 use crate::parts::Line;
+use crate::parts::Look;
 use crate::parts::Planned;
 use crate::parts::Source;
 use emit::cells::Written;
@@ -11,14 +12,14 @@ use emit::findings::Spot;
 use spec::ids::Number;
 ghost use mathlib.Core.Path.{_≡_};
 ghost use mathlib.Core.List.{List};
-ghost use Prim.Native.Nat.{ℕ, _<_};
-ghost use Rattle.lent.specs.Fit.{base, StoredAt};
+ghost use Prim.Native.Nat.{ℕ, _≤_, _<_};
+ghost use Rattle.lent.specs.Fit.{base, cap, more, StoredAt};
 ghost use Rattle.spec.specs.Answers.{numberOf};
 ghost use Rattle.nest.specs.Finding.{cell, numberFrom, orZero};
 ghost use Rattle.emit.specs.Puts.{placeOf};
 ghost use Rattle.emit.specs.Written.{Writes, spotOf, wordsOf};
-ghost use Rattle.row_segment.specs.Stream.{Lined, partPut, outcomeOf};
-ghost use Rattle.row_segment.specs.Notes.{Tries, Noted, Totals};
+ghost use Rattle.row_segment.specs.Stream.{Lined, Sees, ahead, partPut, outcomeOf};
+ghost use Rattle.row_segment.specs.Notes.{Tries, Notes, Room};
 
 // How many numbers of findings there are, how many trace entries, and the last filled element.
 pub struct Tally {
@@ -59,7 +60,7 @@ fn spot(x: Line, name: u64, element: u32, component: Number, column: u32) -> Spo
     }
 }
 
-fn tried_of(job: &[u8], index: &[u32], x: Line) -> Tried
+pub fn tried_of(job: &[u8], index: &[u32], x: Line) -> Tried
     requires { ⌜ Lined (now job) (now index) x ⌝ }
     ensures { λ r. ⌜ Tries (now (job .entry)) x r ⌝ }
 {
@@ -109,19 +110,19 @@ fn entries_of(p: Planned) -> usize
     }
 }
 
-fn note_one(
+// A part is noted by its text.
+pub fn note_text(
     job: &[u8],
-    index: &[u32],
     findings: &mut [u64],
     s: Tally,
     x: Line,
     y: Tried,
     p: Planned,
+    w: Written,
 ) -> Tally
-    requires { ⌜ Lined (now job) (now index) x × Tries (now job) x y × (s .entries < 4294967296) ⌝ }
-    ensures { λ r. ⌜ Noted (now (job .entry)) x p s r (now (findings .entry)) (now (findings .exit)) ⌝ }
+    requires { ⌜ Tries (now job) x y × Writes (now job) w (outcomeOf (now job) x p) × (s .entries < 4294967296) ⌝ }
+    ensures { λ r. ⌜ Notes (partPut (now (job .entry)) x p) s r (now (findings .entry)) (now (findings .exit)) ⌝ }
 {
-    let w = parts::text_of(job, index, x, p);
     let n = note_part(job, findings, s.findings, x, y, p, w);
     let v = w.value;
     let last = parts::raised(job, s.last, v, p.element);
@@ -133,23 +134,38 @@ fn note_one(
     }
 }
 
-// The notes of a line; `at` numbers of findings stand before.
-pub fn note_line(job: &[u8], index: &[u32], findings: &mut [u64], at: usize, x: Line) -> Tally
-    requires { ⌜ Lined (now job) (now index) x ⌝ }
-    ensures { λ r. ⌜ Totals (now (job .entry)) x at r (now (findings .entry)) (now (findings .exit)) ⌝ }
+// Nothing is noted yet; `at` numbers of findings stand before.
+pub fn none_noted(at: usize) -> Tally
+    ensures { λ r. ⌜ r ≡ record { findings = more at 0; entries = 0; last = 0 } ⌝ }
 {
-    let y = tried_of(job, index, x);
     let from = lent::more(at, 0);
-    let mut s = Tally {
+    Tally {
         findings: from,
         entries: 0,
         last: 0,
-    };
-    let mut n = parts::first_part(job, index, x);
-    while n.more {
-        let p = n.part;
-        s = note_one(job, index, findings, s, x, y, p);
-        n = parts::next_part(job, index, x, n.k, n.at);
+    }
+}
+
+// The parts of a look are noted, behind those that a tally has.
+pub fn note_rest(
+    job: &[u8],
+    index: &[u32],
+    findings: &mut [u64],
+    t: Tally,
+    x: Line,
+    y: Tried,
+    n: Look,
+) -> Tally
+    requires { ⌜ Lined (now job) (now index) x × Tries (now job) x y × Sees (now job) x n × Room (now job) x t n × (t .findings ≤ cap) ⌝ }
+    ensures { λ r. ⌜ Notes (ahead (now (job .entry)) x n) t r (now (findings .entry)) (now (findings .exit)) ⌝ }
+{
+    let mut s = t;
+    let mut a = n;
+    while a.more {
+        let p = a.part;
+        let w = parts::text_of(job, index, x, p);
+        s = note_text(job, findings, s, x, y, p, w);
+        a = parts::next_part(job, index, x, a.k, a.at);
     }
     s
 }

@@ -5,9 +5,6 @@ use borrow.Author.Needs.{needs}
 use Rattle.row_segment.proofs.put_line.Statement.{statement}
 use Rattle.row_segment.proofs.put_line.Tie as tie
 
-note-line-requires : tie.Need-note-line-requires
-note-line-requires c κs = search needs
-
 join-line-requires : tie.Need-join-line-requires
 join-line-requires c κs = search needs
 
@@ -24,13 +21,12 @@ same-length-3 : tie.Need-same-length-3
 same-length-3 c = search needs
 
 returns : tie.Need-returns
-returns c = let a = c .before .before .before .before .before .before .before .before .before .before .before .before .before .before .before .before .before .before .before .args in λ p. did-line (now (a .job)) (a .x) (c .before .before .before .before .before .before .before .before .before .before .before .before .note-line .result) (c .before .before .before .before .before .before .before .before .before .before .before .before .before .before .before .before .before .before .before .pre .1) (c .before .before .before .before .before .before .before .before .before .before .before .before .note-line .ensures) (c .before .before .before .before .before .before .before .before .join-line .ensures) (c .before .before .finish-segment .ensures)
+returns c = let a = c .before .before .before .before .before .before .before .before .before .before .before .before .before .before .before .before .before .before .before .args in λ p. did-line (now (a .job)) (a .x) (c .before .before .before .before .before .before .before .before .before .before .before .join-line .result .tally) (c .before .before .before .before .before .before .before .before .before .before .before .before .before .before .before .before .before .before .before .pre .1) (c .before .before .before .before .before .before .before .before .before .before .before .join-line .ensures .1) (c .before .before .before .before .before .before .before .before .before .before .before .join-line .ensures .0) (c .before .before .finish-segment .ensures)
 
 pub put-line-spec : {M : Type 1} → statement M
 put-line-spec =
     tie.close
     (tie.spec
-    note-line-requires
     join-line-requires
     finish-segment-requires
     same-length

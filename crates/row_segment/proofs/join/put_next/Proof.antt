@@ -1,11 +1,17 @@
 -- `row_segment::join::put_next` meets its contract. Assumes nothing.
+use Prim.Native.Nat.{_≤_}
+use native.Mathlib.Omega.{arith}
+use lib.ListN.{length}
+use denote.Ref.{now}
+use Rattle.lent.specs.Fit.{wide}
 use Rattle.row_segment.proofs.AloneLaws.{alone-steps}
+use Rattle.row_segment.proofs.NoteLaws.{between-none, between-next}
 use borrow.Author.Needs.{needs}
 use Rattle.row_segment.proofs.join.put_next.Statement.{statement}
 use Rattle.row_segment.proofs.join.put_next.Tie as tie
 
 next-part-requires : tie.Need-next-part-requires
-next-part-requires c κs = (c .before .before .before .before .pre .0, c .before .before .before .before .pre .1 .stands)
+next-part-requires c κs = search needs
 
 alone-requires : tie.Need-alone-requires
 alone-requires c κs = search needs
@@ -19,11 +25,22 @@ cast-element c = search needs
 element-requires : tie.Need-element-requires
 element-requires c κs = search needs
 
+note-text-requires : tie.Need-note-text-requires
+note-text-requires c κs = (c .before .before .before .before .before .before .before .before .before .before .before .before .before .before .before .before .pre .1, c .before .before .before .before .before .before .before .text-of .ensures, let h = c .before .before .before .before .before .before .before .before .before .before .before .before .before .before .before .before .pre .3 in omega (arith, h))
+
 same-length : tie.Need-same-length
 same-length c = search needs
 
+same-length-2 : tie.Need-same-length-2
+same-length-2 c = search needs
+
 returns : tie.Need-returns
-returns c = let p = c .before .before .before .before .before .before .before .before .before .before .before .before .before .before .pre in alone-steps _ _ _ _ (c .before .before .before .before .before .before .before .before .before .next-part .result) (c .before .before .before .before .before .before .text-of .result) (p .0) (p .1) (p .2) (c .before .before .before .before .before .before .before .before .before .next-part .ensures) (c .before .before .before .before .before .before .before .before .alone .ensures (c .before .before .before .before .before .before .before .if1 .taken)) (c .before .before .before .before .before .before .text-of .ensures) _ _ (c .before .before .element .ensures)
+returns c =
+    let p = c .before .before .before .before .before .before .before .before .before .before .before .before .before .before .before .before .before .before .before .pre in
+    let h : length (now (c .before .before .before .before .before .before .before .before .before .before .before .before .before .before .before .before .before .before .before .args .findings)) ≤ wide = omega (arith, c .before .before .before .before .before .before .before .before .before .before .before .before .before .before .before .before .before .before .before) in (
+      alone-steps _ _ _ _ (c .before .before .before .before .before .before .before .before .before .before .before .before .before .next-part .result) (c .before .before .before .before .before .before .before .before .before .before .text-of .result) (p .0) (p .2) (p .4) (c .before .before .before .before .before .before .before .before .before .before .before .before .before .next-part .ensures) (c .before .before .before .before .before .before .before .before .before .before .before .before .alone .ensures (c .before .before .before .before .before .before .before .before .before .before .before .if1 .taken)) (c .before .before .before .before .before .before .before .before .before .before .text-of .ensures) _ _ _ (c .before .before .before .before .before .before .element .ensures),
+      between-next (between-none _ _ _ _ _) _ h (p .4) (c .before .before .note-text .ensures) (c .before .before .before .before .before .before .before .before .before .before .before .before .before .next-part .ensures),
+    )
 
 scan-requires : tie.Need-scan-requires
 scan-requires c κs = search needs
@@ -31,11 +48,14 @@ scan-requires c κs = search needs
 put-group-requires : tie.Need-put-group-requires
 put-group-requires c κs = search needs
 
-same-length-2 : tie.Need-same-length-2
-same-length-2 c = search needs
+same-length-3 : tie.Need-same-length-3
+same-length-3 c = search needs
+
+same-length-4 : tie.Need-same-length-4
+same-length-4 c = search needs
 
 returns-2 : tie.Need-returns-2
-returns-2 c = record { last = c .before .before .before .before .before .scan .result .last; scans = c .before .before .before .before .before .scan .ensures; group = c .before .before .before .put-group .ensures }
+returns-2 c = search needs
 
 pub put-next-spec : {M : Type 1} → statement M
 put-next-spec =
@@ -46,9 +66,12 @@ put-next-spec =
     text-of-requires
     cast-element
     element-requires
+    note-text-requires
     same-length
+    same-length-2
     returns
     scan-requires
     put-group-requires
-    same-length-2
+    same-length-3
+    same-length-4
     returns-2)
