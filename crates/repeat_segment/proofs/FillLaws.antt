@@ -33,7 +33,7 @@ use Rattle.emit.specs.Puts.{Put, andPut, nothing, putCell, putText, chunkPut}
 use Rattle.emit.specs.Written.{wordsOf}
 use Rattle.emit.specs.Fold.{separatorsOf, fillOut}
 use Rattle.emit.specs.Did.{stateOf, tracedWords, stopWords, Did, Small}
-use Rattle.emit.proofs.FindingLaws as F
+use Rattle.emit.specs.Written as F
 use Rattle.emit.proofs.FindingLaws.{none-stored, stored-findings}
 use Rattle.repeat_segment.specs.declared.planned.Planned.{Planned}
 use Rattle.repeat_segment.specs.Planned.{plansOf, idOf, Of, Along, Read, repetitionOf}

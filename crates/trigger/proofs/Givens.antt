@@ -45,7 +45,7 @@ use Rattle.emit.specs.Table.{heldField}
 use Rattle.emit.specs.Puts.{maxIn}
 use Rattle.emit.specs.Envelope.{Given, Sourced, plainly, outcome, separator, isWhite, unlessLast, trimEnd, repetitionGiven, fieldGiven, fieldAt, fielded, versionAt, versioned, unsourced}
 use Rattle.emit.proofs.TextLaws.{held-text}
-use Rattle.emit.proofs.FindingLaws.{repetitionOf}
+use Rattle.emit.specs.Written.{repetitionOf}
 use Rattle.trigger.specs.declared.given.Source.{Source}
 use Rattle.trigger.specs.Source.{Tells, otherwise}
 

@@ -19,11 +19,10 @@ ghost use Rattle.spec.specs.Answers.{stretchOf, numberOf};
 ghost use Rattle.segment.specs.Pen.{valueText};
 ghost use Rattle.nest.specs.Ready.{Ready};
 ghost use Rattle.nest.specs.Finding.{numberFrom};
-ghost use Rattle.emit.specs.Written.{tried};
+ghost use Rattle.emit.specs.Written.{tried, repetitionOf};
 ghost use Rattle.emit.specs.Puts.{maxIn};
 ghost use Rattle.emit.specs.Envelope.{minIn, controlIn};
 ghost use Rattle.emit.specs.Fold.{separatorsOf};
-ghost use Rattle.emit.proofs.FindingLaws.{repetitionOf};
 
 pub fn separators(job: &[u8], index: &[u32]) -> Separators
     requires { ⌜ Ready (now job) (now index) ⌝ }
