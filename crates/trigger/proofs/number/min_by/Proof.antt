@@ -1,9 +1,9 @@
--- `trigger::signs::min_by` meets its contract. Assumes nothing.
+-- `trigger::number::min_by` meets its contract. Assumes nothing.
 use borrow.Author.Needs.{needs}
-use Rattle.trigger.proofs.signs.min_by.Statement.{statement}
-use Rattle.trigger.proofs.signs.min_by.Tie as tie
-use Rattle.trigger.proofs.signs.min_by.Reads as reads
-use Rattle.trigger.proofs.signs.min_by.Lts as lts
+use Rattle.trigger.proofs.number.min_by.Statement.{statement}
+use Rattle.trigger.proofs.number.min_by.Tie as tie
+use Rattle.trigger.proofs.number.min_by.Reads as reads
+use Rattle.trigger.proofs.number.min_by.Lts as lts
 
 enum-told : tie.Need-enum-told
 enum-told c = search needs

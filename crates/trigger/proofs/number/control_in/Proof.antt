@@ -1,15 +1,15 @@
--- `trigger::signs::control_in` meets its contract. Assumes nothing.
+-- `trigger::number::control_in` meets its contract. Assumes nothing.
 use Rattle.trigger.proofs.Laws.{control-is}
 use denote.Ref.{now}
 use borrow.Author.Needs.{needs}
-use Rattle.trigger.proofs.signs.control_in.Statement.{statement}
-use Rattle.trigger.proofs.signs.control_in.Tie as tie
-use Rattle.trigger.proofs.signs.control_in.Reads as reads
-use Rattle.trigger.proofs.signs.control_in.Lts as lts
+use Rattle.trigger.proofs.number.control_in.Statement.{statement}
+use Rattle.trigger.proofs.number.control_in.Tie as tie
+use Rattle.trigger.proofs.number.control_in.Reads as reads
+use Rattle.trigger.proofs.number.control_in.Lts as lts
 use Rattle.emit.proofs.envelope.control_value.Reads as control-value-reads
 use Rattle.spec.proofs.loops.trigger.Reads as trigger-reads
 use Rattle.spec.proofs.segments.min_of.Reads as min-of-reads
-use Rattle.trigger.proofs.signs.min_by.Reads as min-by-reads
+use Rattle.trigger.proofs.number.min_by.Reads as min-by-reads
 
 trigger-requires : tie.Need-trigger-requires
 trigger-requires c κs = search needs
