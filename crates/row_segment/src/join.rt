@@ -1,8 +1,8 @@
 // The bytes of a row segment: its parts joined, element by element in the order in which they come.
-use crate::marks;
 use crate::parts;
 use crate::parts::Line;
 use crate::parts::Look;
+use emit::signs;
 use segment::Pen;
 use segment::Separators;
 use segment::Value;
@@ -199,7 +199,7 @@ pub fn join_line(
     requires { ⌜ Lined (now job) (now index) x × (last ≡ lastElement ((puts (now job) x 0) .parts)) ⌝ }
     ensures { λ r. ⌜ Stored (now (doc .entry)) at (joined (separatorsOf (jobOf (now (job .entry)))) (idOf (now (job .entry)) x) ((puts (now (job .entry)) x 0) .parts)) r (now (doc .exit)) ⌝ }
 {
-    let s = marks::separators_of(job, index);
+    let s = signs::separators_of(job, index);
     let n = parts::first_part(job, index, x);
     let id = x.id;
     let pen = segment::begin(doc, at, job, id.start, id.len);
