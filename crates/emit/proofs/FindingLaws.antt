@@ -7,7 +7,6 @@ use native.Mathlib.Omega.{arith}
 use lib.Dec.{eqb}
 use lib.ListN.{length}
 use borrow.Author.Tests.{eqb-true, eqb-false, eq-eqb, ne-eqb}
-use mathlib.Core.Option.{Option, none, some}
 use Rattle.format.specs.Words.{memberOf}
 use Rattle.format.specs.Envelope.{Envelope}
 use Rattle.format.specs.Refusal.{separators}
@@ -25,7 +24,7 @@ use Rattle.nest.specs.Lists.{each}
 use Rattle.nest.specs.Finding.{Finding, Origin, cell, field, Place, ofText, delimiter, notWritable, recordOf}
 use Rattle.emit.specs.declared.findings.Spot.{Spot}
 use Rattle.emit.specs.Puts.{heldIn, unwritten}
-use Rattle.emit.specs.Written.{spotOf, spotted, wordsOf, triedLast, tried}
+use Rattle.emit.specs.Written.{spotOf, spotted, wordsOf, triedLast, tried, repetitionOf}
 
 spot-words : (w : Spot) (o : Origin) (p : Place) (kind a b : ℕ) → w ≡ spotOf o p → spotted kind w a b ≡ ofText kind o p a b
 spot-words w (cell t r c) p kind a b e = rw e
@@ -137,10 +136,6 @@ pub still-fits : {d d₁ items : List ℕ} {at n : ℕ} → length d ≤ wide �
 still-fits {items = items} h s = rw (stored-length items s) h
 
 -- ---- the separators of a job
-
-abbrev pub repetitionOf : Repetition → Option ℕ
-repetitionOf Absent = none
-repetitionOf (Byte b) = some b
 
 pub tried-separators : (e : Envelope) (d : Delimiters) → d .element ≡ e .element → d .component ≡ e .component → d .segment ≡ e .segment → repetitionOf (d .repetition) ≡ e .repetition
     → tried d ≡ separators e

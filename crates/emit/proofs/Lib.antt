@@ -1,3 +1,5 @@
+pub mod NameLaws
+pub mod CellLaws
 pub mod TextLaws
 pub mod FindingLaws
 pub mod DidLaws

@@ -9,14 +9,12 @@ use lib.ListN.{length, getD, drop}
 use lib.Seq.{drop-cons}
 use Rattle.format.specs.Job.{Job}
 use Rattle.format.specs.Refusal.{separators}
-use Rattle.format.specs.Ask.{maxOf, dataOf}
-use Rattle.column.specs.Cell.{cellOf}
 use Rattle.segment.specs.Parts.{Part, highest}
 use Rattle.segment.specs.Pen.{valueText}
 use Rattle.nest.specs.Finding.{cell}
 use Rattle.emit.specs.declared.cells.Written.{Written}
 use Rattle.emit.specs.declared.findings.Delimiters.{Delimiters}
-use Rattle.emit.specs.Puts.{Put, nothing, andPut, putAll, maxIn, cellText, placeOf, partAt, heldIn, delimited, unwritten, putCell}
+use Rattle.emit.specs.Puts.{Put, nothing, andPut, putAll, cellOutcome, placeOf, partAt, heldIn, delimited, unwritten, putCell}
 use Rattle.emit.specs.Written.{Writes, wordsOf, tried}
 use Rattle.emit.proofs.FindingLaws.{words-append}
 
@@ -46,7 +44,7 @@ highest-append g [] b = omega arith
 highest-append g (x ∷ a) b = rw (highest-append g a b) (omega arith)
 
 -- a cell's text as code has it gives its place's part and findings
-module _ (job : List ℕ) (j : Job) (id : List ℕ) (e : ℕ) (c : Option ℕ) (t column r : ℕ) (x : Written) (w : Writes job x (cellText (cellOf (dataOf j t) column r) (maxIn (maxOf j id e c)))) where
+module _ (job : List ℕ) (j : Job) (id : List ℕ) (e : ℕ) (c : Option ℕ) (t column r : ℕ) (x : Written) (w : Writes job x (cellOutcome j id t r e c column)) where
   pub cell-parts : (putCell j id e c t column r) .parts ≡ partAt e c (valueText job (x .value)) ∷ []
   unfolding putCell
   cell-parts = rw (w .text)

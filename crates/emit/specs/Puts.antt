@@ -37,6 +37,10 @@ cellText (decimal x scale) max = gives (decimalText (signed128 x) (min scale 38)
 cellText (date32 x) max = dateText (signed32 x) max
 cellText (time32 x) max = timeText (signed32 x) max
 
+-- row r of table t, at element e and component c of the segment id
+abbrev pub cellOutcome : Job → List ℕ → ℕ → ℕ → ℕ → Option ℕ → ℕ → Outcome
+cellOutcome j id t r e c column = cellText (cellOf (dataOf j t) column r) (maxIn (maxOf j id e c))
+
 -- ---- findings on a text
 
 abbrev pub placeOf : List ℕ → ℕ → Option ℕ → Place
@@ -83,7 +87,7 @@ putText e c text = record { parts = partAt e c text ∷ []; findings = []; entri
 -- a cell, of an absent column too
 unfoldable pub putCell : Job → List ℕ → ℕ → Option ℕ → ℕ → ℕ → ℕ → Put
 putCell j id e c t column r =
-    let o = cellText (cellOf (dataOf j t) column r) (maxIn (maxOf j id e c)) in
+    let o = cellOutcome j id t r e c column in
     let from = cell t r column in
     let p = placeOf id e c in
     record { parts = partAt e c (o .text) ∷ []; findings = unwritten from p (o .reason) ++ delimited j from p (o .text); entries = 1 }

@@ -1,8 +1,11 @@
 -- What the code's answers on a text stand for: the text of a value with its reason; the place of a text in a finding; the separators that are tried.
 use Prim.Native.Nat.{ℕ}
 use mathlib.Core.Path.{_≡_}
+use mathlib.Core.Bool.{Bool, true, false}
 use mathlib.Core.List.{List, [], _∷_}
 use mathlib.Core.Option.{Option, none, some}
+use Rattle.column.specs.declared.Cell.{Cell as Read}
+use Rattle.column.specs.declared.Cell.the-variants.{None, Null, Bytes, Int, Wide, Days, Seconds}
 use Rattle.texts.specs.Reason.{Outcome}
 use Rattle.segment.specs.Pen.{valueText}
 use Rattle.nest.specs.Lists.{each}
@@ -17,6 +20,16 @@ use Rattle.emit.specs.declared.findings.Delimiters.{Delimiters}
 pub record Writes (job : List ℕ) (r : Written) (o : Outcome) : Type 0 where
   pub text : valueText job (r .value) ≡ o .text
   pub reason : r .reason ≡ o .reason
+
+-- only dates and times have another text where a place takes less
+abbrev pub takesMax : Read → Bool
+takesMax None = false
+takesMax Null = false
+takesMax (Bytes start len) = false
+takesMax (Int bits) = false
+takesMax (Wide low high scale) = false
+takesMax (Days bits) = true
+takesMax (Seconds bits) = true
 
 -- ---- findings on a text
 
@@ -39,3 +52,8 @@ triedLast (Byte b) = b ∷ []
 
 abbrev pub tried : Delimiters → List ℕ
 tried d = d .element ∷ d .component ∷ d .segment ∷ triedLast (d .repetition)
+
+-- the separator of repetitions, if there is one
+abbrev pub repetitionOf : Repetition → Option ℕ
+repetitionOf Absent = none
+repetitionOf (Byte b) = some b

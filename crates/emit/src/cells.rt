@@ -1,6 +1,10 @@
 // The text of a cell.
 use column::Cell;
 use segment::Value;
+use spec::ids::Number;
+use spec::ids::RowId;
+use spec::ids::Stretch;
+use spec::ids::TableId;
 use texts::Text;
 use texts::number;
 use texts::number::Wide;
@@ -11,7 +15,9 @@ use texts::render::Refused;
 use texts::render::Said;
 ghost use mathlib.Core.Path.{_≡_};
 ghost use mathlib.Core.List.{List, []};
-ghost use Prim.Native.Nat.{ℕ, _+_, _*_, min};
+ghost use Prim.Native.Nat.{ℕ, _+_, _*_, _≤_, min};
+ghost use lib.ListN.{length};
+ghost use Rattle.format.specs.Sections.{jobOf};
 ghost use Rattle.column.specs.Cell.{orNull};
 ghost use Rattle.column.specs.Answers.{cellAt};
 ghost use Rattle.lent.specs.Fit.{stretch};
@@ -22,8 +28,11 @@ ghost use Rattle.texts.specs.Floor.{signed32};
 ghost use Rattle.texts.specs.Number.{intText, decimalText};
 ghost use Rattle.texts.specs.DateText.{dateText};
 ghost use Rattle.texts.specs.Clock.{timeText};
-ghost use Rattle.emit.specs.Puts.{cellText};
-ghost use Rattle.emit.specs.Written.{Writes};
+ghost use Rattle.spec.specs.Answers.{stretchOf, numberOf};
+ghost use Rattle.spec.specs.Segments.{SegmentsIndexed};
+ghost use Rattle.tables.specs.Index.{TablesIndexed};
+ghost use Rattle.emit.specs.Puts.{maxIn, cellText, cellOutcome};
+ghost use Rattle.emit.specs.Written.{Writes, takesMax};
 
 // A text, and the reason why there is none, or 0.
 pub struct Written {
@@ -103,4 +112,59 @@ pub fn cell_value(cell: Cell, max: Max) -> Written
         Cell::Days(bits) => of_days(bits, max),
         Cell::Seconds(bits) => of_seconds(bits, max),
     }
+}
+
+// ---- at a place
+
+pub fn max_by(n: Number) -> Max
+    ensures { λ r. ⌜ r ≡ maxIn (numberOf n) ⌝ }
+{
+    match n {
+        Number::None => Max::Free,
+        Number::Is(m) => Max::At(m as usize),
+    }
+}
+
+// Whether the most that its place takes matters to the text of a cell.
+fn takes_max(cell: Cell) -> bool
+    ensures { λ r. ⌜ r ≡ takesMax cell ⌝ }
+{
+    match cell {
+        Cell::None => false,
+        Cell::Null => false,
+        Cell::Bytes(start, len) => false,
+        Cell::Int(bits) => false,
+        Cell::Wide(lo, hi, scale) => false,
+        Cell::Days(bits) => true,
+        Cell::Seconds(bits) => true,
+    }
+}
+
+// The text of a row's cell at a place of the segment with that identifier, and the reason why it has none.
+pub fn cell_text(
+    job: &[u8],
+    index: &[u32],
+    id: Stretch,
+    t: TableId,
+    r: RowId,
+    element: u32,
+    component: Number,
+    column: u32,
+) -> Written
+    requires { ⌜ SegmentsIndexed (now job) (now index) × TablesIndexed (now job) (now index) × (id .start + id .len ≤ length (now job)) ⌝ }
+    ensures { λ w. ⌜ Writes (now (job .entry)) w (cellOutcome (jobOf (now (job .entry))) (stretchOf (now (job .entry)) id) (t .0) (r .0) element (numberOf component) column) ⌝ }
+{
+    let cell = tables::data::cell(job, index, t, column, r);
+    if takes_max(cell) {
+        let max = spec::segments::max_of(job, index, id, element, component);
+        return cell_value(cell, max_by(max));
+    }
+    cell_value(cell, Max::Free)
+}
+
+// The text of a code.
+pub fn code_text(s: Stretch) -> Written
+    ensures { λ w. ⌜ ((job : List ℕ) → Writes job w (gives (stretchOf job s))) ⌝ }
+{
+    of_stretch(s.start, s.len)
 }

@@ -3,4 +3,5 @@ pub mod cells;
 pub mod closer;
 pub mod envelope;
 pub mod findings;
+pub mod signs;
 pub mod state;

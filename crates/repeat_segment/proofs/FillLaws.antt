@@ -1,18 +1,15 @@
 -- What a row of a chunk leaves, planned element by planned element.
-use Prim.Native.Nat.{ℕ, zero, suc, _+_, _*_, _≤_, _<_}
-use mathlib.Core.Path.{_≡_, refl, sym, ap, _∙_}
+use Prim.Native.Nat.{ℕ, _+_, _*_, _≤_, _<_}
+use mathlib.Core.Path.{_≡_, refl, ap, _∙_}
 use mathlib.Core.Bool.{Bool, true, false}
-use mathlib.Core.List.{List, [], _∷_}
-use mathlib.Core.Option.{Option, none}
+use mathlib.Core.List.{List, []}
+use mathlib.Core.Option.{Option}
 use native.Mathlib.Omega.{arith}
-use native.Mathlib.Numerals.{add-one}
 use lib.Dec.{eqb}
-use lib.ListN.{length, getD, take, drop, length-take, length-drop}
-use lib.Seq.{drop-cons, getD-take, getD-drop}
+use lib.ListN.{length, getD, take}
 use borrow.Author.Tests.{eq-eqb, ne-eqb}
 use Rattle.lent.specs.Fit.{cap, wide, more, Stored, Noted}
 use Rattle.lent.proofs.Laws.{more-more}
-use Rattle.format.specs.Job.{Job}
 use Rattle.format.specs.Sections.{jobOf}
 use Rattle.format.specs.Ask.{loopOf, plannedOf, identifierOf, stepOf}
 use Rattle.segment.specs.Parts.{pick}
@@ -25,21 +22,18 @@ use Rattle.plan.specs.declared.answers.ValueSource.the-variants.{Column, Group,
 use Rattle.plan.specs.Answers.{elementOf}
 use Rattle.plan.specs.Elements.{Elements}
 use Rattle.nest.specs.Ready.{Ready}
-use Rattle.nest.specs.Finding.{numberFrom}
 use Rattle.emit.specs.declared.state.State.{State}
-use Rattle.emit.specs.declared.findings.Repetition.{Repetition}
-use Rattle.emit.specs.declared.findings.Repetition.the-variants.{Absent, Byte}
 use Rattle.emit.specs.Puts.{Put, andPut, nothing, putCell, putText, chunkPut}
 use Rattle.emit.specs.Written.{wordsOf}
-use Rattle.emit.specs.Fold.{separatorsOf, fillOut}
+use Rattle.emit.specs.Fold.{fillOut}
 use Rattle.emit.specs.Did.{stateOf, tracedWords, stopWords, Did, Small}
-use Rattle.emit.proofs.FindingLaws as F
+use Rattle.emit.proofs.NameLaws.{name-short, holds-length}
 use Rattle.emit.proofs.FindingLaws.{none-stored, stored-findings}
 use Rattle.repeat_segment.specs.declared.planned.Planned.{Planned}
-use Rattle.repeat_segment.specs.Planned.{plansOf, idOf, Of, Along, Read, repetitionOf}
+use Rattle.repeat_segment.specs.Planned.{plansOf, idOf, Of, Along, Read}
 use Rattle.repeat_segment.specs.Places.{elementPut, rowPuts}
 use Rattle.repeat_segment.specs.Filled.{Filled}
-use Rattle.repeat_segment.proofs.Limits.{element-small, step-small, identifier-short, held-length}
+use Rattle.repeat_segment.proofs.Limits.{element-small, step-small}
 use Rattle.repeat_segment.proofs.Steps.{take-next, take-end, along-first, row-snoc}
 
 -- ---- what is held
@@ -57,58 +51,11 @@ planned-of b idx l i t k step first count id w e h q x n =
       elements = x;
       counted = n;
       id = z;
-      short = held-length b id _ z (identifier-short b (w .passed) (l .0) i);
+      short = omega (arith, holds-length b id _ h, name-short b (w .passed) (l .0) k);
       step = q;
       near = rw q (step-small b (w .passed) (t .0));
       low = λ j m. element-small b (w .passed) (l .0) i j m;
     }
-
-pub separators-are : (j : Job) (e c t : ℕ) (f : Bool) → e ≡ j .envelope .element → c ≡ j .envelope .component → t ≡ j .envelope .segment → f ≡ j .envelope .lineBreak
-    → separatorsOf j ≡ record { element = e; component = c; segment = t; «line_break» = f }
-separators-are j e c t f x y z w = rw (x, y, z, w) refl
-
-pub same-repetition : (r : Repetition) (o : Option ℕ) → repetitionOf r ≡ o → F.repetitionOf r ≡ o
-same-repetition Absent o h = h
-same-repetition (Byte b) o h = h
-
--- ---- the number of an identifier
-
--- so far a number of so many bytes
-pub record Digits (i n : ℕ) : Type 0 where
-  pub none : i ≤ 0 → n ≡ 0
-  pub one : i ≤ 1 → n < 256
-  pub two : i ≤ 2 → n < 65536
-  pub most : n < 16777216
-
-pub no-digits : Digits 0 0
-no-digits = record { none = λ _. refl; one = λ _. omega arith; two = λ _. omega arith; most = omega arith }
-
-pub next-digit : (i n x : ℕ) → Digits i n → i < 3 → x < 256 → Digits (i + 1) (n * 256 + x)
-next-digit zero n x d h k = let z = d .none (omega arith) in record { none = λ q. absurd (omega arith); one = λ q. omega arith; two = λ q. omega arith; most = omega arith }
-next-digit (suc zero) n x d h k = let z = d .one (omega arith) in record { none = λ q. absurd (omega arith); one = λ q. absurd (omega arith); two = λ q. omega arith; most = omega arith }
-next-digit (suc (suc i)) n x d h k = let z = d .two (omega arith) in record { none = λ q. absurd (omega arith); one = λ q. absurd (omega arith); two = λ q. absurd (omega arith); most = omega arith }
-
-module _ (b : List ℕ) (s : Stretch) where
-  pub number-next : (i n x : ℕ) → s .start + s .len ≤ length b → i < s .len → x ≡ getD b (s .start + i) 0 → numberFrom n (drop i (stretchOf b s)) ≡ numberFrom (n * 256 + x) (drop (i + 1) (stretchOf b s))
-  unfolding stretchOf
-  number-next i n x w h e =
-      let l = length-take (s .len) (drop (s .start) b) in
-      let m = length-drop (s .start) b in
-      let q : i < length (stretchOf b s) = omega arith in
-      let v : getD (stretchOf b s) i 0 ≡ x = getD-take (s .len) (drop (s .start) b) i 0 h ∙ getD-drop (s .start) b i 0 ∙ sym e in
-      rw (add-one, drop-cons (stretchOf b s) i 0 q, v) refl
-
-  pub number-end : (i n : ℕ) → s .len ≤ i → n ≡ numberFrom n (drop i (stretchOf b s))
-  unfolding stretchOf
-  number-end i n h =
-      let l = length-take (s .len) (drop (s .start) b) in
-      rw (nothing-left i (stretchOf b s) (omega arith)) refl
-    where
-      nothing-left : (k : ℕ) (es : List ℕ) → length es ≤ k → drop k es ≡ []
-      nothing-left zero [] h = refl
-      nothing-left zero (x ∷ es) h = absurd (omega arith)
-      nothing-left (suc k) [] h = refl
-      nothing-left (suc k) (x ∷ es) h = nothing-left k es (omega arith)
 
 -- ---- one element
 

@@ -10,28 +10,20 @@ use lib.Dec.{eqb}
 use borrow.Author.Tests.{eqb-true}
 use Rattle.format.specs.Plan.{Value, fromColumn, fromGroup, fromCode, ElementPlan}
 use Rattle.segment.specs.Parts.{Part, pick}
-use Rattle.segment.specs.declared.Value.{Value as Text}
-use Rattle.segment.specs.Pen.{valueText}
 use Rattle.spec.specs.declared.ids.Stretch.{Stretch}
 use Rattle.spec.specs.Answers.{stretchOf, numberOf}
 use Rattle.format.specs.Sections.{jobOf}
-use Rattle.format.specs.Ask.{on, maxOf, dataOf}
-use Rattle.column.specs.Cell.{Cell, orNull, cellOf}
-use Rattle.column.specs.Answers.{cellAt}
-use Rattle.column.specs.declared.Cell.{Cell as Read}
-use Rattle.column.specs.declared.Cell.the-variants.{None, Null, Bytes, Int, Wide, Days, Seconds}
-use Rattle.texts.specs.declared.render.Max.{Max}
+use Rattle.format.specs.Ask.{on}
 use Rattle.texts.specs.Reason.{gives}
 use Rattle.plan.specs.declared.answers.ElementPlan.{ElementPlan as Element}
 use Rattle.plan.specs.declared.answers.ValueSource.the-variants.{Column, Group, Code}
 use Rattle.plan.specs.Answers.{elementOf}
-use Rattle.lent.specs.Fit.{stretch}
 use Rattle.emit.specs.declared.cells.Written.{Written}
 use Rattle.emit.specs.Written.{Writes}
-use Rattle.emit.specs.Puts.{Put, cellText, maxIn, putCell, putText, partAt, nothing, chunkValue}
+use Rattle.emit.specs.Puts.{Put, cellOutcome, putCell, putText, partAt, nothing, chunkValue}
 use Rattle.repeat_segment.specs.declared.planned.Planned.{Planned}
 use Rattle.repeat_segment.specs.Planned.{idOf}
-use Rattle.repeat_segment.specs.Places.{placeBy, placeIn, takesMax, textBy, textIn, elementPut, Lowest}
+use Rattle.repeat_segment.specs.Places.{placeBy, placeIn, textBy, textIn, elementPut, Lowest}
 
 -- a moved place is a small number
 pub moved-small : (e step k : ℕ) → e ≤ 255 → step ≤ 255 → k < 256 → (k * step ≤ 65025) × (e + k * step ≤ 65280)
@@ -145,39 +137,12 @@ place-behind step k m x h = go (x .value) h
 
 -- ---- texts
 
-pub cell-writes : (job : List ℕ) (w : Written) (r : Read) (max : Max) (x : Cell) (most : Option ℕ) → Writes job w (cellText (orNull (cellAt job r)) max) → cellAt job r ≡ some x → max ≡ maxIn most
-    → Writes job w (cellText x (maxIn most))
-cell-writes job w r max x most h e f = rw (e, f) at h
-
--- any max does for a cell that takes none
-same-text : (b : List ℕ) (read : Read) (m n : Max) → takesMax read ≡ false → cellText (orNull (cellAt b read)) m ≡ cellText (orNull (cellAt b read)) n
-unfolding cellAt cellText
-same-text b None m n e = refl
-same-text b Null m n e = refl
-same-text b (Bytes start len) m n e = refl
-same-text b (Int bits) m n e = refl
-same-text b (Wide low high scale) m n e = refl
-same-text b (Days bits) m n e = absurd (let z : _≡_ {A = ℕ} 0 1 = cc in omega arith)
-same-text b (Seconds bits) m n e = absurd (let z : _≡_ {A = ℕ} 0 1 = cc in omega arith)
-
-pub free-writes : (job : List ℕ) (w : Written) (r : Read) (max : Max) (x : Cell) (most : Option ℕ) → Writes job w (cellText (orNull (cellAt job r)) max) → cellAt job r ≡ some x → takesMax r ≡ false
-    → Writes job w (cellText x (maxIn most))
-free-writes job w r max x most h e f =
-    let g : Writes job w (cellText (orNull (cellAt job r)) (maxIn most)) = rw (same-text job r max (maxIn most) f) at h in
-    rw e at g
-
-pub code-writes : (job : List ℕ) (s : Stretch) (v : Text) → valueText job v ≡ stretch job (s .start) (s .len) → Writes job (record { value = v; reason = 0 }) (gives (stretchOf job s))
-unfolding stretchOf
-code-writes job s v h = record { text = h; reason = refl }
-
 module _ (b : List ℕ) (s : Planned) (e : Element) (p r : ℕ) (w : Written) where
-  pub text-column : (n : ℕ) → e .value ≡ Column n → Writes b w (cellText (cellOf (dataOf (jobOf b) (s .table .0)) n r) (maxIn (maxOf (jobOf b) (idOf b s) p (numberOf (e .component)))))
-      → Writes b w (textIn b s p r (elementOf b e))
+  pub text-column : (n : ℕ) → e .value ≡ Column n → Writes b w (cellOutcome (jobOf b) (idOf b s) (s .table .0) r p (numberOf (e .component)) n) → Writes b w (textIn b s p r (elementOf b e))
   unfolding textIn
   text-column n h x = rw h x
 
-  pub text-group : (n : ℕ) → e .value ≡ Group n → Writes b w (cellText (cellOf (dataOf (jobOf b) (s .table .0)) n r) (maxIn (maxOf (jobOf b) (idOf b s) p (numberOf (e .component)))))
-      → Writes b w (textIn b s p r (elementOf b e))
+  pub text-group : (n : ℕ) → e .value ≡ Group n → Writes b w (cellOutcome (jobOf b) (idOf b s) (s .table .0) r p (numberOf (e .component)) n) → Writes b w (textIn b s p r (elementOf b e))
   unfolding textIn
   text-group n h x = rw h x
 

@@ -9,10 +9,6 @@ use lib.ListN.{getD}
 use Rattle.format.specs.Plan.{Value, fromColumn, fromGroup, fromCode, ElementPlan}
 use Rattle.format.specs.Job.{Job}
 use Rattle.format.specs.Sections.{jobOf}
-use Rattle.format.specs.Ask.{maxOf, dataOf}
-use Rattle.column.specs.Cell.{cellOf}
-use Rattle.column.specs.declared.Cell.{Cell as Read}
-use Rattle.column.specs.declared.Cell.the-variants.{None, Null, Bytes, Int, Wide, Days, Seconds}
 use Rattle.texts.specs.Reason.{Outcome, gives}
 use Rattle.segment.specs.Parts.{Part, pick, rank}
 use Rattle.segment.specs.Calls.{componentIn}
@@ -20,7 +16,7 @@ use Rattle.spec.specs.declared.ids.Number.{Number}
 use Rattle.spec.specs.Answers.{numberOf}
 use Rattle.plan.specs.declared.answers.ElementPlan.{ElementPlan as Element}
 use Rattle.plan.specs.Answers.{elementOf}
-use Rattle.emit.specs.Puts.{cellText, maxIn, chunkValue, chunkPut, Put}
+use Rattle.emit.specs.Puts.{cellOutcome, chunkValue, chunkPut, Put}
 use Rattle.repeat_segment.specs.declared.planned.Planned.{Planned}
 use Rattle.repeat_segment.specs.declared.scan.First.{First}
 use Rattle.repeat_segment.specs.Planned.{plansOf, idOf}
@@ -34,20 +30,10 @@ placeBy step k e (fromCode text) = pick (eqb k 0) (some e) none
 unfoldable pub placeIn : ℕ → ℕ → ElementPlan → Option ℕ
 placeIn step k x = placeBy step k (x .element) (x .value)
 
--- only dates and times have another text where a place takes less
-abbrev pub takesMax : Read → Bool
-takesMax None = false
-takesMax Null = false
-takesMax (Bytes start len) = false
-takesMax (Int bits) = false
-takesMax (Wide low high scale) = false
-takesMax (Days bits) = true
-takesMax (Seconds bits) = true
-
 -- the text for row r at element e
 abbrev pub textBy : Job → List ℕ → ℕ → ℕ → Option ℕ → ℕ → Value → Outcome
-textBy j id t e c r (fromColumn n) = cellText (cellOf (dataOf j t) n r) (maxIn (maxOf j id e c))
-textBy j id t e c r (fromGroup n) = cellText (cellOf (dataOf j t) n r) (maxIn (maxOf j id e c))
+textBy j id t e c r (fromColumn n) = cellOutcome j id t r e c n
+textBy j id t e c r (fromGroup n) = cellOutcome j id t r e c n
 textBy j id t e c r (fromCode code) = gives code
 
 unfoldable pub textIn : List ℕ → Planned → ℕ → ℕ → ElementPlan → Outcome

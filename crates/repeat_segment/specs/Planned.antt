@@ -2,7 +2,6 @@
 use Prim.Native.Nat.{ℕ, _+_, _≤_, _<_}
 use mathlib.Core.Path.{_≡_}
 use mathlib.Core.List.{List}
-use mathlib.Core.Option.{Option, none, some}
 use lib.ListN.{length, getD, drop}
 use Rattle.format.specs.Plan.{ElementPlan, noElementPlan}
 use Rattle.format.specs.Sections.{jobOf, layoutStart}
@@ -11,8 +10,6 @@ use Rattle.spec.specs.Answers.{Holds}
 use Rattle.plan.specs.declared.answers.ElementPlan.{ElementPlan as ElementRead}
 use Rattle.plan.specs.Answers.{elementOf}
 use Rattle.plan.specs.Elements.{Elements}
-use Rattle.emit.specs.declared.findings.Repetition.{Repetition}
-use Rattle.emit.specs.declared.findings.Repetition.the-variants.{Absent, Byte}
 use Rattle.repeat_segment.specs.declared.planned.Planned.{Planned}
 
 -- its planned elements
@@ -43,8 +40,3 @@ pub record Read (b : List ℕ) (s : Planned) (i : ℕ) (r : ElementRead) : Type 
   pub plan : elementOf b r ≡ getD (plansOf b s) i noElementPlan
   pub low : r .element ≤ 255
   pub along : Along b s (r .next) (i + 1)
-
--- the separator of repetitions, if there is one
-abbrev pub repetitionOf : Repetition → Option ℕ
-repetitionOf Absent = none
-repetitionOf (Byte b) = some b

@@ -1,10 +1,11 @@
 // A row of a chunk: the findings on its cells, and their trace entries.
 use crate::places;
-use crate::planned;
 use crate::planned::Planned;
+use emit::cells;
 use emit::findings;
 use emit::findings::Delimiters;
 use emit::findings::Spot;
+use emit::signs;
 use emit::state::State;
 use plan::answers::ElementPlan;
 use plan::answers::ValueSource;
@@ -41,7 +42,7 @@ fn spot_of(job: &[u8], s: Planned, p: u32, component: Number, column: u32, r: Ro
     requires { ⌜ Of (now job) s ⌝ }
     ensures { λ w. ⌜ w ≡ spotOf (cell (s .table .0) (r .0) column) (placeOf (idOf (now (job .entry)) s) p (numberOf component)) ⌝ }
 {
-    let identifier = planned::id_number(job, s.id);
+    let identifier = signs::id_number(job, s.id);
     let c = or_zero(component);
     Spot {
         origin: 0,
@@ -71,7 +72,7 @@ fn note_cell(
     ensures { λ n. ⌜ Noted (now (findings .entry)) at
         (wordsOf ((putCell (jobOf (now (job .entry))) (idOf (now (job .entry)) s) p (numberOf component) (s .table .0) column (r .0)) .findings)) n (now (findings .exit)) ⌝ }
 {
-    let x = places::cell_text(job, index, s, p, component, column, r);
+    let x = cells::cell_text(job, index, s.id, s.table, r, p, component, column);
     let w = spot_of(job, s, p, component, column, r);
     findings::note_cell(findings, at, job, x, w, d)
 }

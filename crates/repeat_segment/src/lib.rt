@@ -7,6 +7,7 @@ mod places;
 mod planned;
 mod scan;
 
+use emit::signs;
 use emit::state;
 use emit::state::From;
 use emit::state::State;
@@ -38,7 +39,7 @@ pub fn fill_row(
     ensures { λ n. ⌜ ((d g p : List ℕ) → Did (fillOut (jobOf (now (job .entry))) (l .0) i (t .0) k (r .0) (stateOf s)) s n d d g g (now (findings .entry)) (now (findings .exit)) p p) ⌝ }
 {
     let segment = planned::planned_segment(job, index, l, i, t);
-    let delimiters = planned::delimiters_of(job, index);
+    let delimiters = signs::delimiters_of(job, index);
     fill::fill_elements(job, index, findings, s, segment, delimiters, k, r)
 }
 
@@ -71,7 +72,7 @@ pub fn write_chunk(
         (now (doc .entry)) (now (doc .exit)) (now (segments .entry)) (now (segments .exit)) f f p p) ⌝ }
 {
     let segment = planned::planned_segment(job, index, l, i, t);
-    let separators = planned::separators_of(job, index);
+    let separators = signs::separators_of(job, index);
     let at = join::put_chunk(
         doc,
         s.bytes,

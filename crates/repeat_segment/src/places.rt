@@ -1,32 +1,23 @@
 // Where a planned element puts its text for a row of the chunk, and that text.
 use crate::planned::Planned;
-use column::Cell;
 use emit::cells;
 use emit::cells::Written;
 use plan::answers::ElementPlan;
 use plan::answers::ValueSource;
 use spec::ids::Number;
 use spec::ids::RowId;
-use spec::ids::Stretch;
-use spec::segments;
-use texts::render::Max;
 ghost use mathlib.Core.Path.{_≡_};
 ghost use mathlib.Core.List.{List};
 ghost use mathlib.Core.Option.{some, none};
 ghost use Prim.Native.Nat.{ℕ, _+_, _*_, _≤_, _<_};
 ghost use lib.Dec.{eqb};
-ghost use Rattle.format.specs.Sections.{jobOf};
-ghost use Rattle.format.specs.Ask.{maxOf, dataOf};
-ghost use Rattle.column.specs.Cell.{cellOf};
 ghost use Rattle.segment.specs.Parts.{pick};
-ghost use Rattle.spec.specs.Answers.{numberOf, stretchOf};
-ghost use Rattle.texts.specs.Reason.{gives};
+ghost use Rattle.spec.specs.Answers.{numberOf};
 ghost use Rattle.plan.specs.Answers.{elementOf};
 ghost use Rattle.nest.specs.Ready.{Ready};
-ghost use Rattle.emit.specs.Puts.{cellText, maxIn};
 ghost use Rattle.emit.specs.Written.{Writes};
-ghost use Rattle.repeat_segment.specs.Planned.{Of, idOf};
-ghost use Rattle.repeat_segment.specs.Places.{placeIn, takesMax, textIn, Lowest};
+ghost use Rattle.repeat_segment.specs.Planned.{Of};
+ghost use Rattle.repeat_segment.specs.Places.{placeIn, textIn, Lowest};
 
 // ---- places
 
@@ -92,59 +83,6 @@ pub fn row_at(e: ElementPlan, step: u32, p: u32) -> u32
 
 // ---- texts
 
-fn max_in(n: Number) -> Max
-    ensures { λ r. ⌜ r ≡ maxIn (numberOf n) ⌝ }
-{
-    match n {
-        Number::None => Max::Free,
-        Number::Is(m) => Max::At(m as usize),
-    }
-}
-
-// Whether the most that its place takes matters to the text of a cell: only dates and times are shortened.
-fn takes_max(cell: Cell) -> bool
-    ensures { λ r. ⌜ r ≡ takesMax cell ⌝ }
-{
-    match cell {
-        Cell::None => false,
-        Cell::Null => false,
-        Cell::Bytes(start, len) => false,
-        Cell::Int(bits) => false,
-        Cell::Wide(lo, hi, scale) => false,
-        Cell::Days(bits) => true,
-        Cell::Seconds(bits) => true,
-    }
-}
-
-// The text of a cell at element p.
-pub fn cell_text(
-    job: &[u8],
-    index: &[u32],
-    s: Planned,
-    p: u32,
-    component: Number,
-    column: u32,
-    r: RowId,
-) -> Written
-    requires { ⌜ Ready (now job) (now index) × Of (now job) s ⌝ }
-    ensures { λ w. ⌜ Writes (now (job .entry)) w (cellText (cellOf (dataOf (jobOf (now (job .entry))) (s .table .0)) column (r .0))
-        (maxIn (maxOf (jobOf (now (job .entry))) (idOf (now (job .entry)) s) p (numberOf component)))) ⌝ }
-{
-    let cell = tables::data::cell(job, index, s.table, column, r);
-    if takes_max(cell) {
-        let most = segments::max_of(job, index, s.id, p, component);
-        return cells::cell_value(cell, max_in(most));
-    }
-    cells::cell_value(cell, Max::Free)
-}
-
-fn code_text(code: Stretch) -> Written
-    ensures { λ w. ⌜ ((job : List ℕ) → Writes job w (gives (stretchOf job code))) ⌝ }
-{
-    let value = segment::held(code.start, code.len);
-    Written { value, reason: 0 }
-}
-
 // The text of a planned element at element p.
 pub fn text(job: &[u8], index: &[u32], s: Planned, e: ElementPlan, p: u32, r: RowId) -> Written
     requires { ⌜ Ready (now job) (now index) × Of (now job) s ⌝ }
@@ -153,8 +91,8 @@ pub fn text(job: &[u8], index: &[u32], s: Planned, e: ElementPlan, p: u32, r: Ro
     let v = e.value;
     let c = e.component;
     match v {
-        ValueSource::Column(n) => cell_text(job, index, s, p, c, n, r),
-        ValueSource::Group(n) => cell_text(job, index, s, p, c, n, r),
-        ValueSource::Code(code) => code_text(code),
+        ValueSource::Column(n) => cells::cell_text(job, index, s.id, s.table, r, p, c, n),
+        ValueSource::Group(n) => cells::cell_text(job, index, s.id, s.table, r, p, c, n),
+        ValueSource::Code(code) => cells::code_text(code),
     }
 }

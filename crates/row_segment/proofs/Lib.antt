@@ -1,5 +1,3 @@
-pub mod NameLaws
-pub mod CellLaws
 pub mod StreamLaws
 pub mod NoteLaws
 pub mod GroupLaws

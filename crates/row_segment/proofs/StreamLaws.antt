@@ -11,7 +11,7 @@ use Rattle.format.specs.Plan.{ElementPlan as ElementPlanIn, elementPlanC, noEle
 use Rattle.format.specs.Sections.{jobOf}
 use Rattle.format.specs.Ask.{loopOf, plannedOf, identifierOf}
 use Rattle.nest.specs.Ready.{Ready}
-use Rattle.row_segment.proofs.NameLaws.{name-short, holds-length}
+use Rattle.emit.proofs.NameLaws.{name-short, holds-length}
 use Rattle.spec.specs.Answers.{numberOf, Holds}
 use Rattle.plan.specs.declared.answers.ElementPlan.{ElementPlan}
 use Rattle.plan.specs.Answers.{elementOf, ElementRead}

@@ -13,13 +13,12 @@ use Rattle.spec.specs.Answers.{stretchOf, numberOf, Holds}
 use Rattle.plan.specs.Elements.{Elements}
 use Rattle.segment.specs.Parts.{pick}
 use Rattle.nest.specs.Ready.{Ready}
-use Rattle.emit.specs.Puts.{Put, nothing, andPut, putCell, putText, rowValue, rowPut}
+use Rattle.emit.specs.Puts.{Put, cellOutcome, nothing, andPut, putCell, putText, rowValue, rowPut}
 use Rattle.row_segment.specs.declared.parts.Line.{Line}
 use Rattle.row_segment.specs.declared.parts.Source.{Source}
 use Rattle.row_segment.specs.declared.parts.Source.the-variants.{Cell, Code}
 use Rattle.row_segment.specs.declared.parts.Planned.{Planned}
 use Rattle.row_segment.specs.declared.parts.Look.{Look}
-use Rattle.row_segment.specs.Cells.{cellOutcome}
 
 -- ---- a line in the job b
 

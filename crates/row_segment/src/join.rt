@@ -1,11 +1,11 @@
 // A row segment in one pass: its parts are noted and joined, element by element in the order in which they come.
-use crate::marks;
 use crate::notes;
 use crate::notes::Tally;
 use crate::notes::Tried;
 use crate::parts;
 use crate::parts::Line;
 use crate::parts::Look;
+use emit::signs;
 use segment::Pen;
 use segment::Separators;
 use segment::Value;
@@ -277,7 +277,7 @@ pub fn join_line(
         × Totals (now (job .entry)) x from (r .tally) (now (findings .entry)) (now (findings .exit)) ⌝ }
 {
     let y = notes::tried_of(job, index, x);
-    let s = marks::separators_of(job, index);
+    let s = signs::separators_of(job, index);
     let n = parts::first_part(job, index, x);
     let id = x.id;
     let pen = segment::begin(doc, at, job, id.start, id.len);

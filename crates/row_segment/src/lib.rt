@@ -1,7 +1,5 @@
 // A row segment: its bytes, the findings on its cells, its trace.
-mod cells;
 mod join;
-mod marks;
 mod notes;
 mod parts;
 

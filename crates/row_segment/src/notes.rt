@@ -1,5 +1,4 @@
 // What the parts of a row segment are noted for: the findings on their texts, their trace entries, the last filled element.
-use crate::marks;
 use crate::parts;
 use crate::parts::Line;
 use crate::parts::Look;
@@ -9,6 +8,7 @@ use emit::cells::Written;
 use emit::findings;
 use emit::findings::Delimiters;
 use emit::findings::Spot;
+use emit::signs;
 use spec::ids::Number;
 ghost use mathlib.Core.Path.{_≡_};
 ghost use mathlib.Core.List.{List};
@@ -65,8 +65,8 @@ pub fn tried_of(job: &[u8], index: &[u32], x: Line) -> Tried
     ensures { λ r. ⌜ Tries (now (job .entry)) x r ⌝ }
 {
     let id = x.id;
-    let name = marks::name_number(job, id);
-    let delimiters = marks::delimiters_of(job, index);
+    let name = signs::id_number(job, id);
+    let delimiters = signs::delimiters_of(job, index);
     Tried { name, delimiters }
 }
 

@@ -1,5 +1,5 @@
 // The planned elements of a row segment as parts, one after the other.
-use crate::cells;
+use emit::cells;
 use emit::cells::Written;
 use plan::answers::ElementPlan;
 use plan::answers::ValueSource;

@@ -1,5 +1,5 @@
 -- What the answers of the accessors stand for.
-use Prim.Native.Nat.{ℕ, _+_, _≤_}
+use Prim.Native.Nat.{ℕ, _+_, _≤_, _<_}
 use mathlib.Core.Path.{_≡_}
 use mathlib.Core.List.{List}
 use mathlib.Core.Option.{Option, none, some}
@@ -27,6 +27,16 @@ pub record Holds (b : List ℕ) (s : Stretch) (v : List ℕ) : Type 0 where
 abbrev pub numberOf : Number → Option ℕ
 numberOf number.None = none
 numberOf (number.Is n) = some n
+
+-- the number, 0 where it is absent
+abbrev pub numberIn : Number → ℕ
+numberIn number.None = 0
+numberIn (number.Is n) = n
+
+-- a byte that may be absent
+pub record HoldsByte (r : Number) (v : Option ℕ) : Type 0 where
+  pub says : numberOf r ≡ v
+  pub low : numberIn r < 256
 
 -- a text that may be absent
 abbrev pub textOf : List ℕ → Text → Option (List ℕ)

@@ -1,7 +1,7 @@
 // The envelope of a job.
 ghost use mathlib.Core.Path.{_≡_};
 ghost use Rattle.format.specs.Sections.{jobOf};
-ghost use Rattle.spec.specs.Answers.{Holds, HoldsText, numberOf};
+ghost use Rattle.spec.specs.Answers.{Holds, HoldsByte, HoldsText};
 ghost use Rattle.spec.specs.EnvelopeIndex.{EnvelopeIndexed};
 use crate::ids::Number;
 use crate::ids::Stretch;
@@ -119,7 +119,7 @@ pub fn segment_terminator(job: &[u8], index: &[u32]) -> u8
 
 pub fn repetition(job: &[u8], index: &[u32]) -> Number
     requires { ⌜ EnvelopeIndexed (now job) (now index) ⌝ }
-    ensures { λ r. ⌜ numberOf r ≡ jobOf (now (job .entry)) .envelope .repetition ⌝ }
+    ensures { λ r. ⌜ HoldsByte r (jobOf (now (job .entry)) .envelope .repetition) ⌝ }
 {
     let p = codec::place(index, 2573);
     byte_number_at(job, p)

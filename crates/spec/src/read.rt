@@ -10,7 +10,7 @@ ghost use Rattle.codec.specs.Forms.{numC, byteC, bytesC, optC};
 ghost use Rattle.format.specs.Spec.{Control, controlC, Repeat, repeatC};
 ghost use Rattle.format.specs.Sections.{planStart};
 ghost use Rattle.format.specs.Ask.{on};
-ghost use Rattle.spec.specs.Answers.{Holds, HoldsText, numberOf, controlOf};
+ghost use Rattle.spec.specs.Answers.{Holds, HoldsByte, HoldsText, numberOf, controlOf};
 ghost use Rattle.spec.specs.Reads.{Reads, ByteSays};
 ghost use Rattle.spec.specs.Index.{rowPlace};
 use crate::ids::ControlRule;
@@ -149,7 +149,7 @@ pub fn row_place(b: &[u8], index: &[u32], list: u32, from: u32, width: u8, i: u3
 // A byte that may be absent.
 pub fn byte_number_at(b: &[u8], at: usize) -> Number
     requires { ⌜ at < 4294967296 ⌝ }
-    ensures { λ r. ⌜ ((e : ℕ) (v : Option ℕ) → Reads (optC byteC) (now (b .entry)) e at none v → numberOf r ≡ v) ⌝ }
+    ensures { λ r. ⌜ ((e : ℕ) (v : Option ℕ) → Reads (optC byteC) (now (b .entry)) e at none v → HoldsByte r v) ⌝ }
 {
     let t = codec::byte_at(b, at);
     if t == 0 {

@@ -45,7 +45,7 @@ use Rattle.emit.specs.Table.{heldField}
 use Rattle.emit.specs.Puts.{maxIn}
 use Rattle.emit.specs.Envelope.{Given, Sourced, plainly, outcome, separator, isWhite, unlessLast, trimEnd, repetitionGiven, fieldGiven, fieldAt, fielded, versionAt, versioned, unsourced}
 use Rattle.emit.proofs.TextLaws.{held-text}
-use Rattle.emit.proofs.FindingLaws.{repetitionOf}
+use Rattle.emit.specs.Written.{repetitionOf}
 use Rattle.trigger.specs.declared.given.Source.{Source}
 use Rattle.trigger.specs.Source.{Tells, otherwise}
 
@@ -288,11 +288,11 @@ other-lengths (x ∷ v) (y ∷ w) h = go (eqb x y) (other-lengths v w (λ q. h (
     go false ih = refl
 
 module _ (b : List ℕ) (s : Stretch) (within : s .start + s .len ≤ length b) where
-  pub stretch-long : length (stretchOf b s) ≡ s .len
+  stretch-long : length (stretchOf b s) ≡ s .len
   unfolding stretchOf
   stretch-long = length-take-le (s .len) (drop (s .start) b) (rw length-drop (omega arith))
 
-  pub stretch-byte : (i : ℕ) → i < s .len → getD (stretchOf b s) i 0 ≡ getD b (s .start + i) 0
+  stretch-byte : (i : ℕ) → i < s .len → getD (stretchOf b s) i 0 ≡ getD b (s .start + i) 0
   unfolding stretchOf
   stretch-byte i h = getD-take (s .len) (drop (s .start) b) i 0 h ∙ getD-drop (s .start) b i 0
 

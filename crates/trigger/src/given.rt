@@ -1,9 +1,9 @@
 // What an element of a trigger takes: a field of the envelope, the version, its first code.
-use crate::signs;
 use emit::cells;
 use emit::envelope;
 use emit::envelope::Held;
 use emit::findings::Repetition;
+use emit::signs;
 use spec::envelope as caller;
 use spec::ids::Element;
 use spec::ids::Stretch;
@@ -206,7 +206,7 @@ fn repetition_source(job: &[u8], index: &[u32], f: u8, x: Element) -> Source
             return of_stretch(Held::Field(f), s);
         }
         Text::None => {
-            let again = signs::repetition(job, index);
+            let again = signs::repetition_of(job, index);
             match again {
                 Repetition::Byte(b) => {
                     return of_byte(Held::Field(f), b);
@@ -229,14 +229,14 @@ fn dated(job: &[u8], index: &[u32], f: u8, x: Element) -> Source
         let days = parse::from_bits(caller::date(job, index));
         return of_said(
             Held::Field(f),
-            render::envelope_date(days, signs::max_by(most)),
+            render::envelope_date(days, cells::max_by(most)),
         );
     }
     if f == 7 {
         let seconds = parse::from_bits(caller::time(job, index));
         return of_said(
             Held::Field(f),
-            render::envelope_time(seconds, signs::max_by(most)),
+            render::envelope_time(seconds, cells::max_by(most)),
         );
     }
     of_stretch(Held::Field(f), caller::usage_indicator(job, index))

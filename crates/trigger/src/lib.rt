@@ -1,11 +1,9 @@
 // The trigger and the closer of an envelope loop.
+use crate::number::control_in;
 use crate::opener::Frame;
 use crate::opener::put_opener;
-use crate::signs::control_in;
-use crate::signs::delimiters;
-use crate::signs::id_number;
-use crate::signs::separators;
 use emit::closer;
+use emit::signs;
 use emit::state;
 use emit::state::From;
 use emit::state::State;
@@ -31,8 +29,8 @@ ghost use Rattle.emit.specs.Did.{stateOf, Did, Small};
 ghost use Rattle.trigger.specs.Drawn.{Framed};
 
 pub mod given;
+pub mod number;
 pub mod opener;
-pub mod signs;
 
 // ---- the opener
 
@@ -41,10 +39,10 @@ fn frame_of(job: &[u8], index: &[u32], l: LoopId, opener: u32, number: u64) -> F
     requires { ⌜ Ready (now job) (now index) × (l .0 < 32) ⌝ }
     ensures { λ w. ⌜ ((k : Control) → k .opener ≡ opener → Framed (now (job .entry)) (l .0) k number w) ⌝ }
 {
-    let sep = separators(job, index);
-    let tried = delimiters(job, index);
+    let sep = signs::separators_of(job, index);
+    let tried = signs::delimiters_of(job, index);
     let id = spec::loops::trigger(job, index, l);
-    let name = id_number(job, id);
+    let name = signs::id_number(job, id);
     let depth = plan::layout::depth(job, index, l);
     let control = control_in(job, index, l, opener, number);
     Frame {
@@ -157,7 +155,7 @@ fn close_loop(
         Text::Is(id) => {
             let control = repeated(job, index, s, l, c.opener, opened);
             let n = counted(c.children, children, count);
-            let sep = separators(job, index);
+            let sep = signs::separators_of(job, index);
             return closer::write_closer(
                 doc,
                 segments,

@@ -1,8 +1,8 @@
 // The trigger of an envelope loop, element by element.
 use crate::given::Source;
 use crate::given::source_of;
-use crate::signs::max_by;
-use crate::signs::min_by;
+use crate::number::min_by;
+use emit::cells::max_by;
 use emit::closer;
 use emit::envelope;
 use emit::envelope::Held;

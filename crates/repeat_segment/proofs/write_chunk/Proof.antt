@@ -1,5 +1,6 @@
 -- `repeat_segment::write_chunk` meets its contract. Assumes nothing.
 use Rattle.repeat_segment.proofs.JoinLaws.{did-chunk}
+use mathlib.Core.Path.{sym}
 use denote.Ref.{now}
 use borrow.Author.Needs.{needs}
 use Rattle.repeat_segment.proofs.write_chunk.Statement.{statement}
@@ -30,7 +31,7 @@ same-length-2 : tie.Need-same-length-2
 same-length-2 c = search needs
 
 returns : tie.Need-returns
-returns c = let a = c .before .before .before .before .before .before .before .before .before .before .before .before .before .before .before .before .args in let e = c .before .before .before .before .before .before .before .before .before .before .planned-segment .ensures in let p = c .before .before .before .before .before .before .before .before .before .before .before .before .before .before .before .before .pre in did-chunk (now (a .job)) _ (a .l) (a .i) (a .t) (now (a .rows)) (a .count) (a .s) _ _ (e .0) (e .1) (e .2) (e .3) (p .3) (p .1) (c .before .before .before .before .before .before .before .before .before .separators-of .ensures) (c .before .before .before .before .source-of .ensures) (c .before .before .before .before .before .before .before .put-chunk .ensures) (c .before .before .finish-segment .ensures)
+returns c = let a = c .before .before .before .before .before .before .before .before .before .before .before .before .before .before .before .before .args in let e = c .before .before .before .before .before .before .before .before .before .before .planned-segment .ensures in let p = c .before .before .before .before .before .before .before .before .before .before .before .before .before .before .before .before .pre in did-chunk (now (a .job)) _ (a .l) (a .i) (a .t) (now (a .rows)) (a .count) (a .s) _ _ (e .0) (e .1) (e .2) (e .3) (p .3) (p .1) (sym (c .before .before .before .before .before .before .before .before .before .separators-of .ensures)) (c .before .before .before .before .source-of .ensures) (c .before .before .before .before .before .before .before .put-chunk .ensures) (c .before .before .finish-segment .ensures)
 
 pub write-chunk-spec : {M : Type 1} → statement M
 write-chunk-spec =

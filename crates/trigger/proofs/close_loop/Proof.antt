@@ -5,7 +5,7 @@ use Rattle.spec.specs.Answers.{ruleOf, stretchOf}
 use Rattle.segment.specs.Pen.{valueText}
 use Rattle.emit.specs.Did.{stateOf}
 use Rattle.format.specs.Sections.{jobOf}
-use mathlib.Core.Path.{refl}
+use mathlib.Core.Path.{refl, sym}
 use denote.Ref.{now}
 use borrow.Author.Needs.{needs}
 use Rattle.trigger.proofs.close_loop.Statement.{statement}
@@ -16,7 +16,6 @@ use Rattle.emit.proofs.closer.write_closer.Reads as write-closer-reads
 use Rattle.spec.proofs.loops.loop_end.Reads as loop-end-reads
 use Rattle.trigger.proofs.counted.Reads as counted-reads
 use Rattle.trigger.proofs.repeated.Reads as repeated-reads
-use Rattle.trigger.proofs.signs.separators.Reads as separators-reads
 
 loop-end-requires : tie.Need-loop-end-requires
 loop-end-requires c κs = search needs
@@ -36,8 +35,8 @@ repeated-requires c κs = search needs
 counted-requires : tie.Need-counted-requires
 counted-requires c κs = search needs
 
-separators-requires : tie.Need-separators-requires
-separators-requires c κs = search needs
+separators-of-requires : tie.Need-separators-of-requires
+separators-of-requires c κs = search needs
 
 cast-write-closer : tie.Need-cast-write-closer
 cast-write-closer c = search needs
@@ -56,7 +55,7 @@ same-length-2 c = search needs
 
 returns-2 : tie.Need-returns-2
 unfolding stretchOf
-returns-2 c = λ f p. let a = c .before .before .before .before .before .before .before .before .before .before .before .before .before .before .before .before .before .before .before .before .args in let b = now (a .job) in rw (close-is (jobOf b) (a .l .0) (a .opened) (a .children) (a .count) (stateOf (a .s)) (ruleOf (a .c)) (stretchOf b (c .before .before .before .before .before .before .before .before .before .before .before .before .before .end .given .0 .0)) (valueText b (c .before .before .before .before .before .before .before .before .before .before .before .repeated .result)) (c .before .before .before .before .before .before .before .before .before .before .counted .result) (c .before .before .before .before .before .before .before .before .before .before .before .before .before .before .before .before .before .before .before .before .pre .3) (text-there _ _ _ (c .before .before .before .before .before .before .before .before .before .before .before .before .before .before .before .loop-end .ensures .bytes) _ (c .before .before .before .before .before .before .before .before .before .before .before .before .before .end .given .1)) (c .before .before .before .before .before .before .before .before .before .before .before .repeated .ensures (ruleOf (a .c)) refl) (c .before .before .before .before .before .before .before .before .before .before .counted .ensures)) (c .before .before .before .before .write-closer .ensures (jobOf b) (ruleOf (a .c)) f p (c .before .before .before .before .before .before .before .before .before .separators .ensures) refl refl (c .before .before .before .before .before .before .before .before .before .before .before .before .before .before .before .before .before .before .before .before .pre .1))
+returns-2 c = λ f p. let a = c .before .before .before .before .before .before .before .before .before .before .before .before .before .before .before .before .before .before .before .before .args in let b = now (a .job) in rw (close-is (jobOf b) (a .l .0) (a .opened) (a .children) (a .count) (stateOf (a .s)) (ruleOf (a .c)) (stretchOf b (c .before .before .before .before .before .before .before .before .before .before .before .before .before .end .given .0 .0)) (valueText b (c .before .before .before .before .before .before .before .before .before .before .before .repeated .result)) (c .before .before .before .before .before .before .before .before .before .before .counted .result) (c .before .before .before .before .before .before .before .before .before .before .before .before .before .before .before .before .before .before .before .before .pre .3) (text-there _ _ _ (c .before .before .before .before .before .before .before .before .before .before .before .before .before .before .before .loop-end .ensures .bytes) _ (c .before .before .before .before .before .before .before .before .before .before .before .before .before .end .given .1)) (c .before .before .before .before .before .before .before .before .before .before .before .repeated .ensures (ruleOf (a .c)) refl) (c .before .before .before .before .before .before .before .before .before .before .counted .ensures)) (c .before .before .before .before .write-closer .ensures (jobOf b) (ruleOf (a .c)) f p (sym (c .before .before .before .before .before .before .before .before .before .separators-of .ensures)) refl refl (c .before .before .before .before .before .before .before .before .before .before .before .before .before .before .before .before .before .before .before .before .pre .1))
 
 pub close-loop-spec : {M : Type 1} → statement M
 close-loop-spec =
@@ -68,7 +67,7 @@ close-loop-spec =
     enum-known-end
     repeated-requires
     counted-requires
-    separators-requires
+    separators-of-requires
     cast-write-closer
     cast-write-closer-2
     write-closer-requires

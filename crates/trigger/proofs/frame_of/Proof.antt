@@ -9,22 +9,19 @@ use Rattle.trigger.proofs.frame_of.Reads as reads
 use Rattle.trigger.proofs.frame_of.Lts as lts
 use Rattle.plan.proofs.layout.depth.Reads as depth-reads
 use Rattle.spec.proofs.loops.trigger.Reads as trigger-reads
-use Rattle.trigger.proofs.signs.control_in.Reads as control-in-reads
-use Rattle.trigger.proofs.signs.delimiters.Reads as delimiters-reads
-use Rattle.trigger.proofs.signs.id_number.Reads as id-number-reads
-use Rattle.trigger.proofs.signs.separators.Reads as separators-reads
+use Rattle.trigger.proofs.number.control_in.Reads as control-in-reads
 
-separators-requires : tie.Need-separators-requires
-separators-requires c κs = search needs
+separators-of-requires : tie.Need-separators-of-requires
+separators-of-requires c κs = search needs
 
-delimiters-requires : tie.Need-delimiters-requires
-delimiters-requires c κs = search needs
+delimiters-of-requires : tie.Need-delimiters-of-requires
+delimiters-of-requires c κs = search needs
 
 trigger-requires : tie.Need-trigger-requires
 trigger-requires c κs = search needs
 
 id-number-requires : tie.Need-id-number-requires
-id-number-requires c κs = (c .trigger .ensures .within, trigger-long _ (c .before .before .before .before .before .pre .0 .passed) _ _ (c .trigger .ensures))
+id-number-requires c κs = (trigger-long _ (c .before .before .before .before .before .pre .0 .passed) _ _ (c .trigger .ensures), c .trigger .ensures .within)
 
 depth-requires : tie.Need-depth-requires
 depth-requires c κs = search needs
@@ -33,14 +30,14 @@ control-in-requires : tie.Need-control-in-requires
 control-in-requires c κs = search needs
 
 returns : tie.Need-returns
-returns c = λ k h. record { sep = c .before .before .before .before .before .separators .ensures; tried = c .before .before .before .before .delimiters .ensures; id = c .before .before .before .trigger .ensures; name = c .before .before .id-number .ensures ∙ ap (numberFrom 0) (c .before .before .before .trigger .ensures .bytes); depth = c .before .depth .ensures; opener = sym h; control = c .control-in .ensures k h }
+returns c = λ k h. record { sep = sym (c .before .before .before .before .before .separators-of .ensures); tried = c .before .before .before .before .delimiters-of .ensures; id = c .before .before .before .trigger .ensures; name = c .before .before .id-number .ensures ∙ ap (numberFrom 0) (c .before .before .before .trigger .ensures .bytes); depth = c .before .depth .ensures; opener = sym h; control = c .control-in .ensures k h }
 
 pub frame-of-spec : {M : Type 1} → statement M
 frame-of-spec =
     tie.close
     (tie.spec
-    separators-requires
-    delimiters-requires
+    separators-of-requires
+    delimiters-of-requires
     trigger-requires
     id-number-requires
     depth-requires

@@ -6,7 +6,7 @@ use Rattle.trigger.proofs.repeated.Reads as reads
 use Rattle.trigger.proofs.repeated.Lts as lts
 use Rattle.emit.proofs.state.taken_number.Reads as taken-number-reads
 use Rattle.segment.proofs.held.Reads as held-reads
-use Rattle.trigger.proofs.signs.control_in.Reads as control-in-reads
+use Rattle.trigger.proofs.number.control_in.Reads as control-in-reads
 
 taken-number-requires : tie.Need-taken-number-requires
 taken-number-requires c κs = search needs

@@ -11,7 +11,7 @@ use Rattle.repeat_segment.proofs.fill.note_cell.Statement.{statement}
 use Rattle.repeat_segment.proofs.fill.note_cell.Tie as tie
 
 cell-text-requires : tie.Need-cell-text-requires
-cell-text-requires c κs = search needs
+cell-text-requires c κs = let w = c .before .before .before .pre in (w .0 .segments, w .0 .tables, w .1 .id .within)
 
 spot-of-requires : tie.Need-spot-of-requires
 spot-of-requires c κs = search needs
@@ -23,7 +23,7 @@ same-length : tie.Need-same-length
 same-length c = search needs
 
 returns : tie.Need-returns
-returns c = let a = c .before .before .before .before .before .before .before .before .before .args in let j = now (a .job) in let i = idOf j (a .s) in rw (cell-findings j (jobOf j) i (a .p) (numberOf (a .component)) (a .s .table .0) (a .column) (a .r .0) (c .before .before .before .before .before .cell-text .result) (c .before .before .before .before .before .cell-text .ensures) (a .d) (c .before .before .before .before .before .before .before .before .before .pre .2)) (c .before .before .note-cell .ensures (cell (a .s .table .0) (a .r .0) (a .column)) (placeOf i (a .p) (numberOf (a .component))) (c .before .before .before .before .spot-of .ensures))
+returns c = let a = c .before .before .before .before .before .before .before .before .before .args in let j = now (a .job) in let i = idOf j (a .s) in rw (cell-findings j (jobOf j) i (a .p) (numberOf (a .component)) (a .s .table .0) (a .column) (a .r .0) (c .before .before .before .before .before .cell-text .result) (rw (c .before .before .before .before .before .before .before .before .before .pre .1 .id .bytes) at (c .before .before .before .before .before .cell-text .ensures)) (a .d) (c .before .before .before .before .before .before .before .before .before .pre .2)) (c .before .before .note-cell .ensures (cell (a .s .table .0) (a .r .0) (a .column)) (placeOf i (a .p) (numberOf (a .component))) (c .before .before .before .before .spot-of .ensures))
 
 pub note-cell-spec : {M : Type 1} → statement M
 note-cell-spec =

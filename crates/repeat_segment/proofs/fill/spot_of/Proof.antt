@@ -5,7 +5,7 @@ use Rattle.repeat_segment.proofs.fill.spot_of.Statement.{statement}
 use Rattle.repeat_segment.proofs.fill.spot_of.Tie as tie
 
 id-number-requires : tie.Need-id-number-requires
-id-number-requires c κs = (c .before .pre .size, c .before .pre .id .within, c .before .pre .short)
+id-number-requires c κs = (c .before .pre .short, c .before .pre .id .within)
 
 or-zero-requires : tie.Need-or-zero-requires
 or-zero-requires c κs = search needs

@@ -9,13 +9,13 @@ enum-known-v : tie.Need-enum-known-v
 enum-known-v c = search needs
 
 cell-text-requires : tie.Need-cell-text-requires
-cell-text-requires c κs = search needs
+cell-text-requires c κs = let w = c .before .before .before .before .before .pre in (w .0 .segments, w .0 .tables, w .1 .id .within)
 
 enum-known-v-2 : tie.Need-enum-known-v-2
 enum-known-v-2 c = search needs
 
 cell-text-requires-2 : tie.Need-cell-text-requires-2
-cell-text-requires-2 c κs = search needs
+cell-text-requires-2 c κs = let w = c .before .before .before .before .before .pre in (w .0 .segments, w .0 .tables, w .1 .id .within)
 
 enum-known-v-3 : tie.Need-enum-known-v-3
 enum-known-v-3 c = search needs
@@ -24,10 +24,10 @@ code-text-requires : tie.Need-code-text-requires
 code-text-requires c κs = search needs
 
 returns : tie.Need-returns
-returns c = let a = c .before .before .before .before .before .before .args in text-column (now (a .job)) (a .s) (a .e) (a .p) (a .r .0) _ _ (c .before .before .v .given .1) (c .cell-text .ensures)
+returns c = let a = c .before .before .before .before .before .before .args in text-column (now (a .job)) (a .s) (a .e) (a .p) (a .r .0) _ _ (c .before .before .v .given .1) (rw (c .before .before .before .before .before .before .pre .1 .id .bytes) at (c .cell-text .ensures))
 
 returns-2 : tie.Need-returns-2
-returns-2 c = let a = c .before .before .before .before .before .before .args in text-group (now (a .job)) (a .s) (a .e) (a .p) (a .r .0) _ _ (c .before .before .v2 .given .1) (c .cell-text2 .ensures)
+returns-2 c = let a = c .before .before .before .before .before .before .args in text-group (now (a .job)) (a .s) (a .e) (a .p) (a .r .0) _ _ (c .before .before .v2 .given .1) (rw (c .before .before .before .before .before .before .pre .1 .id .bytes) at (c .cell-text2 .ensures))
 
 returns-3 : tie.Need-returns-3
 returns-3 c = let a = c .before .before .before .before .before .before .args in text-code (now (a .job)) (a .s) (a .e) (a .p) (a .r .0) _ _ (c .before .before .v3 .given .1) (c .code-text .ensures (now (a .job)))

@@ -5,14 +5,14 @@ use borrow.Author.Needs.{needs}
 use Rattle.row_segment.proofs.notes.tried_of.Statement.{statement}
 use Rattle.row_segment.proofs.notes.tried_of.Tie as tie
 
-name-number-requires : tie.Need-name-number-requires
-name-number-requires c κs = search needs
+id-number-requires : tie.Need-id-number-requires
+id-number-requires c κs = search needs
 
 delimiters-of-requires : tie.Need-delimiters-of-requires
 delimiters-of-requires c κs = search needs
 
 returns : tie.Need-returns
-returns c = record { name = c .before .name-number .ensures ∙ ap (numberFrom 0) (c .before .before .before .before .before .pre .id .bytes); delimiters = c .delimiters-of .ensures }
+returns c = record { name = c .before .id-number .ensures ∙ ap (numberFrom 0) (c .before .before .before .before .before .pre .id .bytes); delimiters = c .delimiters-of .ensures }
 
 pub tried-of-spec : {M : Type 1} → statement M
-tried-of-spec = tie.close (tie.spec name-number-requires delimiters-of-requires returns)
+tried-of-spec = tie.close (tie.spec id-number-requires delimiters-of-requires returns)

@@ -25,7 +25,6 @@ use Rattle.texts.proofs.render.envelope_date.Reads as envelope-date-reads
 use Rattle.texts.proofs.render.envelope_time.Reads as envelope-time-reads
 use Rattle.trigger.proofs.given.of_said.Reads as of-said-reads
 use Rattle.trigger.proofs.given.of_stretch.Reads as of-stretch-reads
-use Rattle.trigger.proofs.signs.max_by.Reads as max-by-reads
 
 date-requires : tie.Need-date-requires
 date-requires c κs = search needs

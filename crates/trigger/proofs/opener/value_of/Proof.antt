@@ -8,8 +8,7 @@ use Rattle.trigger.proofs.opener.value_of.Tie as tie
 use Rattle.trigger.proofs.opener.value_of.Reads as reads
 use Rattle.trigger.proofs.opener.value_of.Lts as lts
 use Rattle.emit.proofs.envelope.padded_value.Reads as padded-value-reads
-use Rattle.trigger.proofs.signs.max_by.Reads as max-by-reads
-use Rattle.trigger.proofs.signs.min_by.Reads as min-by-reads
+use Rattle.trigger.proofs.number.min_by.Reads as min-by-reads
 
 returns : tie.Need-returns
 returns c = λ y h. let s = c .before .before .before .before .args .src in raw-value (now (c .before .before .before .before .args .job)) (record { zeros = 0; bytes = s .bytes; count = s .count; start = s .start; len = s .len; spaces = 0 }) (y .1) (s .reason) (c .if1 .taken) refl refl
