@@ -23,10 +23,11 @@ use Rattle.format.specs.Decoding.{is-read}
 use Rattle.format.specs.Refusal.{over, overLoopPlan}
 use Rattle.format.specs.Passed.{Passed}
 use Rattle.format.specs.Ask.{planOf}
-use Rattle.plan.specs.Region.{Kept, Stored, Listed}
+use Rattle.spec.specs.Kept.{Kept, kept-same, kept-set, kept-then, kept-wide}
+use Rattle.spec.specs.Region.{Stored, Listed}
+use Rattle.spec.proofs.Storing.{stored-kept, listed}
 use Rattle.plan.specs.Index.{PlanIndexed, PlanFilled}
 use Rattle.plan.specs.Filling.{PlanInto, LayoutInto}
-use Rattle.plan.proofs.Storing.{kept-same, kept-set, kept-then, stored-kept, listed}
 
 -- ---- the planned segments of the loops, one after the other
 -- those of the first l are stored; at j the plan of loop j stands
@@ -56,7 +57,7 @@ module _ (b : List ℕ) (e : ℕ) where
   -- ---- the plan
   pub plan-into : (at m : ℕ) (old d new : List ℕ) → Kept 1024 1057 old d → Stored loopPlanC b e at 1024 d → Segments b e m d new → ((l : ℕ) → l < countAt b at e → l < 32 → l < m) → PlanInto b e at old new
   plan-into at m old d new k s h f = record {
-    kept = kept-then 1024 2278 1222 2278 old d new (kept-then 1024 2278 1024 1057 old old d (kept-same _ _ old) k (omega arith) (omega arith)) (h .kept) (omega arith) (omega arith);
+    kept = kept-then 1024 2278 1222 2278 old d new (kept-wide 1024 1057 1024 2278 old d (omega arith) (omega arith) k) (h .kept) (omega arith) (omega arith);
     plan = stored-kept loopPlanC b e at 1024 1222 2278 d new s (h .kept) (inl (omega arith));
     segments = λ l i j. let y : getD new (1025 + l) 0 ≡ getD d (1025 + l) 0 = h .kept .below (1025 + l) (omega arith) in rw y (h .stored l (f l i j));
   }
@@ -70,17 +71,17 @@ module _ (b : List ℕ) (e : ℕ) where
     last = kept-set 1189 1190 x₄ x₄ x₅ 1189 (small c) (kept-same _ _ x₄) w (omega arith) (omega arith)
 
     from₃ : Kept 1156 1222 x₃ x₅
-    from₃ = kept-then 1156 1222 1189 1190 x₃ x₄ x₅ (kept-then 1156 1222 1156 1189 x₃ x₃ x₄ (kept-same _ _ x₃) k₄ (omega arith) (omega arith)) last (omega arith) (omega arith)
+    from₃ = kept-then 1156 1222 1189 1190 x₃ x₄ x₅ (kept-wide 1156 1189 1156 1222 x₃ x₄ (omega arith) (omega arith) k₄) last (omega arith) (omega arith)
 
     from₂ : Kept 1123 1222 x₂ x₅
-    from₂ = kept-then 1123 1222 1156 1222 x₂ x₃ x₅ (kept-then 1123 1222 1123 1156 x₂ x₂ x₃ (kept-same _ _ x₂) k₃ (omega arith) (omega arith)) from₃ (omega arith) (omega arith)
+    from₂ = kept-then 1123 1222 1156 1222 x₂ x₃ x₅ (kept-wide 1123 1156 1123 1222 x₂ x₃ (omega arith) (omega arith) k₃) from₃ (omega arith) (omega arith)
 
     from₁ : Kept 1090 1222 x₁ x₅
-    from₁ = kept-then 1090 1222 1123 1222 x₁ x₂ x₅ (kept-then 1090 1222 1090 1123 x₁ x₁ x₂ (kept-same _ _ x₁) k₂ (omega arith) (omega arith)) from₂ (omega arith) (omega arith)
+    from₁ = kept-then 1090 1222 1123 1222 x₁ x₂ x₅ (kept-wide 1090 1123 1090 1222 x₁ x₂ (omega arith) (omega arith) k₂) from₂ (omega arith) (omega arith)
 
     pub layout-into : LayoutInto b e at x₀ x₅
     layout-into = record {
-      kept = kept-then 1057 1222 1090 1222 x₀ x₁ x₅ (kept-then 1057 1222 1057 1090 x₀ x₀ x₁ (kept-same _ _ x₀) k₁ (omega arith) (omega arith)) from₁ (omega arith) (omega arith);
+      kept = kept-then 1057 1222 1090 1222 x₀ x₁ x₅ (kept-wide 1057 1090 1057 1222 x₀ x₁ (omega arith) (omega arith) k₁) from₁ (omega arith) (omega arith);
       order = stored-kept _ b e at 1057 1090 1222 x₁ x₅ s₁ from₁ (inl (omega arith));
       forced = rw (← p₁) (stored-kept _ b e f 1090 1123 1222 x₂ x₅ s₂ from₂ (inl (omega arith)));
       columns = rw (← p₁, ← p₂) (stored-kept _ b e g 1123 1156 1222 x₃ x₅ s₃ from₃ (inl (omega arith)));
@@ -147,7 +148,7 @@ module _ (b old d new : List ℕ) (x : Passed b) (p : PlanInto b (layoutStart b)
     }
 
   pub plan-filled : PlanFilled b old new
-  plan-filled = record { kept = kept-then 1024 2560 1057 1222 old d new (kept-then 1024 2560 1024 2278 old old d (kept-same _ _ old) (p .kept) (omega arith) (omega arith)) (q .kept) (omega arith) (omega arith); indexed = plan-indexed }
+  plan-filled = record { kept = kept-then 1024 2560 1057 1222 old d new (kept-wide 1024 2278 1024 2560 old d (omega arith) (omega arith) (p .kept)) (q .kept) (omega arith) (omega arith); indexed = plan-indexed }
 
 -- the numbers of the trailer, as they were read
 pub filled : (b old d new : List ℕ) (p l e : ℕ) → Passed b → p ≡ planStart b → l ≡ layoutStart b → e ≡ envelopeStart b → PlanInto b l p old d → LayoutInto b e l d new → PlanFilled b old new

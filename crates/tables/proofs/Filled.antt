@@ -1,18 +1,17 @@
 -- What filling stores, put together.
 use Prim.Native.Nat.{ℕ, zero, suc, _+_, _*_, _≤_, _<_}
-use mathlib.Core.Path.{_≡_, refl, sym, ap, subst, _∙_}
+use mathlib.Core.Path.{_≡_, refl, sym, ap, _∙_}
 use mathlib.Core.List.{List, [], _∷_}
-use mathlib.Core.Option.{none}
 use mathlib.Core.Logic.{inl, inr}
 use mathlib.Core.Bool.{Bool, true, false}
 use native.Mathlib.Omega.{arith}
 use native.Mathlib.Numerals.{add-one}
-use lib.ListN.{length, getD, set, take, List·getD-eq-default}
+use lib.ListN.{length, getD, set, List·getD-eq-default}
 use lib.Seq.{getD-set-same, getD-set-other}
 use lib.Dec.{ltb}
 use borrow.Author.Tests.{ltb-true, ltb-false}
-use Rattle.codec.specs.Codec.{le, leC, listC}
-use Rattle.codec.specs.Forms.{numC, optC}
+use Rattle.codec.specs.Codec.{le, leC}
+use Rattle.codec.specs.Forms.{optC}
 use Rattle.codec.specs.Skip.{skip, countAt, Is, skip-le}
 use Rattle.codec.specs.Field.{is-list, count-list, is-le}
 use Rattle.codec.specs.Rows.{small}
@@ -23,16 +22,12 @@ use Rattle.format.specs.Decoding.{is-read}
 use Rattle.format.specs.Refusal.{over, overData, overTableData, rowsOfAll}
 use Rattle.format.specs.Passed.{Passed, few}
 use Rattle.format.specs.Ask.{dataOf}
-use Rattle.column.specs.Parts.{refsC, columnsPlace, TableDataIs, is-table-data}
-use Rattle.tables.specs.Region.{Kept, Stored, Listed}
-use Rattle.tables.proofs.Storing.{kept-same, kept-set, kept-then, stored-kept, listed}
-use Rattle.tables.specs.declared.fill.Part.{Part}
-use Rattle.tables.specs.Parts.{partC, columnsFrom, rowsBefore, rowsBy}
+use Rattle.column.specs.Parts.{refsC, is-table-data}
+use Rattle.spec.specs.Kept.{Kept, kept-same, kept-set, kept-then, kept-wide}
+use Rattle.spec.specs.Region.{Stored, Listed}
+use Rattle.spec.proofs.Storing.{stored-kept, listed}
+use Rattle.tables.specs.Parts.{columnsFrom, rowsBefore, rowsBy}
 use Rattle.tables.specs.Index.{TablesIndexed, TablesFilled}
-
--- the part by its case
-pub part-is : (p q : Part) (b : List ℕ) (at e r : ℕ) → p ≡ q → r ≡ skip (partC q) b at e → r ≡ skip (partC p) b at e
-part-is p q b at e r h k = subst (λ (s : Part). r ≡ skip (partC s) b at e) (sym h) k
 
 -- ---- the columns of the tables, one table after the other
 -- those of the first n are stored; at j the place of table j stands
@@ -193,7 +188,7 @@ module _ (b x₀ x₁ x₂ x₃ : List ℕ) (w : Passed b) (k₁ : Kept 2624 265
 
   pub tables-filled : TablesFilled b x₀ x₃
   tables-filled = record {
-    kept = kept-then 2624 4096 2657 2674 x₀ x₂ x₃ (kept-then 2624 4096 2674 3202 x₀ x₁ x₂ (kept-then 2624 4096 2624 2657 x₀ x₀ x₁ (kept-same _ _ x₀) k₁ (omega arith) (omega arith)) k₂ (omega arith) (omega arith)) k₃ (omega arith) (omega arith);
+    kept = kept-then 2624 4096 2657 2674 x₀ x₂ x₃ (kept-then 2624 4096 2674 3202 x₀ x₁ x₂ (kept-wide 2624 2657 2624 4096 x₀ x₁ (omega arith) (omega arith) k₁) k₂ (omega arith) (omega arith)) k₃ (omega arith) (omega arith);
     indexed = tables-indexed;
   }
 
