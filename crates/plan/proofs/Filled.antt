@@ -25,34 +25,18 @@ use Rattle.format.specs.Passed.{Passed}
 use Rattle.format.specs.Ask.{planOf}
 use Rattle.spec.specs.Kept.{Kept, kept-same, kept-set, kept-then, kept-wide}
 use Rattle.spec.specs.Region.{Stored, Listed}
-use Rattle.spec.proofs.Storing.{stored-kept, listed}
+use Rattle.spec.proofs.Storing.{Lists, stored-kept, listed}
 use Rattle.plan.specs.Index.{PlanIndexed, PlanFilled}
 use Rattle.plan.specs.Filling.{PlanInto, LayoutInto}
 
 -- ---- the planned segments of the loops, one after the other
--- those of the first l are stored; at j the plan of loop j stands
-pub record Segments (b : List ℕ) (e l : ℕ) (old new : List ℕ) : Type 0 where
-  pub kept : Kept 1222 2278 old new
-  pub stored : (j : ℕ) → j < l → Stored segmentPlanC b e (skip instancesC b (getD old (1025 + j) 0) e) (1222 + j * 33) new
+abbrev pub Segments : List ℕ → ℕ → ℕ → List ℕ → List ℕ → Type 0
+Segments b e = Lists segmentPlanC b e (λ p. skip instancesC b p e) 1025 1222 2278
 
 module _ (b : List ℕ) (e : ℕ) where
   -- the list stands behind the instances, which stand at q
   pub segments-at : (at p q k : ℕ) (new : List ℕ) → p ≡ q → at ≡ skip instancesC b p e → Stored segmentPlanC b e at k new → Stored segmentPlanC b e (skip instancesC b q e) k new
   segments-at at p q k new h i s = rw (← h, ← i) s
-
-  pub segments-none : (idx : List ℕ) → Segments b e 0 idx idx
-  segments-none idx = record { kept = kept-same _ _ idx; stored = λ j m. absurd (omega arith) }
-
-  pub segments-more : (l : ℕ) (old d new : List ℕ) → l < 32 → Segments b e l old d → Kept (1222 + l * 33) (1222 + l * 33 + 33) d new → Stored segmentPlanC b e (skip instancesC b (getD d (1025 + l) 0) e) (1222 + l * 33) new → Segments b e (l + 1) old new
-  segments-more l old d new m h k s = record { kept = kept-then 1222 2278 _ _ old d new (h .kept) k (omega arith) (omega arith); stored = λ j q. go j q (ltb j l) refl }
-    where
-      go : (j : ℕ) → j < l + 1 → (u : Bool) → ltb j l ≡ u → Stored segmentPlanC b e (skip instancesC b (getD old (1025 + j) 0) e) (1222 + j * 33) new
-      go j q true r = let o : j < l = ltb-true _ _ r in stored-kept segmentPlanC b e _ (1222 + j * 33) _ _ d new (h .stored j o) k (inl (omega arith))
-      go j q false r =
-          let o : l ≤ j = ltb-false _ _ r in
-          let z : j ≡ l = omega arith in
-          let y : getD d (1025 + l) 0 ≡ getD old (1025 + l) 0 = h .kept .below (1025 + l) (omega arith) in
-          rw (z, ← y) s
 
   -- ---- the plan
   pub plan-into : (at m : ℕ) (old d new : List ℕ) → Kept 1024 1057 old d → Stored loopPlanC b e at 1024 d → Segments b e m d new → ((l : ℕ) → l < countAt b at e → l < 32 → l < m) → PlanInto b e at old new

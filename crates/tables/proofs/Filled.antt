@@ -25,34 +25,18 @@ use Rattle.format.specs.Ask.{dataOf}
 use Rattle.column.specs.Parts.{refsC, is-table-data}
 use Rattle.spec.specs.Kept.{Kept, kept-same, kept-set, kept-then, kept-wide}
 use Rattle.spec.specs.Region.{Stored, Listed}
-use Rattle.spec.proofs.Storing.{stored-kept, listed}
+use Rattle.spec.proofs.Storing.{Lists, stored-kept, listed}
 use Rattle.tables.specs.Parts.{columnsFrom, rowsBefore, rowsBy}
 use Rattle.tables.specs.Index.{TablesIndexed, TablesFilled}
 
 -- ---- the columns of the tables, one table after the other
--- those of the first n are stored; at j the place of table j stands
-pub record Columns (b : List ℕ) (e n : ℕ) (old new : List ℕ) : Type 0 where
-  pub kept : Kept 2674 3202 old new
-  pub stored : (j : ℕ) → j < n → Stored (optC columnC) b e (columnsFrom b e (getD old (2625 + j) 0)) (2674 + j * 33) new
+abbrev pub Columns : List ℕ → ℕ → ℕ → List ℕ → List ℕ → Type 0
+Columns b e = Lists (optC columnC) b e (columnsFrom b e) 2625 2674 3202
 
 module _ (b : List ℕ) (e : ℕ) where
   -- the list stands behind rows, row, segment and refs
   pub columns-at : (p q r s t at k : ℕ) (new : List ℕ) → p ≡ q → r ≡ skip (leC 4) b p e → s ≡ skip (optC columnC) b r e → t ≡ skip (optC columnC) b s e → at ≡ skip refsC b t e → Stored (optC columnC) b e at k new → Stored (optC columnC) b e (columnsFrom b e q) k new
   columns-at p q r s t at k new h i j m n w = rw (← h, ← i, ← j, ← m, ← n) w
-
-  pub columns-none : (idx : List ℕ) → Columns b e 0 idx idx
-  columns-none idx = record { kept = kept-same _ _ idx; stored = λ j m. absurd (omega arith) }
-
-  pub columns-more : (t : ℕ) (old d new : List ℕ) → t < 16 → Columns b e t old d → Kept (2674 + t * 33) (2674 + t * 33 + 33) d new → Stored (optC columnC) b e (columnsFrom b e (getD d (2625 + t) 0)) (2674 + t * 33) new → Columns b e (t + 1) old new
-  columns-more t old d new m h k s = record { kept = kept-then 2674 3202 _ _ old d new (h .kept) k (omega arith) (omega arith); stored = λ j q. go j q (ltb j t) refl }
-    where
-      go : (j : ℕ) → j < t + 1 → (u : Bool) → ltb j t ≡ u → Stored (optC columnC) b e (columnsFrom b e (getD old (2625 + j) 0)) (2674 + j * 33) new
-      go j q true r = let o : j < t = ltb-true _ _ r in stored-kept (optC columnC) b e _ (2674 + j * 33) _ _ d new (h .stored j o) k (inl (omega arith))
-      go j q false r =
-          let o : t ≤ j = ltb-false _ _ r in
-          let z : j ≡ t = omega arith in
-          let y : getD d (2625 + t) 0 ≡ getD old (2625 + t) 0 = h .kept .below (2625 + t) (omega arith) in
-          rw (z, ← y) s
 
 -- ---- the rows before each table
 -- the numbers of the first t tables are stored; f rows stand before the next
