@@ -15,7 +15,7 @@ use Rattle.spec.specs.declared.ids.LoopId.{LoopId}
 use Rattle.nest.specs.Lists.{sum}
 use Rattle.nest.specs.Outline.{Outline, segment, itemLoops, orderOf}
 use Rattle.nest.specs.OfJob.{outlineOf, itemIn}
-use Rattle.nest.proofs.Bridge.{getD-map, length-map, loop-count-is}
+use Rattle.nest.proofs.Bridge.{order-length, order-item, loop-count-is}
 use Rattle.nest.proofs.Scan.{drop-next, sum-at, sum-past}
 use Rattle.walk.specs.declared.Context.{Context as Kept}
 use Rattle.walk.specs.Instances.{Context, outside, instances}
@@ -26,7 +26,6 @@ use Rattle.walk.specs.Census.{tooMany, counted}
 use Rattle.walk.proofs.Counts.{enters-deep, enters-visits, census-roots}
 use Rattle.walk.proofs.ContextLaws.{stands-outside}
 use Rattle.walk.proofs.NestedLaws.{sound-outside}
-use Rattle.due.proofs.Bridge.{order-is}
 use Rattle.instances.specs.declared.Cursor.{Cursor}
 use Rattle.instances.specs.declared.Next.{Next}
 use Rattle.instances.specs.Cursor.{coming, Going, Came}
@@ -49,22 +48,22 @@ module _ (j : Job) (h l : ℕ) (c : Context) (n i m : ℕ) (s : Below (outlineOf
   abbrev o : Outline
   o = outlineOf j
 
-  order-length : count ≡ length (orderOf o l)
-  order-length = e ∙ sym (ap length (order-is j l) ∙ length-map itemIn (A.orderOf j l))
+  items : count ≡ length (orderOf o l)
+  items = e ∙ sym (order-length j l)
 
   pub below-end : count ≤ i → m ≡ min (n + enteredBelow o h l c) tooMany
   unfolding belowFrom
   below-end z =
-      let past : length (orderOf o l) ≤ i = omega (arith, order-length) in
+      let past : length (orderOf o l) ≤ i = omega (arith, items) in
       let q : belowFrom o h l c i ≡ 0 = ap (λ xs. sum (enteredBy o h c) (itemLoops xs)) (drop-of-length-le (orderOf o l) past) in
       sym (s .rest ∙ omega (arith, q, s .few))
 
   module _ (x : Answer) (z : i < count) (a : itemOf x ≡ getD (A.orderOf j l) i noItem) where
     item-is : getD (orderOf o l) i (segment 0) ≡ itemIn (itemOf x)
-    item-is = ap (λ xs. getD xs i (segment 0)) (order-is j l) ∙ getD-map itemIn (A.orderOf j l) i noItem ∙ ap itemIn (sym a)
+    item-is = order-item j l i ∙ ap itemIn (sym a)
 
     here : drop i (orderOf o l) ≡ itemIn (itemOf x) ∷ drop (i + 1) (orderOf o l)
-    here = drop-next (orderOf o l) i (segment 0) (omega (arith, order-length)) ∙ ap (λ v. v ∷ drop (i + 1) (orderOf o l)) item-is
+    here = drop-next (orderOf o l) i (segment 0) (omega (arith, items)) ∙ ap (λ v. v ∷ drop (i + 1) (orderOf o l)) item-is
 
     pub below-segment : (k : ℕ) → x ≡ Segment k → Below o h l c n (i + 1) m
     unfolding belowFrom

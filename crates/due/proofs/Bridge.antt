@@ -1,6 +1,6 @@
--- What the accessors of a job say of its outline: the plan, the layout, and a loop's segments and children.
+-- What the accessors of a job say of its outline: cells, the layout, and whether a loop is required.
 use Prim.Native.Nat.{ℕ, zero, suc, _≤_, _<_}
-use mathlib.Core.Path.{_≡_, refl, ap, _∙_}
+use mathlib.Core.Path.{_≡_, refl, ap}
 use mathlib.Core.Bool.{Bool, true, false}
 use mathlib.Core.List.{List, [], _∷_, map}
 use native.Mathlib.Omega.{arith}
@@ -9,16 +9,14 @@ use lib.Dec.{ltb}
 use borrow.Author.Tests.{ltb-true, ltb-false, leb-false}
 use Rattle.codec.specs.Limits.{none-of, none-in}
 use Rattle.format.specs.Spec as S
-use Rattle.format.specs.Plan as P
 use Rattle.format.specs.Job.{Job}
 use Rattle.format.specs.Sections.{jobOf}
 use Rattle.format.specs.Refusal.{tangled, tangledLoops, outsideLoop, outside}
 use Rattle.format.specs.Passed.{Passed, few}
 use Rattle.format.specs.Ask as A
 use Rattle.spec.specs.Answers.{isRequired}
-use Rattle.nest.specs.Outline.{Plan, noLoop, noSegment, loopOf, planOf, orderOf, segmentOf, planned}
-use Rattle.nest.specs.OfJob.{outlineOf, loopIn, planIn, plannedIn, itemIn, isRequired as inOutline, groupTable, repeatTable, sameIn, sameChunkIn, filledIn}
-use Rattle.nest.proofs.Bridge.{getD-map, length-map}
+use Rattle.nest.specs.Outline.{noLoop, loopOf}
+use Rattle.nest.specs.OfJob.{outlineOf, loopIn, groupTable, repeatTable, sameIn, sameChunkIn, filledIn}
 
 module _ (j : Job) where
   pub filled-is : (l i t r : ℕ) → outlineOf j .filled l i t r ≡ filledIn j t (A.plannedOf j l i) r
@@ -41,39 +39,6 @@ module _ (j : Job) where
   unfolding outlineOf
   capacity-is t = refl
 
-  plan-is : (l : ℕ) → planOf (outlineOf j) l ≡ planIn (A.planOf j l)
-  unfolding outlineOf planOf A.planOf
-  plan-is l = getD-map planIn (j .plan) l P.noLoopPlan
-
-  pub planned-is : (l : ℕ) → planned (outlineOf j) l ≡ length ((A.planOf j l) .segments)
-  planned-is l = ap (λ (v : Plan). length (v .segments)) (plan-is l) ∙ length-map plannedIn ((A.planOf j l) .segments)
-
-  pub segment-is : (l i : ℕ) → segmentOf (outlineOf j) l i ≡ plannedIn (A.plannedOf j l i)
-  unfolding segmentOf A.plannedOf
-  segment-is l i = ap (λ (v : Plan). getD (v .segments) i noSegment) (plan-is l) ∙ getD-map plannedIn ((A.planOf j l) .segments) i P.noSegmentPlan
-
-  pub order-is : (l : ℕ) → orderOf (outlineOf j) l ≡ map itemIn (A.orderOf j l)
-  unfolding outlineOf orderOf A.orderOf
-  order-is l = getD-map (map itemIn) (j .layout .order) l []
-
-  pub children-is : (l : ℕ) → (loopOf (outlineOf j) l) .children ≡ (A.loopOf j l) .children
-  unfolding outlineOf loopOf A.loopOf
-  children-is l = go (j .spec .loops) l
-    where
-      go : (ls : List S.Loop) (l : ℕ) → (getD (map loopIn ls) l noLoop) .children ≡ (getD ls l S.noLoop) .children
-      go [] l = refl
-      go (x ∷ ls) zero = refl
-      go (x ∷ ls) (suc l) = go ls l
-
-  pub occurrences-is : (l : ℕ) → (loopOf (outlineOf j) l) .occurrences ≡ length ((A.loopOf j l) .occurrences)
-  unfolding outlineOf loopOf A.loopOf
-  occurrences-is l = go (j .spec .loops) l
-    where
-      go : (ls : List S.Loop) (l : ℕ) → (getD (map loopIn ls) l noLoop) .occurrences ≡ length ((getD ls l S.noLoop) .occurrences)
-      go [] l = refl
-      go (x ∷ ls) zero = refl
-      go (x ∷ ls) (suc l) = go ls l
-
   -- a loop that is not there is not required
   pub required-is : (l : ℕ) → l < length (j .spec .loops) → (loopOf (outlineOf j) l) .required ≡ isRequired ((A.loopOf j l) .usage)
   unfolding outlineOf loopOf A.loopOf
@@ -81,11 +46,7 @@ module _ (j : Job) where
     where
       go : (ls : List S.Loop) (l : ℕ) → l < length ls → (getD (map loopIn ls) l noLoop) .required ≡ isRequired ((getD ls l S.noLoop) .usage)
       go [] l h = absurd (omega arith)
-      go (x ∷ ls) zero h = same (x .usage)
-        where
-          same : (u : S.Usage) → inOutline u ≡ isRequired u
-          same S.required = refl
-          same S.situational = refl
+      go (x ∷ ls) zero h = refl
       go (x ∷ ls) (suc l) h = go ls l (omega arith)
 
   pub required-not : (l : ℕ) → length (j .spec .loops) ≤ l → (loopOf (outlineOf j) l) .required ≡ false

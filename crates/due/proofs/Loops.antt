@@ -22,13 +22,13 @@ use Rattle.plan.specs.declared.answers.Item.the-variants.{Segment}
 use Rattle.nest.specs.Lists.{some-of, is, upTo}
 use Rattle.nest.specs.Outline.{Outline, Planned, insideTable, sourceTable, loopOf, kindOf, orderOf, segmentOf, planned, hasOccurrence}
 use Rattle.nest.specs.OfJob.{outlineOf, kindIn, sourceIn, itemIn}
-use Rattle.nest.proofs.Bridge.{getD-map, length-map, kind-is, loop-count-is, data-count-is}
+use Rattle.nest.proofs.Bridge.{kind-is, planned-is, segment-is, order-length, order-item, children-is, occurrences-is, loop-count-is, data-count-is}
 use Rattle.nest.proofs.Scan.{some-yes, some-no, some-end}
 use Rattle.walk.specs.Instances.{ownData, hasData, shown}
 use Rattle.walk.specs.Tour.{dueRow, isOpener, opensAt, opened}
 use Rattle.walk.proofs.DataLaws.{dataIn, dataFrom, data-deep, data-own, data-below, data-found, data-next, data-end, shown-required, shown-data}
 use Rattle.walk.proofs.TourLaws as T
-use Rattle.due.proofs.Bridge.{forced-is, planned-is, segment-is, order-is, children-is, occurrences-is, required-is, required-not}
+use Rattle.due.proofs.Bridge.{forced-is, required-is, required-not}
 
 -- ---- the table that a loop stands inside, and that of a row segment
 
@@ -163,11 +163,11 @@ opens-segment o l i item x e d = rw e d
 
 module _ (j : Job) (l k n : ℕ) (c : n ≡ length (A.orderOf j l)) (w : opened (outlineOf j) l ≡ T.opensFrom (outlineOf j) l k) where
   items : length (orderOf (outlineOf j) l) ≡ n
-  items = ap length (order-is j l) ∙ length-map itemIn (A.orderOf j l) ∙ sym c
+  items = order-length j l ∙ sym c
 
   module _ (item : Item) (x : Bool) (h : k < n) (e : itemOf item ≡ getD (A.orderOf j l) k noItem) (d : x ≡ opensAt (outlineOf j) l (itemIn (itemOf item))) where
     opens : opensAt (outlineOf j) l (getD (orderOf (outlineOf j) l) k T.noItem) ≡ x
-    opens = ap (λ v. opensAt (outlineOf j) l (getD v k T.noItem)) (order-is j l) ∙ ap (opensAt (outlineOf j) l) (getD-map itemIn (A.orderOf j l) k noItem ∙ ap itemIn (sym e)) ∙ sym d
+    opens = ap (opensAt (outlineOf j) l) (order-item j l k ∙ ap itemIn (sym e)) ∙ sym d
 
     pub opens-here : x ≡ true → true ≡ opened (outlineOf j) l
     opens-here y = sym (w ∙ T.opens-here (outlineOf j) l k (omega (arith, h, items)) (opens ∙ y))

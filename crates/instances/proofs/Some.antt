@@ -20,7 +20,7 @@ use Rattle.walk.proofs.TourLaws.{inst-deep, inst-implied, someChild, child-foun
 use Rattle.instances.specs.declared.Cursor.{Cursor}
 use Rattle.instances.specs.declared.Next.{Next}
 use Rattle.instances.specs.Cursor.{coming, Going, rowless, isImplied, OfLoop, Came}
-use Rattle.due.proofs.Bridge.{children-is}
+use Rattle.nest.proofs.Bridge.{children-is}
 use Rattle.instances.proofs.Cursors.{coming-none, coming-one, going-rowless}
 
 abbrev pub some-in : Outline → ℕ → ℕ → Context → Bool

@@ -8,15 +8,14 @@ use lib.ListN.{length}
 use Rattle.format.specs.Job.{Job}
 use Rattle.format.specs.Sections.{jobOf}
 use Rattle.format.specs.Refusal.{refusalOf}
-use Rattle.nest.specs.OfJob.{outlineOf, loopIn}
-use Rattle.nest.proofs.Bridge.{length-map}
+use Rattle.nest.specs.OfJob.{outlineOf}
+use Rattle.nest.proofs.Bridge.{loop-count-is, plan-count-is, order-count-is}
 use Rattle.walk.specs.Complete.{Tree, Complete}
 use Rattle.complete.specs.Complete.{CompletePlan}
 use Rattle.complete.specs.Decides.{Decides}
 use Rattle.walk.proofs.Tests.{both, and-true}
 use Rattle.paths.specs.Tests.{condition1, condition3, condition4}
 use Rattle.paths.specs.Entries.{Entries4, Orders}
-use Rattle.paths.proofs.Bridge.{plan-count-is, order-count-is}
 use Rattle.paths.proofs.Walks.{conditions-walk, walk-conditions}
 use Rattle.places.specs.Fits.{Fits5}
 use Rattle.judge.specs.declared.Plan.{Plan}
@@ -31,15 +30,11 @@ decided P false d p = absurd (d .1 refl p)
 
 module _ (j : Job) (T : Tree (outlineOf j)) (a b c d : Bool) (one : a ≡ condition1 (outlineOf j)) (two : Decides b (Orders j)) (three : c ≡ condition3 (outlineOf j)) (four : d ≡ condition4 (outlineOf j)) (x y z : Bool) (u : x ≡ c && d) (v : y ≡ b && x) (w : z ≡ a && y) where
   -- one entry a loop, as the outline has it
-  loop-count-is : length (outlineOf j .loops) ≡ length (j .spec .loops)
-  unfolding outlineOf
-  loop-count-is = length-map loopIn (j .spec .loops)
-
   plan-entries : Entries4 j → length (outlineOf j .plan) ≡ length (outlineOf j .loops)
-  plan-entries e = plan-count-is j ∙ e .plan ∙ sym loop-count-is
+  plan-entries e = plan-count-is j ∙ e .plan ∙ sym (loop-count-is j)
 
   order-entries : Entries4 j → length (outlineOf j .order) ≡ length (outlineOf j .loops)
-  order-entries e = order-count-is j ∙ e .order ∙ sym loop-count-is
+  order-entries e = order-count-is j ∙ e .order ∙ sym (loop-count-is j)
 
   pub all-walked : z ≡ true → Entries4 j × (Tree (outlineOf j) → Complete (outlineOf j))
   all-walked h =
@@ -53,7 +48,7 @@ module _ (j : Job) (T : Tree (outlineOf j)) (a b c d : Bool) (one : a ≡ condit
   entries-of : CompletePlan j → Entries4 j
   entries-of C =
       let k = C .walked T in
-      record { entries = C .entries; plan = sym (plan-count-is j) ∙ k .plan-entries ∙ loop-count-is; order = sym (order-count-is j) ∙ k .order-entries ∙ loop-count-is }
+      record { entries = C .entries; plan = sym (plan-count-is j) ∙ k .plan-entries ∙ loop-count-is j; order = sym (order-count-is j) ∙ k .order-entries ∙ loop-count-is j }
 
   pub one-lacks : z ≡ false → Decides false (CompletePlan j)
   one-lacks h = (

@@ -24,8 +24,8 @@ use Rattle.format.specs.Refusal.{loopAt, loopsIn, outside, outsideLoop, outside
 use Rattle.nest.specs.Lists.{once, times, is, on}
 use Rattle.nest.specs.Outline as O
 use Rattle.nest.specs.Outline.{Outline, itemLoops}
-use Rattle.nest.specs.OfJob.{outlineOf, loopIn, itemIn}
-use Rattle.nest.proofs.Bridge.{parent-is, loops-is, loop-count-is, getD-map}
+use Rattle.nest.specs.OfJob.{outlineOf, itemIn}
+use Rattle.nest.proofs.Bridge.{parent-is, children-is, order-is, loops-is, loop-count-is}
 use Rattle.walk.specs.Complete.{Tree, climbs, isRoot}
 use Rattle.walk.proofs.Paths.{is-some, in-range}
 use Rattle.lossless.proofs.Words.{not-false}
@@ -159,13 +159,8 @@ module _ (j : Job) (pass : tangled j ≡ false) where
       inside p (if-some-false (outside n) ((loopAt ls l) .parent) p (none-of _ _ f .0) e)
 
   kids-are : (l : ℕ) → (O.loopOf o l) .children ≡ kids l
-  unfolding outlineOf O.loopOf kids
-  kids-are l = go ls l
-    where
-      go : (xs : List Loop) (i : ℕ) → (getD (map loopIn xs) i O.noLoop) .children ≡ (getD xs i noLoop) .children
-      go [] i = refl
-      go (x ∷ xs) zero = refl
-      go (x ∷ xs) (suc i) = go xs i
+  unfolding A.loopOf kids
+  kids-are l = children-is j l
 
   parent-at : (l : ℕ) → O.parentOf o l ≡ (loopAt ls l) .parent
   unfolding A.loopOf
@@ -249,9 +244,9 @@ module _ (j : Job) (pass : tangled j ≡ false) where
   items-loops (segmentItem i ∷ xs) = items-loops xs
   items-loops (loopItem l ∷ xs) = ap (λ (ys : List ℕ). l ∷ ys) (items-loops xs)
 
-  order-is : (l : ℕ) → itemLoops (O.orderOf o l) ≡ loopsIn (getD (j .layout .order) l [])
-  unfolding outlineOf O.orderOf
-  order-is l = ap itemLoops (getD-map (map itemIn) (j .layout .order) l []) ∙ items-loops (getD (j .layout .order) l [])
+  order-loops : (l : ℕ) → itemLoops (O.orderOf o l) ≡ loopsIn (getD (j .layout .order) l [])
+  unfolding A.orderOf
+  order-loops l = ap itemLoops (order-is j l) ∙ items-loops (getD (j .layout .order) l [])
 
   order-of : (l k : ℕ) → l < length (j .layout .order) → (b : Bool) → memberOf k (loopsIn (getD (j .layout .order) l [])) ≡ b → times k (loopsIn (getD (j .layout .order) l [])) ≤ times k (kids l)
   unfolding misordered notChild kids
@@ -274,7 +269,7 @@ module _ (j : Job) (pass : tangled j ≡ false) where
   nowhere t l h m = false≢true (ap (λ (v : Table). memberOf l (v .loops)) (sym (List·getD-eq-default (j .spec .tables) noTable {n = t} h)) ∙ m)
 
   order : (l k : ℕ) → times k (itemLoops (O.orderOf o l)) ≤ times k ((O.loopOf o l) .children)
-  order l k = rw (order-is l, kids-are l) (go (decLt l (length (j .layout .order))))
+  order l k = rw (order-loops l, kids-are l) (go (decLt l (length (j .layout .order))))
     where
       ordered : l < length (j .layout .order) → (b : Bool) → memberOf k (loopsIn (getD (j .layout .order) l [])) ≡ b → times k (loopsIn (getD (j .layout .order) l [])) ≤ times k (kids l)
       ordered h b m = order-of l k h b m

@@ -1,6 +1,6 @@
 -- What a complete plan and a job that passed say of a planned segment and of a segment of the spec.
-use Prim.Native.Nat.{ℕ, zero, suc, _<_}
-use mathlib.Core.Path.{_≡_, refl, sym, ap, _∙_}
+use Prim.Native.Nat.{ℕ, suc, _<_}
+use mathlib.Core.Path.{_≡_, sym, ap, _∙_}
 use mathlib.Core.Logic.{_≢_}
 use mathlib.Core.Bool.{Bool, true, false, cond}
 use mathlib.Core.List.{List, [], _∷_, map}
@@ -23,8 +23,8 @@ use Rattle.format.specs.Ask.{loopOf, planOf, plannedOf, identifierOf, segmentDe
 use Rattle.nest.specs.Lists.{All, on}
 use Rattle.nest.specs.Outline as O
 use Rattle.nest.specs.Outline.{ofRow, ofRepeat}
-use Rattle.nest.specs.OfJob.{outlineOf, loopIn, planIn, plannedIn, sourceIn}
-use Rattle.nest.proofs.Bridge.{getD-map}
+use Rattle.nest.specs.OfJob.{outlineOf, sourceIn}
+use Rattle.nest.proofs.Bridge.{segment-is, occurrences-is}
 use Rattle.complete.specs.Complete.{Segments, SegmentFits, Clear, CodeClear, RuleFits, IfThere, CompletePlan}
 use Rattle.lossless.proofs.Words.{all-get}
 use Rattle.lossless.proofs.Marks.{occurrence-clear}
@@ -78,10 +78,6 @@ module _ (j : Job) where
 
   -- ---- in the outline
 
-  segment-is : (l i : ℕ) → O.segmentOf (outlineOf j) l i ≡ plannedIn (plannedOf j l i)
-  unfolding outlineOf O.segmentOf O.planOf plannedOf planOf
-  segment-is l i = ap (λ (p : O.Plan). getD (p .segments) i O.noSegment) (getD-map planIn (j .plan) l noLoopPlan) ∙ getD-map plannedIn ((getD (j .plan) l noLoopPlan) .segments) i noSegmentPlan
-
   row-source : (s : Source) (t : ℕ) → sourceIn s ≡ ofRow t → s ≡ fromRow t
   row-source fromEnvelope t e = absurd (let z : _≡_ {A = ℕ} 0 1 = cc in omega arith)
   row-source (fromRow u) t e = let z : u ≡ t = cc in rw z
@@ -93,22 +89,13 @@ module _ (j : Job) where
   repeat-source (fromRepeat u) t e = let z : u ≡ t = cc in rw z
 
   pub of-row : (l i t : ℕ) → (O.segmentOf (outlineOf j) l i) .source ≡ ofRow t → (plannedOf j l i) .source ≡ fromRow t
-  of-row l i t e = row-source ((plannedOf j l i) .source) t (sym (ap (λ (p : O.Planned). p .source) (segment-is l i)) ∙ e)
+  of-row l i t e = row-source ((plannedOf j l i) .source) t (sym (ap (λ (p : O.Planned). p .source) (segment-is j l i)) ∙ e)
 
   pub of-repeat : (l i t : ℕ) → (O.segmentOf (outlineOf j) l i) .source ≡ ofRepeat t → (plannedOf j l i) .source ≡ fromRepeat t
-  of-repeat l i t e = repeat-source ((plannedOf j l i) .source) t (sym (ap (λ (p : O.Planned). p .source) (segment-is l i)) ∙ e)
-
-  occurrences-are : (l : ℕ) → (O.loopOf (outlineOf j) l) .occurrences ≡ length ((loopOf j l) .occurrences)
-  unfolding outlineOf O.loopOf loopOf
-  occurrences-are l = go (j .spec .loops) l
-    where
-      go : (xs : List Loop) (i : ℕ) → (getD (map loopIn xs) i O.noLoop) .occurrences ≡ length ((getD xs i noLoop) .occurrences)
-      go [] i = refl
-      go (x ∷ xs) zero = refl
-      go (x ∷ xs) (suc i) = go xs i
+  of-repeat l i t e = repeat-source ((plannedOf j l i) .source) t (sym (ap (λ (p : O.Planned). p .source) (segment-is j l i)) ∙ e)
 
   pub id-clear : unfit j ≡ false → (l i : ℕ) → O.hasOccurrence (outlineOf j) l i ≡ true → (identifierOf j l i ≢ []) × Clear j (identifierOf j l i)
   unfolding O.hasOccurrence identifierOf
   id-clear fit l i e =
       let k = ltb-true ((O.segmentOf (outlineOf j) l i) .occurrence) ((O.loopOf (outlineOf j) l) .occurrences) e in
-      occurrence-clear j fit l ((plannedOf j l i) .occurrence) (omega (arith, k, occurrences-are l, ap (λ (p : O.Planned). p .occurrence) (segment-is l i)))
+      occurrence-clear j fit l ((plannedOf j l i) .occurrence) (omega (arith, k, occurrences-is j l, ap (λ (p : O.Planned). p .occurrence) (segment-is j l i)))

@@ -10,16 +10,13 @@ use Rattle.format.specs.Layout as L
 use Rattle.format.specs.Data.{TableData}
 use Rattle.format.specs.Job.{Job}
 use Rattle.column.specs.Cell.{cellOf, segmentCell, keyOf, referenceOf, sameCell, sameAnswer, isNull}
+use Rattle.spec.specs.Answers.{isRequired}
 use Rattle.format.specs.Ask.{planOf, plannedOf, forcedOf, groupColumnsOf, capacityOf, dataOf}
 use Rattle.nest.specs.Lists.{on, each, some-of}
 use Rattle.nest.specs.Outline.{Outline, Loop, Table, Kind, absent, envelope, implied, rows, inside, groups, Source, ofEnvelope, ofRow, ofRepeat, Planned, Plan, Item, segment, loop}
 
 abbrev pub isThere : {A : Type 0} → Option A → Bool
 isThere x = on x (λ v. true) false
-
-abbrev pub isRequired : S.Usage → Bool
-isRequired S.required = true
-isRequired S.situational = false
 
 abbrev pub loopIn : S.Loop → Loop
 loopIn l = record { parent = l .parent; children = l .children; occurrences = length (l .occurrences); required = isRequired (l .usage); ends = isThere (l .end); controlled = isThere (l .control) }

@@ -29,7 +29,7 @@ use Rattle.plan.specs.Index.{PlanIndexed}
 use Rattle.nest.specs.Lists.{once, on, is, sum, times}
 use Rattle.nest.specs.Outline.{Outline, Table, Planned, Kind, rowTable, loopOf, tableOf, kindOf, orderOf, segmentOf, tableParent, plain, repeated, itemLoops, itemSegments}
 use Rattle.nest.specs.OfJob.{outlineOf, kindIn, sourceIn}
-use Rattle.nest.proofs.Bridge.{table-is, kind-is, parent-is, table-parent-is, loops-is}
+use Rattle.nest.proofs.Bridge.{table-is, kind-is, parent-is, planned-is, segment-is, order-is, children-is, occurrences-is, table-parent-is, loops-is}
 use Rattle.walk.specs.Check.{each-below, each-of, rowsOf, named, repeatTable, planned, if-there, past, fits}
 use Rattle.complete.specs.Decides.{Decides}
 use Rattle.paths.specs.Tests.{sameItem, segmentBelow, eachLoop, orderRight, onlyPlanned, rowFits, rowLoops, repeatsIn, plannedOnce, anchorsIn, namesPlain, segmentOrdered, loopOrdered}
@@ -37,7 +37,6 @@ use Rattle.paths.specs.Upward.{outcome}
 use Rattle.paths.specs.declared.up.Up.{Up}
 use Rattle.paths.specs.declared.up.Up.the-variants.{No, Top, On}
 use Rattle.paths.proofs.Tests.{Counting, count-start, count-done, Summing, sum-done, every, unlike, some-times, each-every, loop-times, segment-times, segments-below}
-use Rattle.paths.proofs.Bridge.{planned-is, segment-is, order-is, children-is, occurrences-is}
 
 -- ---- tests put together
 

@@ -1,8 +1,8 @@
--- What the accessors of a job say of its outline: plans, orders, children, occurrences.
-use Prim.Native.Nat.{ℕ, zero, suc, _<_}
-use mathlib.Core.Path.{_≡_, refl, ap, _∙_}
+-- Numbers of loops that a job which passed names are below 32.
+use Prim.Native.Nat.{ℕ, _<_}
+use mathlib.Core.Path.{_≡_, refl, ap}
 use mathlib.Core.Bool.{Bool, true, false}
-use mathlib.Core.List.{List, [], _∷_, map}
+use mathlib.Core.List.{List}
 use mathlib.Core.Option.{none, some}
 use native.Mathlib.Omega.{arith}
 use lib.ListN.{length, getD, List·getD-eq-default}
@@ -11,59 +11,10 @@ use borrow.Author.Tests.{ltb-true, ltb-false, leb-false}
 use Rattle.codec.specs.Limits.{none-of, none-in}
 use Rattle.format.specs.Words.{none-some}
 use Rattle.format.specs.Spec as S
-use Rattle.format.specs.Plan as P
-use Rattle.format.specs.Job.{Job}
 use Rattle.format.specs.Sections.{jobOf}
 use Rattle.format.specs.Refusal.{tangled, tangledLoops, outsideLoop, outsideTable, outside}
 use Rattle.format.specs.Passed.{Passed, few}
 use Rattle.format.specs.Ask as A
-use Rattle.nest.specs.Outline.{Plan, noLoop, noSegment, loopOf, planOf, orderOf, segmentOf, planned}
-use Rattle.nest.specs.OfJob.{outlineOf, loopIn, planIn, plannedIn, itemIn}
-use Rattle.nest.proofs.Bridge.{getD-map, length-map}
-
-module _ (j : Job) where
-  plan-is : (l : ℕ) → planOf (outlineOf j) l ≡ planIn (A.planOf j l)
-  unfolding outlineOf planOf A.planOf
-  plan-is l = getD-map planIn (j .plan) l P.noLoopPlan
-
-  pub plan-count-is : length (outlineOf j .plan) ≡ length (j .plan)
-  unfolding outlineOf
-  plan-count-is = length-map planIn (j .plan)
-
-  pub order-count-is : length (outlineOf j .order) ≡ length (j .layout .order)
-  unfolding outlineOf
-  order-count-is = length-map (map itemIn) (j .layout .order)
-
-  pub planned-is : (l : ℕ) → planned (outlineOf j) l ≡ length ((A.planOf j l) .segments)
-  planned-is l = ap (λ (v : Plan). length (v .segments)) (plan-is l) ∙ length-map plannedIn ((A.planOf j l) .segments)
-
-  pub segment-is : (l i : ℕ) → segmentOf (outlineOf j) l i ≡ plannedIn (A.plannedOf j l i)
-  unfolding segmentOf A.plannedOf
-  segment-is l i = ap (λ (v : Plan). getD (v .segments) i noSegment) (plan-is l) ∙ getD-map plannedIn ((A.planOf j l) .segments) i P.noSegmentPlan
-
-  pub order-is : (l : ℕ) → orderOf (outlineOf j) l ≡ map itemIn (A.orderOf j l)
-  unfolding outlineOf orderOf A.orderOf
-  order-is l = getD-map (map itemIn) (j .layout .order) l []
-
-  pub children-is : (l : ℕ) → (loopOf (outlineOf j) l) .children ≡ (A.loopOf j l) .children
-  unfolding outlineOf loopOf A.loopOf
-  children-is l = go (j .spec .loops) l
-    where
-      go : (ls : List S.Loop) (l : ℕ) → (getD (map loopIn ls) l noLoop) .children ≡ (getD ls l S.noLoop) .children
-      go [] l = refl
-      go (x ∷ ls) zero = refl
-      go (x ∷ ls) (suc l) = go ls l
-
-  pub occurrences-is : (l : ℕ) → (loopOf (outlineOf j) l) .occurrences ≡ length ((A.loopOf j l) .occurrences)
-  unfolding outlineOf loopOf A.loopOf
-  occurrences-is l = go (j .spec .loops) l
-    where
-      go : (ls : List S.Loop) (l : ℕ) → (getD (map loopIn ls) l noLoop) .occurrences ≡ length ((getD ls l S.noLoop) .occurrences)
-      go [] l = refl
-      go (x ∷ ls) zero = refl
-      go (x ∷ ls) (suc l) = go ls l
-
--- ---- numbers of loops that a job which passed names are below 32
 
 pub parent-small : (b : List ℕ) → Passed b → (l p : ℕ) → (A.loopOf (jobOf b) l) .parent ≡ some p → p < 32
 unfolding A.loopOf tangled tangledLoops outsideLoop outside

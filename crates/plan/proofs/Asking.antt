@@ -18,8 +18,8 @@ use Rattle.format.specs.Sections.{jobOf, layoutStart, envelopeStart}
 use Rattle.format.specs.Fields.{LoopPlanIs, is-loopPlan, SegmentPlanIs, is-segmentPlan}
 use Rattle.format.specs.Ask.{on, planOf, plannedOf, orderOf, forcedOf, groupColumnsOf, depthOf, capacityOf}
 use Rattle.plan.specs.Answers.{noItem}
-use Rattle.plan.specs.Region.{Listed, innerCount}
-use Rattle.plan.specs.Index.{PlanIndexed, segmentsAt}
+use Rattle.spec.specs.Region.{Listed}
+use Rattle.plan.specs.Index.{PlanIndexed, segmentsAt, innerCount}
 use Rattle.plan.specs.Elements.{Run, run-none}
 use Rattle.plan.proofs.Reading.{number-is, wide-item, wide-number, wide-order, wide-flag, flag-is}
 

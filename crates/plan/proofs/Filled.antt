@@ -23,40 +23,25 @@ use Rattle.format.specs.Decoding.{is-read}
 use Rattle.format.specs.Refusal.{over, overLoopPlan}
 use Rattle.format.specs.Passed.{Passed}
 use Rattle.format.specs.Ask.{planOf}
-use Rattle.plan.specs.Region.{Kept, Stored, Listed}
+use Rattle.spec.specs.Kept.{Kept, kept-same, kept-set, kept-then, kept-wide}
+use Rattle.spec.specs.Region.{Stored, Listed}
+use Rattle.spec.proofs.Storing.{Lists, stored-kept, listed}
 use Rattle.plan.specs.Index.{PlanIndexed, PlanFilled}
 use Rattle.plan.specs.Filling.{PlanInto, LayoutInto}
-use Rattle.plan.proofs.Storing.{kept-same, kept-set, kept-then, stored-kept, listed}
 
 -- ---- the planned segments of the loops, one after the other
--- those of the first l are stored; at j the plan of loop j stands
-pub record Segments (b : List ℕ) (e l : ℕ) (old new : List ℕ) : Type 0 where
-  pub kept : Kept 1222 2278 old new
-  pub stored : (j : ℕ) → j < l → Stored segmentPlanC b e (skip instancesC b (getD old (1025 + j) 0) e) (1222 + j * 33) new
+abbrev pub Segments : List ℕ → ℕ → ℕ → List ℕ → List ℕ → Type 0
+Segments b e = Lists segmentPlanC b e (λ p. skip instancesC b p e) 1025 1222 2278
 
 module _ (b : List ℕ) (e : ℕ) where
   -- the list stands behind the instances, which stand at q
   pub segments-at : (at p q k : ℕ) (new : List ℕ) → p ≡ q → at ≡ skip instancesC b p e → Stored segmentPlanC b e at k new → Stored segmentPlanC b e (skip instancesC b q e) k new
   segments-at at p q k new h i s = rw (← h, ← i) s
 
-  pub segments-none : (idx : List ℕ) → Segments b e 0 idx idx
-  segments-none idx = record { kept = kept-same _ _ idx; stored = λ j m. absurd (omega arith) }
-
-  pub segments-more : (l : ℕ) (old d new : List ℕ) → l < 32 → Segments b e l old d → Kept (1222 + l * 33) (1222 + l * 33 + 33) d new → Stored segmentPlanC b e (skip instancesC b (getD d (1025 + l) 0) e) (1222 + l * 33) new → Segments b e (l + 1) old new
-  segments-more l old d new m h k s = record { kept = kept-then 1222 2278 _ _ old d new (h .kept) k (omega arith) (omega arith); stored = λ j q. go j q (ltb j l) refl }
-    where
-      go : (j : ℕ) → j < l + 1 → (u : Bool) → ltb j l ≡ u → Stored segmentPlanC b e (skip instancesC b (getD old (1025 + j) 0) e) (1222 + j * 33) new
-      go j q true r = let o : j < l = ltb-true _ _ r in stored-kept segmentPlanC b e _ (1222 + j * 33) _ _ d new (h .stored j o) k (inl (omega arith))
-      go j q false r =
-          let o : l ≤ j = ltb-false _ _ r in
-          let z : j ≡ l = omega arith in
-          let y : getD d (1025 + l) 0 ≡ getD old (1025 + l) 0 = h .kept .below (1025 + l) (omega arith) in
-          rw (z, ← y) s
-
   -- ---- the plan
   pub plan-into : (at m : ℕ) (old d new : List ℕ) → Kept 1024 1057 old d → Stored loopPlanC b e at 1024 d → Segments b e m d new → ((l : ℕ) → l < countAt b at e → l < 32 → l < m) → PlanInto b e at old new
   plan-into at m old d new k s h f = record {
-    kept = kept-then 1024 2278 1222 2278 old d new (kept-then 1024 2278 1024 1057 old old d (kept-same _ _ old) k (omega arith) (omega arith)) (h .kept) (omega arith) (omega arith);
+    kept = kept-then 1024 2278 1222 2278 old d new (kept-wide 1024 1057 1024 2278 old d (omega arith) (omega arith) k) (h .kept) (omega arith) (omega arith);
     plan = stored-kept loopPlanC b e at 1024 1222 2278 d new s (h .kept) (inl (omega arith));
     segments = λ l i j. let y : getD new (1025 + l) 0 ≡ getD d (1025 + l) 0 = h .kept .below (1025 + l) (omega arith) in rw y (h .stored l (f l i j));
   }
@@ -70,17 +55,17 @@ module _ (b : List ℕ) (e : ℕ) where
     last = kept-set 1189 1190 x₄ x₄ x₅ 1189 (small c) (kept-same _ _ x₄) w (omega arith) (omega arith)
 
     from₃ : Kept 1156 1222 x₃ x₅
-    from₃ = kept-then 1156 1222 1189 1190 x₃ x₄ x₅ (kept-then 1156 1222 1156 1189 x₃ x₃ x₄ (kept-same _ _ x₃) k₄ (omega arith) (omega arith)) last (omega arith) (omega arith)
+    from₃ = kept-then 1156 1222 1189 1190 x₃ x₄ x₅ (kept-wide 1156 1189 1156 1222 x₃ x₄ (omega arith) (omega arith) k₄) last (omega arith) (omega arith)
 
     from₂ : Kept 1123 1222 x₂ x₅
-    from₂ = kept-then 1123 1222 1156 1222 x₂ x₃ x₅ (kept-then 1123 1222 1123 1156 x₂ x₂ x₃ (kept-same _ _ x₂) k₃ (omega arith) (omega arith)) from₃ (omega arith) (omega arith)
+    from₂ = kept-then 1123 1222 1156 1222 x₂ x₃ x₅ (kept-wide 1123 1156 1123 1222 x₂ x₃ (omega arith) (omega arith) k₃) from₃ (omega arith) (omega arith)
 
     from₁ : Kept 1090 1222 x₁ x₅
-    from₁ = kept-then 1090 1222 1123 1222 x₁ x₂ x₅ (kept-then 1090 1222 1090 1123 x₁ x₁ x₂ (kept-same _ _ x₁) k₂ (omega arith) (omega arith)) from₂ (omega arith) (omega arith)
+    from₁ = kept-then 1090 1222 1123 1222 x₁ x₂ x₅ (kept-wide 1090 1123 1090 1222 x₁ x₂ (omega arith) (omega arith) k₂) from₂ (omega arith) (omega arith)
 
     pub layout-into : LayoutInto b e at x₀ x₅
     layout-into = record {
-      kept = kept-then 1057 1222 1090 1222 x₀ x₁ x₅ (kept-then 1057 1222 1057 1090 x₀ x₀ x₁ (kept-same _ _ x₀) k₁ (omega arith) (omega arith)) from₁ (omega arith) (omega arith);
+      kept = kept-then 1057 1222 1090 1222 x₀ x₁ x₅ (kept-wide 1057 1090 1057 1222 x₀ x₁ (omega arith) (omega arith) k₁) from₁ (omega arith) (omega arith);
       order = stored-kept _ b e at 1057 1090 1222 x₁ x₅ s₁ from₁ (inl (omega arith));
       forced = rw (← p₁) (stored-kept _ b e f 1090 1123 1222 x₂ x₅ s₂ from₂ (inl (omega arith)));
       columns = rw (← p₁, ← p₂) (stored-kept _ b e g 1123 1156 1222 x₃ x₅ s₃ from₃ (inl (omega arith)));
@@ -147,7 +132,7 @@ module _ (b old d new : List ℕ) (x : Passed b) (p : PlanInto b (layoutStart b)
     }
 
   pub plan-filled : PlanFilled b old new
-  plan-filled = record { kept = kept-then 1024 2560 1057 1222 old d new (kept-then 1024 2560 1024 2278 old old d (kept-same _ _ old) (p .kept) (omega arith) (omega arith)) (q .kept) (omega arith) (omega arith); indexed = plan-indexed }
+  plan-filled = record { kept = kept-then 1024 2560 1057 1222 old d new (kept-wide 1024 2278 1024 2560 old d (omega arith) (omega arith) (p .kept)) (q .kept) (omega arith) (omega arith); indexed = plan-indexed }
 
 -- the numbers of the trailer, as they were read
 pub filled : (b old d new : List ℕ) (p l e : ℕ) → Passed b → p ≡ planStart b → l ≡ layoutStart b → e ≡ envelopeStart b → PlanInto b l p old d → LayoutInto b e l d new → PlanFilled b old new

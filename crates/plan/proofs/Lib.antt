@@ -1,4 +1,3 @@
-pub mod Storing
 pub mod Reading
 pub mod Asking
 pub mod Filled

@@ -25,7 +25,7 @@ use Rattle.spec.specs.declared.ids.Number.the-variants.{None, Is as IsNumber}
 use Rattle.plan.specs.declared.answers.ElementPlan.{ElementPlan}
 use Rattle.plan.specs.declared.answers.ValueSource.the-variants.{Column, Group, Code}
 use Rattle.plan.specs.Answers.{ValueRead, ElementRead}
-use Rattle.plan.proofs.Storing.{steps-more}
+use Rattle.spec.proofs.Storing.{steps-more}
 
 -- ---- numbers, options, byte strings
 pub number-is : (b : List ℕ) (e at n x : ℕ) → n ≡ le 4 b at → Is numC b e at x → n ≡ x

@@ -10,7 +10,8 @@ use Rattle.codec.specs.Rows.{small}
 use Rattle.format.specs.Plan.{instancesC, loopPlanC, segmentPlanC}
 use Rattle.format.specs.Layout.{itemC}
 use Rattle.format.specs.Fields.{layoutForced, layoutGroupColumns, layoutDepth, layoutCapacity}
-use Rattle.plan.specs.Region.{Kept, Stored}
+use Rattle.spec.specs.Kept.{Kept}
+use Rattle.spec.specs.Region.{Stored}
 
 pub record PlanInto (b : List ℕ) (e at : ℕ) (old new : List ℕ) : Type 0 where
   pub kept : Kept 1024 2278 old new

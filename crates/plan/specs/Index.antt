@@ -4,14 +4,16 @@ use mathlib.Core.Path.{_≡_}
 use mathlib.Core.List.{List}
 use native.Mathlib.Omega.{arith}
 use lib.ListN.{length, getD}
-use Rattle.codec.specs.Codec.{listC}
+use lib.Dec.{leb}
+use Rattle.codec.specs.Codec.{pick, le, listC}
 use Rattle.codec.specs.Forms.{numC, optC, flagC}
 use Rattle.codec.specs.Skip.{Is}
 use Rattle.format.specs.Plan.{loopPlanC, segmentPlanC}
 use Rattle.format.specs.Layout.{itemC}
 use Rattle.format.specs.Sections.{jobOf, layoutStart, envelopeStart}
 use Rattle.format.specs.Ask.{planOf}
-use Rattle.plan.specs.Region.{Kept, Listed, listed-kept}
+use Rattle.spec.specs.Kept.{Kept}
+use Rattle.spec.specs.Region.{Listed, listed-kept}
 
 -- from here on, the planned segments of a loop
 abbrev pub segmentsAt : ℕ → ℕ
@@ -50,3 +52,7 @@ plan-indexed-kept b idx new q h = record {
 pub record PlanFilled (b old new : List ℕ) : Type 0 where
   pub kept : Kept 1024 2560 old new
   pub indexed : 2560 ≤ length old → PlanIndexed b new
+
+-- how many items the inner list of number l has, by what the index and the job hold
+unfoldable pub innerCount : List ℕ → List ℕ → ℕ → ℕ → ℕ
+innerCount b idx k l = pick (leb (le 4 b (getD idx k 0)) l) 0 (le 4 b (getD idx (k + 1 + l) 0))

@@ -7,7 +7,7 @@ ghost use Rattle.codec.specs.Skip.{Is};
 ghost use Rattle.format.specs.Plan.{Instances as InstancesIn, instancesC, Source as SourceIn, sourceC, Value as ValueIn, valueC, ElementPlan as ElementPlanIn, elementPlanC, SegmentPlan as SegmentPlanIn, segmentPlanC};
 ghost use Rattle.format.specs.Layout.{Item as ItemIn, itemC};
 ghost use Rattle.plan.specs.Answers.{instancesOf, sourceOf, itemOf, ElementRead, ValueRead};
-ghost use Rattle.plan.specs.Region.{innerCount};
+ghost use Rattle.plan.specs.Index.{innerCount};
 use crate::answers::ElementPlan;
 use crate::answers::Instances;
 use crate::answers::Item;

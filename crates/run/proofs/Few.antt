@@ -1,16 +1,15 @@
 -- A loop has no more instances in a context than a table has rows, or one.
-use Prim.Native.Nat.{ℕ, zero, suc, _-_, _*_, _≤_}
+use Prim.Native.Nat.{ℕ, zero, suc, _*_, _≤_}
 use mathlib.Core.Path.{_≡_, refl, ap}
 use mathlib.Core.Bool.{Bool, true, false, cond, not}
 use mathlib.Core.List.{List, [], _∷_}
 use mathlib.Core.Option.{Option, none, some}
 use native.Mathlib.Omega.{arith}
-use lib.ListN.{length, length-take, length-drop}
+use lib.ListN.{length, length-take, length-drop, length-map}
 use lib.Dec.{eqb}
 use Rattle.nest.specs.Lists.{on, from, is, part, sum, some-of, is-empty}
 use Rattle.nest.specs.Outline.{Outline, Kind, absent, envelope, implied, rows, inside, groups, Item, segment, loop, itemLoops, loopOf, kindOf, orderOf, tableParent, rowCount, plain}
 use Rattle.nest.specs.Nest.{held, referred}
-use Rattle.nest.proofs.Bridge.{length-map}
 use Rattle.nest.proofs.Scan.{keep-length}
 use Rattle.walk.specs.Instances.{Context, Run, heldIn, cutTo, rowsIn, pieces, piecesOf, inRow, inPiece, shown, byKind, instances}
 use Rattle.walk.specs.Tour.{children}
@@ -71,8 +70,8 @@ module _ (j : Outline) where
     unfolding byKind
     kind-few below l c absent = omega arith
     kind-few below l c envelope = omega arith
-    kind-few below l c (rows t) = omega (arith, length-map (inRow t c) (rowsIn j t c), rows-few-in t c, few t)
-    kind-few below l c (groups t) = omega (arith, length-map (inPiece t c) (piecesOf (j .sameGroup l) (rowsIn j t c)), groups-few (j .sameGroup l) (rowsIn j t c), rows-few-in t c, few t)
+    kind-few below l c (rows t) = omega (arith, length-map (rowsIn j t c) (inRow t c), rows-few-in t c, few t)
+    kind-few below l c (groups t) = omega (arith, length-map (piecesOf (j .sameGroup l) (rowsIn j t c)) (inPiece t c), groups-few (j .sameGroup l) (rowsIn j t c), rows-few-in t c, few t)
     kind-few below l c (inside t) = go (c .row t)
       where
         go : (x : Option ℕ) → length (on x (λ r. cond (shown j l t r) (c ∷ []) []) []) ≤ R

@@ -2,7 +2,7 @@
 use Prim.Native.Nat.{ℕ, zero, suc, _≤_, _<_}
 use mathlib.Core.Path.{_≡_, refl, sym, ap, _∙_}
 use mathlib.Core.Bool.{Bool, true, false}
-use mathlib.Core.List.{List, [], _∷_, map}
+use mathlib.Core.List.{List, [], _∷_}
 use native.Mathlib.Omega.{arith}
 use native.Mathlib.Decide.{decLt}
 use lib.ListN.{length, getD, List·getD-eq-default}
@@ -10,7 +10,6 @@ use lib.Dec.{ltb}
 use borrow.Author.Tests.{ltb-true, ltb-false, leb-false}
 use Rattle.codec.specs.Codec.{pick}
 use Rattle.codec.specs.Limits.{anyOf, none-of, none-in}
-use Rattle.format.specs.Spec as S
 use Rattle.format.specs.Layout as L
 use Rattle.format.specs.Job.{Job}
 use Rattle.format.specs.Sections.{jobOf}
@@ -24,57 +23,28 @@ use Rattle.spec.specs.declared.ids.ControlRule.{ControlRule}
 use Rattle.spec.specs.declared.ids.Stretch.{Stretch}
 use Rattle.spec.specs.declared.ids.Text.{Text}
 use Rattle.spec.specs.declared.ids.Text.the-variants as texts
-use Rattle.nest.specs.Outline.{Loop, Planned, Item, noLoop, loopOf, segmentOf, orderOf, rowCount}
-use Rattle.nest.specs.OfJob.{outlineOf, loopIn, sourceIn, itemIn, isThere}
+use Rattle.nest.specs.Outline.{Planned, Item, loopOf, segmentOf, orderOf, rowCount}
+use Rattle.nest.specs.OfJob.{outlineOf, sourceIn, itemIn}
 use Rattle.nest.specs.Ready.{outlineAt}
-use Rattle.nest.proofs.Bridge.{getD-map, length-map, data-count-is}
+use Rattle.nest.proofs.Bridge.{controlled-is, ends-is, segment-is, data-count-is}
 use Rattle.nest.proofs.Sizes.{rows-past}
-use Rattle.due.proofs.Bridge.{segment-is, order-is}
 use Rattle.run.specs.Went.{itemLoop}
 
 module _ (j : Job) where
-  -- ---- loops
-
-  pub controlled-is : (l : ℕ) → (loopOf (outlineOf j) l) .controlled ≡ isThere ((A.loopOf j l) .control)
-  unfolding outlineOf loopOf A.loopOf
-  controlled-is l = go (j .spec .loops) l
-    where
-      go : (ls : List S.Loop) (l : ℕ) → (getD (map loopIn ls) l noLoop) .controlled ≡ isThere ((getD ls l S.noLoop) .control)
-      go [] l = refl
-      go (x ∷ ls) zero = refl
-      go (x ∷ ls) (suc l) = go ls l
-
-  pub ends-is : (l : ℕ) → (loopOf (outlineOf j) l) .ends ≡ isThere ((A.loopOf j l) .end)
-  unfolding outlineOf loopOf A.loopOf
-  ends-is l = go (j .spec .loops) l
-    where
-      go : (ls : List S.Loop) (l : ℕ) → (getD (map loopIn ls) l noLoop) .ends ≡ isThere ((getD ls l S.noLoop) .end)
-      go [] l = refl
-      go (x ∷ ls) zero = refl
-      go (x ∷ ls) (suc l) = go ls l
-
   pub with-control : (l : ℕ) (k : Controls) (r : ControlRule) → controlOf k ≡ (A.loopOf j l) .control → k ≡ controls.Is r → true ≡ (loopOf (outlineOf j) l) .controlled
-  with-control l k r e q = sym (controlled-is l ∙ rw (← e) (rw q refl))
+  with-control l k r e q = sym (controlled-is j l ∙ rw (← e) (rw q refl))
 
   pub without-control : (l : ℕ) (k : Controls) → controlOf k ≡ (A.loopOf j l) .control → k ≡ controls.None → false ≡ (loopOf (outlineOf j) l) .controlled
-  without-control l k e q = sym (controlled-is l ∙ rw (← e) (rw q refl))
+  without-control l k e q = sym (controlled-is j l ∙ rw (← e) (rw q refl))
 
   pub with-end : (b : List ℕ) (l : ℕ) (k : Text) (s : Stretch) → HoldsText b k ((A.loopOf j l) .end) → k ≡ texts.Is s → true ≡ (loopOf (outlineOf j) l) .ends
-  with-end b l k s h q = sym (ends-is l ∙ rw (← h .bytes) (rw q refl))
+  with-end b l k s h q = sym (ends-is j l ∙ rw (← h .bytes) (rw q refl))
 
   pub without-end : (b : List ℕ) (l : ℕ) (k : Text) → HoldsText b k ((A.loopOf j l) .end) → k ≡ texts.None → false ≡ (loopOf (outlineOf j) l) .ends
-  without-end b l k h q = sym (ends-is l ∙ rw (← h .bytes) (rw q refl))
-
-  -- ---- the plan and the order
+  without-end b l k h q = sym (ends-is j l ∙ rw (← h .bytes) (rw q refl))
 
   pub source-is : (l i : ℕ) → (segmentOf (outlineOf j) l i) .source ≡ sourceIn ((A.plannedOf j l i) .source)
   source-is l i = ap (λ (p : Planned). p .source) (segment-is j l i)
-
-  pub order-length : (l : ℕ) → length (orderOf (outlineOf j) l) ≡ length (A.orderOf j l)
-  order-length l = ap length (order-is j l) ∙ length-map itemIn (A.orderOf j l)
-
-  pub order-item : (l k : ℕ) → getD (orderOf (outlineOf j) l) k (itemIn (L.segmentItem 0)) ≡ itemIn (getD (A.orderOf j l) k (L.segmentItem 0))
-  order-item l k = ap (λ (xs : List Item). getD xs k (itemIn (L.segmentItem 0))) (order-is j l) ∙ getD-map itemIn (A.orderOf j l) k (L.segmentItem 0)
 
 -- ---- loops have numbers below 32
 

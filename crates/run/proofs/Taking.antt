@@ -30,9 +30,8 @@ use Rattle.nest.specs.declared.Found.the-variants as found
 use Rattle.nest.specs.Nest.{Row, rowOf}
 use Rattle.nest.specs.OfJob.{outlineOf, kindIn, sourceIn}
 use Rattle.nest.specs.Ready.{outlineAt}
-use Rattle.nest.proofs.Bridge.{kind-is}
+use Rattle.nest.proofs.Bridge.{kind-is, planned-is}
 use Rattle.nest.proofs.Placing.{rows-few}
-use Rattle.due.proofs.Bridge.{planned-is}
 use Rattle.walk.specs.declared.Context.{Context as Kept}
 use Rattle.walk.specs.Instances.{Context}
 use Rattle.walk.specs.Contexts.{contextBy}

@@ -37,7 +37,7 @@ use Rattle.emit.specs.Did.{stateOf, Did, Fit, Small, Took}
 use Rattle.emit.proofs.TookLaws.{did-steps, took-none}
 use Rattle.run.specs.declared.Visited.{Visited}
 use Rattle.run.specs.Went.{Walks, Went, itemLoop, itemCount}
-use Rattle.run.proofs.Reading.{order-length, order-item}
+use Rattle.nest.proofs.Bridge.{order-length, order-item}
 use Rattle.run.proofs.Few.{instances-few, children-few}
 use Rattle.run.proofs.Along.{Along, along-none, along-next, along-end, along-room}
 

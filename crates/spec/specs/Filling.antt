@@ -139,7 +139,7 @@ module _ (b : List ℕ) (w : Passed b) where
     k₃ = kept-stored 232 328 d₂ d₃ (tableRows b (planStart b) (specTables b (planStart b) 0)) 232 e₃ (omega arith) (omega (arith, tables-long))
 
     pub spec-kept : Kept 0 1024 d₀ d₃
-    spec-kept = kept-then 0 1024 d₀ d₁ d₃ (kept-wide 0 4 0 1024 d₀ d₁ (omega arith) (omega arith) k₁) (kept-then 0 1024 d₁ d₂ d₃ (kept-wide 8 232 0 1024 d₁ d₂ (omega arith) (omega arith) k₂) (kept-wide 232 328 0 1024 d₂ d₃ (omega arith) (omega arith) k₃))
+    spec-kept = kept-then 0 1024 232 328 d₀ d₂ d₃ (kept-then 0 1024 8 232 d₀ d₁ d₂ (kept-wide 0 4 0 1024 d₀ d₁ (omega arith) (omega arith) k₁) k₂ (omega arith) (omega arith)) k₃ (omega arith) (omega arith)
 
     pub spec-filled : 10752 ≤ length d₀ → SpecIndexed b d₃
     spec-filled m =

@@ -4,7 +4,7 @@ use mathlib.Core.Path.{_≡_, refl, _∙_}
 use mathlib.Core.List.{List, [], _∷_, _++_}
 use native.Mathlib.Omega.{arith}
 use native.Mathlib.Nat.{zero-mul, suc-mul}
-use lib.ListN.{length, getD, set}
+use lib.ListN.{length, getD, set, length-set}
 use lib.Seq.{sets, length-sets, getD-set-other}
 use Rattle.codec.specs.Codec.{Codec}
 use Rattle.codec.specs.Skip.{steps}
@@ -31,8 +31,19 @@ pub kept-stored : (from to : ℕ) (l m vs : List ℕ) (p : ℕ) → m ≡ stored
 unfolding stored
 kept-stored from to l m vs p e h k = rw e (record { long = length-sets l p vs; below = λ i q. getD-sets-out vs l p i (omega arith); above = λ i q. getD-sets-past vs l p i (omega arith) })
 
-pub kept-then : (from to : ℕ) (k l m : List ℕ) → Kept from to k l → Kept from to l m → Kept from to k m
-kept-then from to k l m x y = record { long = y .long ∙ x .long; below = λ i h. y .below i h ∙ x .below i h; above = λ i h. y .above i h ∙ x .above i h }
+pub kept-set : (from to : ℕ) (l d new : List ℕ) (k x : ℕ) → Kept from to l d → new ≡ set d k x → from ≤ k → k < to → Kept from to l new
+kept-set from to l d new k x h q i j = record {
+  long = rw q (length-set d k x ∙ h .long);
+  below = λ n m. rw q (getD-set-other d k n x 0 (omega arith) ∙ h .below n m);
+  above = λ n m. rw q (getD-set-other d k n x 0 (omega arith) ∙ h .above n m);
+}
+
+pub kept-then : (from to p q : ℕ) (l d new : List ℕ) → Kept from to l d → Kept p q d new → from ≤ p → q ≤ to → Kept from to l new
+kept-then from to p q l d new h k i j = record {
+  long = k .long ∙ h .long;
+  below = λ n m. k .below n (omega arith) ∙ h .below n m;
+  above = λ n m. k .above n (omega arith) ∙ h .above n m;
+}
 
 pub kept-wide : (from to from′ to′ : ℕ) (l m : List ℕ) → from′ ≤ from → to ≤ to′ → Kept from to l m → Kept from′ to′ l m
 kept-wide from to from′ to′ l m h k x = record { long = x .long; below = λ i q. x .below i (omega arith); above = λ i q. x .above i (omega arith) }

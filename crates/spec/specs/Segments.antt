@@ -1,5 +1,5 @@
 -- The index over the segment map: at 4096 the place of the map, behind it the place of each entry.
-use Prim.Native.Nat.{ℕ, suc, _+_, _*_, _-_, _≤_, _<_}
+use Prim.Native.Nat.{ℕ, suc, _+_, _*_, _≤_, _<_}
 use mathlib.Core.Path.{_≡_, refl, ap, _∙_}
 use mathlib.Core.List.{List, [], _∷_}
 use mathlib.Core.Bool.{Bool, true, false, not}
@@ -155,5 +155,5 @@ module _ (b : List ℕ) (w : Passed b) where
       let k₂ : Kept 4097 10752 d₁ d₂ = kept-stored 4097 10752 d₁ d₂ (entryRows b (planStart b) (specSegments b (planStart b) 0)) 4097 e₂ (omega arith) (omega (arith, n, m, c)) in
       let g = k₁ .long in (
         λ r. segments-indexed d₂ (has-below d₁ d₂ (small (specSegments b (planStart b) 0) ∷ []) 4096 4097 10752 (has-stored d₀ d₁ (small (specSegments b (planStart b) 0) ∷ []) 4096 e₁ (omega arith)) k₂ (omega arith)) (has-stored d₁ d₂ (entryRows b (planStart b) (specSegments b (planStart b) 0)) 4097 e₂ (omega (arith, n, m, c, g))) bs,
-        kept-then 4096 10752 d₀ d₁ d₂ (kept-wide 4096 4097 4096 10752 d₀ d₁ (omega arith) (omega arith) k₁) (kept-wide 4097 10752 4096 10752 d₁ d₂ (omega arith) (omega arith) k₂),
+        kept-then 4096 10752 4097 10752 d₀ d₁ d₂ (kept-wide 4096 4097 4096 10752 d₀ d₁ (omega arith) (omega arith) k₁) k₂ (omega arith) (omega arith),
       )

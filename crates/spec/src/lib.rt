@@ -5,6 +5,7 @@ pub mod fill;
 pub mod ids;
 pub mod loops;
 pub mod read;
+pub mod region;
 pub mod segments;
 pub mod tables;
 pub mod version;

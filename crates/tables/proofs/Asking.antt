@@ -4,9 +4,9 @@ use mathlib.Core.Path.{_≡_, refl, sym, ap, _∙_}
 use mathlib.Core.List.{List, [], _∷_}
 use mathlib.Core.Option.{Option, none, some}
 use native.Mathlib.Omega.{arith}
-use lib.ListN.{length, getD, take, List·getD-eq-default}
+use lib.ListN.{length, getD, List·getD-eq-default}
 use Rattle.codec.specs.Codec.{le}
-use Rattle.codec.specs.Forms.{numC, optC}
+use Rattle.codec.specs.Forms.{optC}
 use Rattle.codec.specs.Skip.{skip, Is}
 use Rattle.codec.specs.Field.{is-list, is-le, is-in}
 use Rattle.codec.specs.declared.OptNum.{OptNum}
@@ -15,12 +15,10 @@ use Rattle.format.specs.Data.{Column, columnC, TableData, tableDataC, noTableDa
 use Rattle.format.specs.Sections.{jobOf, trailer}
 use Rattle.format.specs.Refusal.{rowsOfAll}
 use Rattle.format.specs.Ask.{dataOf}
-use Rattle.column.specs.Cell.{Cell as CellIn, cellIn, cellOf, segmentCell, optGet, keyOf, keyIn, referenceOf, referenceIn, refColumn}
+use Rattle.column.specs.Cell.{cellOf, segmentCell, optGet, keyOf, referenceOf, referenceIn, refColumn}
 use Rattle.column.specs.Answers.{Reads, Within, cellAt, placeOf}
-use Rattle.column.specs.declared.Cell.{Cell}
 use Rattle.column.specs.declared.Cell.the-variants as cell
-use Rattle.column.specs.Parts.{refsC, segmentPlace, refsPlace, TableDataIs, is-table-data, absent-cell, absent-key, past-cell}
-use Rattle.tables.specs.Region.{Listed}
+use Rattle.column.specs.Parts.{refsC, TableDataIs, is-table-data, absent-cell, absent-key, past-cell}
 use Rattle.tables.specs.Parts.{TableAt, rowsBefore}
 use Rattle.tables.specs.Index.{TablesIndexed}
 

@@ -10,7 +10,8 @@ use Rattle.format.specs.Data.{columnC, tableDataC}
 use Rattle.format.specs.Sections.{jobOf, trailer}
 use Rattle.format.specs.Refusal.{rowsOfAll}
 use Rattle.format.specs.Ask.{dataOf}
-use Rattle.tables.specs.Region.{Kept, Listed, listed-kept}
+use Rattle.spec.specs.Kept.{Kept}
+use Rattle.spec.specs.Region.{Listed, listed-kept}
 use Rattle.tables.specs.Parts.{rowsBefore}
 
 -- from here on, the columns of a table

@@ -1,28 +1,17 @@
--- The lists of data that the index has places of, and what is read of them.
+-- What is read of the lists of data that the index has places of.
 use Prim.Native.Nat.{ℕ, zero, suc, _+_}
-use mathlib.Core.Path.{_≡_, sym, subst}
+use mathlib.Core.Path.{_≡_}
 use mathlib.Core.List.{List}
-use mathlib.Core.Option.{Option}
-use lib.ListN.{length, getD, take}
-use Rattle.codec.specs.Codec.{Codec, le, leC}
+use lib.ListN.{getD, take}
+use Rattle.codec.specs.Codec.{le, leC}
 use Rattle.codec.specs.Forms.{optC}
 use Rattle.codec.specs.Skip.{skip, Is}
 use Rattle.codec.specs.declared.OptNum.{OptNum}
 use Rattle.codec.specs.declared.OptNum.the-variants.{Num, Nothing}
-use Rattle.format.specs.Data.{Column as ColumnIn, columnC, TableData, tableDataC, noTableData}
+use Rattle.format.specs.Data.{columnC, TableData, tableDataC, noTableData}
 use Rattle.format.specs.Sections.{trailer}
 use Rattle.format.specs.Refusal.{rowsOfAll}
 use Rattle.column.specs.Parts.{refsC}
-use Rattle.tables.specs.declared.fill.Part.{Part}
-use Rattle.tables.specs.declared.fill.Part.the-variants.{Table, Column}
-
-abbrev pub PartOf : Part → Type 0
-PartOf Table = TableData
-PartOf Column = Option ColumnIn
-
-abbrev pub partC : (p : Part) → Codec (PartOf p)
-partC Table = tableDataC
-partC Column = optC columnC
 
 -- where the columns of a table's data stand
 abbrev pub columnsFrom : List ℕ → ℕ → ℕ → ℕ

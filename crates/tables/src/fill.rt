@@ -2,56 +2,16 @@
 ghost use mathlib.Core.Path.{_≡_};
 ghost use Prim.Native.Nat.{ℕ, _+_, _*_, _≤_, _<_};
 ghost use lib.ListN.{length, getD};
-ghost use Rattle.codec.specs.Codec.{listC};
 ghost use Rattle.codec.specs.Forms.{optC};
-ghost use Rattle.codec.specs.Skip.{skip};
 ghost use Rattle.codec.specs.Rows.{small};
 ghost use Rattle.format.specs.Data.{columnC};
 ghost use Rattle.format.specs.Passed.{Passed};
-ghost use Rattle.tables.specs.Region.{putItem, Kept, Stored};
-ghost use Rattle.tables.specs.Parts.{partC, columnsFrom, rowsBy};
+ghost use Rattle.spec.specs.Kept.{Kept};
+ghost use Rattle.spec.specs.Region.{Stored};
+ghost use Rattle.tables.specs.Parts.{columnsFrom, rowsBy};
 ghost use Rattle.tables.specs.Index.{TablesFilled};
-
-// The lists whose places are stored, by what their items are.
-pub enum Part {
-    Table,
-    Column,
-}
-
-// The place behind the part that stands at a place.
-pub fn part_at(job: &[u8], part: Part, at: usize, end: u32) -> usize
-    ensures { λ r. ⌜ r ≡ skip (partC part) (now (job .entry)) at end ⌝ }
-{
-    match part {
-        Part::Table => format::table_data_at(job, at, end),
-        Part::Column => format::opt_column_at(job, at, end),
-    }
-}
-
-// Stores the place of item i of the list whose numbers begin at k, if it is among the first 32.
-pub fn put_item(index: &mut [u32], k: u32, i: usize, p: usize)
-    ensures { λ r. ⌜ now (index .exit) ≡ putItem (now (index .entry)) k i p ⌝ }
-{
-    if i < 32 {
-        codec::put(index, k as usize + 1 + i, p);
-        return;
-    }
-}
-
-// Stores the place of a list and those of its items.
-pub fn list_into(job: &[u8], index: &mut [u32], part: Part, k: u32, at: usize, end: u32)
-    ensures { λ r. ⌜ Kept k (k + 33) (now (index .entry)) (now (index .exit)) × Stored (partC part) (now (job .entry)) end at k (now (index .exit)) ⌝ }
-{
-    let n = codec::count_at(job, at, end);
-    let mut p = codec::le_at(job, 4, at, end);
-    let mut i: usize = 0;
-    while i < n {
-        put_item(index, k, i, p);
-        p = part_at(job, part, p, end);
-        i = i + 1;
-    }
-    codec::put(index, k as usize, at);
-}
+use spec::region::Part;
+use spec::region::list_into;
 
 // Stores the places of the columns of table t, whose place is stored.
 pub fn columns_into(job: &[u8], index: &mut [u32], t: u32, end: u32)
@@ -63,7 +23,14 @@ pub fn columns_into(job: &[u8], index: &mut [u32], t: u32, end: u32)
     let segment = format::opt_column_at(job, row, end);
     let refs = format::opt_column_at(job, segment, end);
     let columns = format::references_at(job, refs, end);
-    list_into(job, index, Part::Column, 2674 + t * 33, columns, end);
+    list_into(
+        job,
+        index,
+        Part::Column,
+        2674 + t as usize * 33,
+        columns,
+        end,
+    );
 }
 
 // The same for the first n tables.

@@ -1,6 +1,7 @@
 use Prim.Native.Nat.{_-_, _≤_}
 use native.Mathlib.Omega.{arith}
-use Rattle.plan.proofs.Filled.{Segments, segments-none, segments-more}
+use Rattle.spec.proofs.Storing.{lists-none, lists-more}
+use Rattle.plan.proofs.Filled.{Segments}
 use borrow.Author.Needs.{needs}
 use Rattle.plan.proofs.index.all_segments_into.Statement.{statement}
 use Rattle.plan.proofs.index.all_segments_into.Tie as tie
@@ -12,10 +13,10 @@ abbrev μ-loop : tie.MeasureT-loop
 μ-loop job index₀ n end l₀ index l = n - l
 
 loop-holds : tie.Need-loop-holds Inv-loop μ-loop
-loop-holds c = (segments-none _ _ _, omega arith)
+loop-holds c = (lists-none _ _ _ _ _ _ _ _, omega arith)
 
 loop-again : tie.Need-loop-again Inv-loop μ-loop
-loop-again c = (segments-more _ _ _ _ _ _ (omega arith) (c .before .before .before .before .before .loop .inv .0) (c .before .before .segments-into .ensures .0) (c .before .before .segments-into .ensures .1), omega arith)
+loop-again c = (lists-more _ _ _ _ _ _ _ _ _ _ _ (omega arith) (omega arith) (c .before .before .before .before .before .loop .inv .0) (c .before .before .segments-into .ensures .0) (c .before .before .segments-into .ensures .1), omega arith)
 
 same-length : tie.Need-same-length Inv-loop μ-loop
 same-length c = c .before .loop .inv .0 .kept .long

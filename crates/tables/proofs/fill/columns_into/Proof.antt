@@ -8,7 +8,7 @@ use Rattle.codec.proofs.le_at.Reads as le-at-reads
 use Rattle.codec.proofs.place.Reads as place-reads
 use Rattle.format.proofs.opt_column_at.Reads as opt-column-at-reads
 use Rattle.format.proofs.references_at.Reads as references-at-reads
-use Rattle.tables.proofs.fill.list_into.Reads as list-into-reads
+use Rattle.spec.proofs.region.list_into.Reads as list-into-reads
 
 add-place : tie.Need-add-place
 add-place c = search needs
@@ -41,7 +41,7 @@ same-length : tie.Need-same-length
 same-length c = search needs
 
 returns : tie.Need-returns
-returns c = (c .before .before .list-into .ensures .0, columns-at _ _ _ _ _ _ _ _ _ _ (c .before .before .before .before .before .before .before .before .place .ensures .0) (c .before .before .before .before .before .before .before .le-at .ensures) (c .before .before .before .before .before .before .opt-column-at .ensures) (c .before .before .before .before .before .opt-column-at2 .ensures) (c .before .before .before .before .references-at .ensures) (c .before .before .list-into .ensures .1))
+returns c = (c .before .before .list-into .ensures .1, columns-at _ _ _ _ _ _ _ _ _ _ (c .before .before .before .before .before .before .before .before .place .ensures .0) (c .before .before .before .before .before .before .before .le-at .ensures) (c .before .before .before .before .before .before .opt-column-at .ensures) (c .before .before .before .before .before .opt-column-at2 .ensures) (c .before .before .before .before .references-at .ensures) (c .before .before .list-into .ensures .2))
 
 pub columns-into-spec : {M : Type 1} → statement M
 columns-into-spec =

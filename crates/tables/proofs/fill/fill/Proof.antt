@@ -9,7 +9,7 @@ use Rattle.codec.proofs.count_at.Reads as count-at-reads
 use Rattle.codec.proofs.num.Reads as num-reads
 use Rattle.tables.proofs.fill.all_columns_into.Reads as all-columns-into-reads
 use Rattle.tables.proofs.fill.firsts_into.Reads as firsts-into-reads
-use Rattle.tables.proofs.fill.list_into.Reads as list-into-reads
+use Rattle.spec.proofs.region.list_into.Reads as list-into-reads
 
 sub-t : tie.Need-sub-t
 sub-t c = search needs
@@ -45,7 +45,7 @@ same-length : tie.Need-same-length
 same-length c = search needs
 
 returns : tie.Need-returns
-returns c = filled _ _ _ _ _ _ _ _ (c .before .before .before .before .before .before .before .before .before .before .before .before .before .before .before .before .pre) (c .before .before .before .before .before .before .before .before .before .before .before .before .before .num .ensures .0) (omega arith) (c .before .before .before .before .before .before .before .before .count-at .ensures .0) (c .before .before .before .before .before .before .before .before .before .before .before .list-into .ensures .0) (c .before .before .before .before .before .before .before .before .before .before .before .list-into .ensures .1) (c .before .before .before .before .before .before .all-columns-into .ensures .0) (c .before .before .before .before .before .before .all-columns-into .ensures .1) (c .before .before .firsts-into .ensures .0) (c .before .before .firsts-into .ensures .1)
+returns c = filled _ _ _ _ _ _ _ _ (c .before .before .before .before .before .before .before .before .before .before .before .before .before .before .before .before .pre) (c .before .before .before .before .before .before .before .before .before .before .before .before .before .num .ensures .0) (omega arith) (c .before .before .before .before .before .before .before .before .count-at .ensures .0) (c .before .before .before .before .before .before .before .before .before .before .before .list-into .ensures .1) (c .before .before .before .before .before .before .before .before .before .before .before .list-into .ensures .2) (c .before .before .before .before .before .before .all-columns-into .ensures .0) (c .before .before .before .before .before .before .all-columns-into .ensures .1) (c .before .before .firsts-into .ensures .0) (c .before .before .firsts-into .ensures .1)
 
 pub fill-spec : {M : Type 1} → statement M
 fill-spec =

@@ -1,19 +1,13 @@
--- What an index holds of the lists of a job, and what a change of it leaves as it was.
+-- What an index holds of a list of a job: its place, then the places of its first 32 items.
 use Prim.Native.Nat.{ℕ, _+_, _≤_, _<_}
 use mathlib.Core.Path.{_≡_}
 use mathlib.Core.List.{List}
 use native.Mathlib.Omega.{arith}
 use lib.ListN.{length, getD, set}
-use lib.Dec.{ltb, leb}
-use Rattle.codec.specs.Codec.{Codec, pick, le, leC, listC}
+use lib.Dec.{ltb}
+use Rattle.codec.specs.Codec.{Codec, pick, leC, listC}
 use Rattle.codec.specs.Skip.{skip, steps, countAt, Is}
 use Rattle.codec.specs.Rows.{small}
-
--- the numbers before from and those from to on are as they were
-pub record Kept (from to : ℕ) (old new : List ℕ) : Type 0 where
-  pub long : length new ≡ length old
-  pub below : (i : ℕ) → i < from → getD new i 0 ≡ getD old i 0
-  pub above : (i : ℕ) → to ≤ i → getD new i 0 ≡ getD old i 0
 
 -- from k on, the place of a list that stands at at, then the places of its first 32 items
 pub record Stored {A : Type 0} (C : Codec A) (b : List ℕ) (e at k : ℕ) (idx : List ℕ) : Type 0 where
@@ -32,11 +26,6 @@ listed-kept C b e k idx new vs q h = record {
   item = λ i d m n. rw (q (k + 1 + i) (omega arith) (omega arith)) (h .item i d m n);
 }
 
--- ---- the ways of the code
 -- the place p of item i stored, if it is among the first 32
 unfoldable pub putItem : List ℕ → ℕ → ℕ → ℕ → List ℕ
 putItem l k i p = pick (ltb i 32) (set l (k + 1 + i) (small p)) l
-
--- how many items the inner list of number l has, by what the index and the job hold
-unfoldable pub innerCount : List ℕ → List ℕ → ℕ → ℕ → ℕ
-innerCount b idx k l = pick (leb (le 4 b (getD idx k 0)) l) 0 (le 4 b (getD idx (k + 1 + l) 0))

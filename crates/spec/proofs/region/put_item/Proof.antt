@@ -1,8 +1,8 @@
-use Rattle.plan.proofs.Storing.{put-item-in, put-item-out}
+use Rattle.spec.proofs.Storing.{put-item-in, put-item-out}
 use mathlib.Core.Path.{sym, _∙_}
 use borrow.Author.Needs.{needs}
-use Rattle.plan.proofs.index.put_item.Statement.{statement}
-use Rattle.plan.proofs.index.put_item.Tie as tie
+use Rattle.spec.proofs.region.put_item.Statement.{statement}
+use Rattle.spec.proofs.region.put_item.Tie as tie
 
 returns : tie.Need-returns
 returns c = c .before .before .put .ensures ∙ sym (put-item-in _ _ _ _ (c .before .before .before .before .if1 .taken))

@@ -1,6 +1,6 @@
 -- Storing the places of a list and of its items.
-use Prim.Native.Nat.{ℕ, suc, zero, _+_, _≤_, _<_}
-use mathlib.Core.Path.{_≡_, refl, sym, _∙_}
+use Prim.Native.Nat.{ℕ, suc, zero, _+_, _*_, _≤_, _<_}
+use mathlib.Core.Path.{_≡_, refl, sym, subst, _∙_}
 use mathlib.Core.List.{List}
 use mathlib.Core.Logic.{_⊎_, inl, inr}
 use mathlib.Core.Bool.{Bool, true, false}
@@ -13,25 +13,14 @@ use Rattle.codec.specs.Codec.{Codec, leC, listC}
 use Rattle.codec.specs.Skip.{skip, steps, countAt, Is, skip-le, skip-list}
 use Rattle.codec.specs.Field.{ListIs, is-list, count-list}
 use Rattle.codec.specs.Rows.{small, is-small}
-use Rattle.tables.specs.Region.{Kept, Stored, Listed, putItem}
+use Rattle.spec.specs.declared.region.Part.{Part}
+use Rattle.spec.specs.Parts.{partC}
+use Rattle.spec.specs.Kept.{Kept, kept-same, kept-set, kept-then, kept-wide}
+use Rattle.spec.specs.Region.{Stored, Listed, putItem}
 
--- ---- nothing else was changed
-pub kept-same : (from to : ℕ) (l : List ℕ) → Kept from to l l
-kept-same from to l = record { long = refl; below = λ i h. refl; above = λ i h. refl }
-
-pub kept-set : (from to : ℕ) (l d new : List ℕ) (k x : ℕ) → Kept from to l d → new ≡ set d k x → from ≤ k → k < to → Kept from to l new
-kept-set from to l d new k x h q i j = record {
-  long = rw q (length-set d k x ∙ h .long);
-  below = λ n m. rw q (getD-set-other d k n x 0 (omega arith) ∙ h .below n m);
-  above = λ n m. rw q (getD-set-other d k n x 0 (omega arith) ∙ h .above n m);
-}
-
-pub kept-then : (from to p q : ℕ) (l d new : List ℕ) → Kept from to l d → Kept p q d new → from ≤ p → q ≤ to → Kept from to l new
-kept-then from to p q l d new h k i j = record {
-  long = k .long ∙ h .long;
-  below = λ n m. k .below n (omega arith) ∙ h .below n m;
-  above = λ n m. k .above n (omega arith) ∙ h .above n m;
-}
+-- the part by its case
+pub part-is : (p q : Part) (b : List ℕ) (at e r : ℕ) → p ≡ q → r ≡ skip (partC q) b at e → r ≡ skip (partC p) b at e
+part-is p q b at e r h k = subst (λ (s : Part). r ≡ skip (partC s) b at e) (sym h) k
 
 -- ---- the items of a list, stored one after the other
 pub put-item-in : (l : List ℕ) (k i p : ℕ) → i < 32 → putItem l k i p ≡ set l (k + 1 + i) (small p)
@@ -52,6 +41,11 @@ pub record Items {A : Type 0} (C : Codec A) (b : List ℕ) (e from k i p : ℕ) 
   pub place : p ≡ steps C b e i from
   pub kept : Kept (k + 1) (k + 33) old new
   pub item : (j : ℕ) → j < i → j < 32 → k + 1 + j < length old → getD new (k + 1 + j) 0 ≡ small (steps C b e j from)
+
+-- lists one after the other: the first n of them are stored, and list j stands where the number at heads + j says
+pub record Lists {A : Type 0} (C : Codec A) (b : List ℕ) (e : ℕ) (at : ℕ → ℕ) (heads from to n : ℕ) (old new : List ℕ) : Type 0 where
+  pub kept : Kept from to old new
+  pub stored : (j : ℕ) → j < n → Stored C b e (at (getD old (heads + j) 0)) (from + j * 33) new
 
 module _ {A : Type 0} (C : Codec A) (b : List ℕ) (e : ℕ) where
   pub items-none : (from k p : ℕ) (l : List ℕ) → p ≡ from → Items C b e from k 0 p l l
@@ -82,7 +76,7 @@ module _ {A : Type 0} (C : Codec A) (b : List ℕ) (e : ℕ) where
   -- all n items, then the place of the list
   pub items-all : (k at n i from p : ℕ) (old d new : List ℕ) → n ≡ countAt b at e → from ≡ skip (leC 4) b at e → i ≡ n → Items C b e from k i p old d → new ≡ set d k (small at) → (p ≡ skip (listC C) b at e) × Kept k (k + 33) old new × Stored C b e at k new
   items-all k at n i from p old d new c f x h w =
-      let m : Kept k (k + 33) old d = kept-then k (k + 33) (k + 1) (k + 33) old old d (kept-same _ _ old) (h .kept) (omega arith) (omega arith) in
+      let m : Kept k (k + 33) old d = kept-wide (k + 1) (k + 33) k (k + 33) old d (omega arith) (omega arith) (h .kept) in
       let o : length new ≡ length old = rw w (length-set d k (small at)) ∙ m .long in (
         h .place ∙ rw (x, c, f) (sym (skip-list C b e at)),
         kept-set k (k + 33) old d new k (small at) m w (omega arith) (omega arith),
@@ -102,6 +96,20 @@ module _ {A : Type 0} (C : Codec A) (b : List ℕ) (e : ℕ) where
     list = λ r. q .above k (omega arith) ∙ h .list (omega (arith, q .long));
     item = λ j r s t. q .above (k + 1 + j) (omega arith) ∙ h .item j r s (omega (arith, q .long));
   }
+
+  pub lists-none : (at : ℕ → ℕ) (heads from to : ℕ) (idx : List ℕ) → Lists C b e at heads from to 0 idx idx
+  lists-none at heads from to idx = record { kept = kept-same _ _ idx; stored = λ j m. absurd (omega arith) }
+
+  pub lists-more : (at : ℕ → ℕ) (heads from to n : ℕ) (old d new : List ℕ) → heads + n < from → from + n * 33 + 33 ≤ to → Lists C b e at heads from to n old d → Kept (from + n * 33) (from + n * 33 + 33) d new → Stored C b e (at (getD d (heads + n) 0)) (from + n * 33) new → Lists C b e at heads from to (n + 1) old new
+  lists-more at heads from to n old d new i m h k s = record { kept = kept-then from to _ _ old d new (h .kept) k (omega arith) m; stored = λ j q. go j q (ltb j n) refl }
+    where
+      go : (j : ℕ) → j < n + 1 → (u : Bool) → ltb j n ≡ u → Stored C b e (at (getD old (heads + j) 0)) (from + j * 33) new
+      go j q true r = let o : j < n = ltb-true _ _ r in stored-kept _ (from + j * 33) _ _ d new (h .stored j o) k (inl (omega arith))
+      go j q false r =
+          let o : n ≤ j = ltb-false _ _ r in
+          let z : j ≡ n = omega arith in
+          let y : getD d (heads + n) 0 ≡ getD old (heads + n) 0 = h .kept .below (heads + n) i in
+          rw (z, ← y) s
 
   -- where the list stands, the places are those of the list and its items
   pub listed : (at k : ℕ) (idx : List ℕ) (vs : List A) → e < 4294967296 → k + 33 ≤ length idx → Stored C b e at k idx → Is (listC C) b e at vs → Listed C b e idx k vs

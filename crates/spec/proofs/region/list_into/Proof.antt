@@ -1,11 +1,11 @@
-use Rattle.tables.specs.Parts.{partC}
-use Rattle.tables.proofs.Storing.{Items, items-none, items-more, items-all}
+use Rattle.spec.specs.Parts.{partC}
+use Rattle.spec.proofs.Storing.{Items, items-none, items-more, items-all}
 use mathlib.Core.Path.{refl}
 use native.Mathlib.Omega.{arith}
 use Prim.Native.Nat.{_-_, _≤_}
 use borrow.Author.Needs.{needs}
-use Rattle.tables.proofs.fill.list_into.Statement.{statement}
-use Rattle.tables.proofs.fill.list_into.Tie as tie
+use Rattle.spec.proofs.region.list_into.Statement.{statement}
+use Rattle.spec.proofs.region.list_into.Tie as tie
 
 abbrev Inv-loop : tie.InvT-loop
 Inv-loop job index₀ part k at end n p₀ i₀ index p i = Items (partC part) job end p₀ k i p index₀ index × (i ≤ n)
@@ -23,7 +23,7 @@ same-length : tie.Need-same-length Inv-loop μ-loop
 same-length c = items-all _ _ _ _ _ _ _ _ _ _ _ _ (c .before .before .before .before .before .before .before .count-at .ensures .0) (c .before .before .before .before .before .before .le-at .ensures) (omega arith) (c .before .before .before .before .before .loop .inv .0) (c .before .before .put .ensures) .1 .long
 
 returns : tie.Need-returns Inv-loop μ-loop
-returns c = let s = items-all _ _ _ _ _ _ _ _ _ _ _ _ (c .before .before .before .before .before .before .before .count-at .ensures .0) (c .before .before .before .before .before .before .le-at .ensures) (omega arith) (c .before .before .before .before .before .loop .inv .0) (c .before .before .put .ensures) in (s .1, s .2)
+returns c = items-all _ _ _ _ _ _ _ _ _ _ _ _ (c .before .before .before .before .before .before .before .count-at .ensures .0) (c .before .before .before .before .before .before .le-at .ensures) (omega arith) (c .before .before .before .before .before .loop .inv .0) (c .before .before .put .ensures)
 
 pub list-into-spec : {M : Type 1} → statement M
 list-into-spec = tie.close (tie.spec Inv-loop μ-loop (λ c κs. search needs) (λ c κs. search needs) loop-holds (λ c κs. search needs) (λ c κs. search needs) (λ c. search needs) (λ c. search needs) loop-again (λ c κs. search needs) same-length returns)
