@@ -11,7 +11,7 @@ ghost use Rattle.codec.specs.Forms.{numC, bytesC, optC};
 ghost use Rattle.codec.specs.Ways.{optEnd};
 ghost use Rattle.codec.specs.Strings.{lessAt, okAt};
 ghost use Rattle.codec.specs.Rows.{stored, small};
-ghost use Rattle.codec.specs.Answers.{optNum, bitAt};
+ghost use Rattle.codec.specs.Answers.{optNum};
 
 // The byte at a place, 0 past the last.
 pub fn byte_at(b: &[u8], at: usize) -> usize
@@ -287,12 +287,6 @@ pub enum OptNum {
     Nothing,
 }
 
-pub enum Bit {
-    Missing,
-    Unset,
-    Set,
-}
-
 pub fn opt_num(b: &[u8], at: usize) -> OptNum
     requires { ⌜ at < 4294967296 ⌝ }
     ensures { λ r. ⌜ ((e : ℕ) (v : Option ℕ) → Is (optC numC) (now (b .entry)) e at v → r ≡ optNum v) ⌝ }
@@ -302,25 +296,4 @@ pub fn opt_num(b: &[u8], at: usize) -> OptNum
         return OptNum::Nothing;
     }
     OptNum::Num(num(b, at + 1))
-}
-
-// The bit of a row in the validity that stands at a place.
-pub fn bit_at(b: &[u8], at: usize, row: u32) -> Bit
-    requires { ⌜ at < 4294967296 ⌝ }
-    ensures { λ r. ⌜ r ≡ bitAt (now (b .entry)) at row ⌝ }
-{
-    let n = num(b, at);
-    let rows = num(b, at + 4 + n);
-    let row = row as usize;
-    if rows <= row {
-        return Bit::Missing;
-    }
-    if n <= row / 8 {
-        return Bit::Missing;
-    }
-    let byte = byte_at(b, at + 4 + row / 8);
-    if (byte >> (row % 8)) % 2 == 1 {
-        return Bit::Set;
-    }
-    Bit::Unset
 }
