@@ -1,4 +1,4 @@
-// The separators of a job, and the number that stands for an identifier.
+// The separators of a job, and the numbers that stand for identifiers and components.
 use crate::findings::Delimiters;
 use crate::findings::Repetition;
 use segment::Separators;
@@ -10,9 +10,10 @@ ghost use Prim.Native.Nat.{_+_, _≤_};
 ghost use lib.ListN.{length};
 ghost use Rattle.format.specs.Sections.{jobOf};
 ghost use Rattle.format.specs.Refusal.{separators};
-ghost use Rattle.spec.specs.Answers.{stretchOf};
+ghost use Rattle.segment.specs.Parts.{orOne};
+ghost use Rattle.spec.specs.Answers.{stretchOf, numberOf};
 ghost use Rattle.spec.specs.EnvelopeIndex.{EnvelopeIndexed};
-ghost use Rattle.nest.specs.Finding.{numberFrom};
+ghost use Rattle.nest.specs.Finding.{numberFrom, orZero};
 ghost use Rattle.emit.specs.Fold.{separatorsOf};
 ghost use Rattle.emit.specs.Written.{tried, repetitionOf};
 
@@ -81,4 +82,24 @@ pub fn id_number(job: &[u8], id: Stretch) -> u64
     }
     let z = codec::byte_at(job, start + 2) as u64;
     (x * 256 + y) * 256 + z
+}
+
+// The component of a part, 1 for a plain one.
+pub fn component_of(n: Number) -> u32
+    ensures { λ r. ⌜ r ≡ orOne (numberOf n) ⌝ }
+{
+    match n {
+        Number::None => 1,
+        Number::Is(c) => c,
+    }
+}
+
+// A component as findings have it: plus one, 0 for a plain part.
+pub fn component_word(n: Number) -> u64
+    ensures { λ r. ⌜ r ≡ orZero (numberOf n) ⌝ }
+{
+    match n {
+        Number::None => 0,
+        Number::Is(c) => c as u64 + 1,
+    }
 }

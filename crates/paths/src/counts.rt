@@ -1,8 +1,7 @@
 // Counts and kinds.
 ghost use mathlib.Core.Path.{_≡_};
 ghost use Prim.Native.Nat.{_≤_, _<_};
-ghost use lib.ListN.{length, getD};
-ghost use Rattle.codec.specs.Codec.{le};
+ghost use lib.ListN.{length};
 ghost use Rattle.plan.specs.Answers.{instancesOf, sourceOf};
 ghost use Rattle.nest.specs.Lists.{is, once as onceOf, on};
 ghost use mathlib.Core.Bool.{true, false};
@@ -15,14 +14,6 @@ use plan::answers::Source;
 use spec::ids::LoopId;
 use spec::ids::Number;
 use spec::ids::TableId;
-
-// How many items the list has whose place is number k of the index.
-pub fn list_count(job: &[u8], index: &[u32], k: usize) -> u32
-    ensures { λ r. ⌜ r ≡ le 4 (now (job .entry)) (getD (now (index .entry)) k 0) ⌝ }
-{
-    let p = codec::place(index, k);
-    codec::num(job, p) as u32
-}
 
 pub fn loops(job: &[u8], index: &[u32]) -> u32
     requires { ⌜ Ready (now job) (now index) ⌝ }

@@ -5,7 +5,6 @@ ghost use Rattle.nest.specs.Ready.{Ready, outlineAt};
 ghost use Rattle.paths.specs.Tests.{condition1, condition3, condition4};
 ghost use Rattle.paths.specs.Entries.{Entries4, Orders};
 ghost use Rattle.complete.specs.Decides.{Decides};
-use crate::counts::list_count;
 use crate::each::loops_anchored;
 use crate::each::loops_fit;
 use crate::each::loops_ordered;
@@ -26,28 +25,28 @@ pub fn entries_fit(job: &[u8], index: &[u32]) -> bool
     ensures { λ r. ⌜ Decides r (Entries4 (jobOf (now (job .entry)))) ⌝ }
 {
     let n = spec::loops::loop_count(job, index);
-    let plans = list_count(job, index, plan::index::PLAN);
+    let plans = plan::index::list_count(job, index, plan::index::PLAN);
     if plans != n {
         return false;
     }
-    let orders = list_count(job, index, plan::index::ORDER);
+    let orders = plan::index::list_count(job, index, plan::index::ORDER);
     if orders != n {
         return false;
     }
-    let forced = list_count(job, index, plan::index::FORCED);
+    let forced = plan::index::list_count(job, index, plan::index::FORCED);
     if forced != n {
         return false;
     }
-    let columns = list_count(job, index, plan::index::COLUMNS);
+    let columns = plan::index::list_count(job, index, plan::index::COLUMNS);
     if columns != n {
         return false;
     }
-    let depth = list_count(job, index, plan::index::DEPTH);
+    let depth = plan::index::list_count(job, index, plan::index::DEPTH);
     if depth != n {
         return false;
     }
     let all = spec::tables::table_count(job, index);
-    let capacity = list_count(job, index, plan::index::CAPACITY);
+    let capacity = plan::index::list_count(job, index, plan::index::CAPACITY);
     if capacity != all {
         return false;
     }

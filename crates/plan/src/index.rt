@@ -1,6 +1,8 @@
 // The region of the index that belongs to plan and layout, and how it is filled.
+ghost use mathlib.Core.Path.{_≡_};
 ghost use Prim.Native.Nat.{ℕ, _+_, _*_, _≤_, _<_};
 ghost use lib.ListN.{getD};
+ghost use Rattle.codec.specs.Codec.{le};
 ghost use Rattle.codec.specs.Skip.{skip};
 ghost use Rattle.format.specs.Plan.{instancesC, segmentPlanC};
 ghost use Rattle.format.specs.Passed.{Passed};
@@ -83,4 +85,12 @@ pub fn fill(job: &[u8], index: &mut [u32])
     let envelope = codec::num(job, t + 12);
     plan_into(job, index, plan, layout as u32);
     layout_into(job, index, layout, envelope as u32);
+}
+
+// How many items the list has whose place is number k of the index.
+pub fn list_count(job: &[u8], index: &[u32], k: usize) -> u32
+    ensures { λ r. ⌜ r ≡ le 4 (now (job .entry)) (getD (now (index .entry)) k 0) ⌝ }
+{
+    let p = codec::place(index, k);
+    codec::num(job, p) as u32
 }

@@ -21,7 +21,7 @@ ghost use Rattle.format.specs.Refusal.{separators};
 ghost use Rattle.spec.specs.Answers.{numberOf};
 ghost use Rattle.plan.specs.Answers.{elementOf};
 ghost use Rattle.nest.specs.Ready.{Ready};
-ghost use Rattle.nest.specs.Finding.{cell, orZero};
+ghost use Rattle.nest.specs.Finding.{cell};
 ghost use Rattle.emit.specs.Puts.{placeOf, putCell};
 ghost use Rattle.emit.specs.Written.{wordsOf, spotOf, tried};
 ghost use Rattle.emit.specs.Did.{Small};
@@ -29,21 +29,12 @@ ghost use Rattle.repeat_segment.specs.Planned.{Of, idOf, plansOf};
 ghost use Rattle.repeat_segment.specs.Places.{elementPut, rowPuts};
 ghost use Rattle.repeat_segment.specs.Filled.{Filled};
 
-fn or_zero(c: Number) -> u64
-    ensures { λ r. ⌜ r ≡ orZero (numberOf c) ⌝ }
-{
-    match c {
-        Number::None => 0,
-        Number::Is(n) => n as u64 + 1,
-    }
-}
-
 fn spot_of(job: &[u8], s: Planned, p: u32, component: Number, column: u32, r: RowId) -> Spot
     requires { ⌜ Of (now job) s ⌝ }
     ensures { λ w. ⌜ w ≡ spotOf (cell (s .table .0) (r .0) column) (placeOf (idOf (now (job .entry)) s) p (numberOf component)) ⌝ }
 {
     let identifier = signs::id_number(job, s.id);
-    let c = or_zero(component);
+    let c = signs::component_word(component);
     Spot {
         origin: 0,
         table: s.table.0 as u64,

@@ -1,6 +1,7 @@
 // The last filled element of a repeat segment, and the last filled component of an element.
 use crate::places;
 use crate::planned::Planned;
+use emit::signs;
 use plan::answers::ElementPlan;
 use plan::read;
 use spec::ids::Number;
@@ -9,7 +10,7 @@ ghost use mathlib.Core.Path.{_≡_};
 ghost use mathlib.Core.List.{List, [], _∷_};
 ghost use Prim.Native.Nat.{ℕ, _-_, _≤_, _<_, max};
 ghost use lib.ListN.{length};
-ghost use Rattle.segment.specs.Parts.{pick, isEmpty, orOne, highest};
+ghost use Rattle.segment.specs.Parts.{pick, isEmpty, highest};
 ghost use Rattle.segment.specs.Calls.{zeroFree};
 ghost use Rattle.spec.specs.Answers.{numberOf};
 ghost use Rattle.plan.specs.Answers.{elementOf};
@@ -17,15 +18,6 @@ ghost use Rattle.nest.specs.Ready.{Ready};
 ghost use Rattle.emit.specs.Puts.{partAt};
 ghost use Rattle.repeat_segment.specs.Planned.{Of, plansOf};
 ghost use Rattle.repeat_segment.specs.Places.{textIn, elementPut, partsFrom, partsOf, numberBy, allAbove};
-
-fn or_one(c: Number) -> u32
-    ensures { λ r. ⌜ r ≡ orOne (numberOf c) ⌝ }
-{
-    match c {
-        Number::None => 1,
-        Number::Is(n) => n,
-    }
-}
 
 // What counts of a part at element m: its element, or its component if it stands at the element asked for.
 fn number_of(m: u32, c: Number, q: Number) -> u32
@@ -35,7 +27,7 @@ fn number_of(m: u32, c: Number, q: Number) -> u32
         Number::None => m,
         Number::Is(p) => {
             if m == p {
-                return or_one(c);
+                return signs::component_of(c);
             }
             0
         }

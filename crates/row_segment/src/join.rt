@@ -58,7 +58,7 @@ fn scan(
         let w = parts::text_of(job, index, x, p);
         let c = p.component;
         let v = w.value;
-        m = parts::raised(job, m, v, parts::component_of(c));
+        m = parts::raised(job, m, v, signs::component_of(c));
         s = notes::note_text(job, findings, s, x, y, p, w);
         a = parts::next_part(job, index, x, a.k, a.at);
     }
@@ -81,7 +81,7 @@ fn component_value(job: &[u8], index: &[u32], x: Line, n: Look, e: u32, c: usize
             return segment::held(0, 0);
         }
         let component = p.component;
-        if parts::component_of(component) as usize == c {
+        if signs::component_of(component) as usize == c {
             let w = parts::text_of(job, index, x, p);
             let v = w.value;
             return v;
@@ -136,7 +136,7 @@ fn alone(a: Look, after: Look) -> bool
     let p = a.part;
     let q = after.part;
     let c = p.component;
-    if parts::component_of(c) == 1 {
+    if signs::component_of(c) == 1 {
         if after.more {
             if q.element == p.element {
                 return false;

@@ -15,7 +15,7 @@ ghost use mathlib.Core.List.{List};
 ghost use Prim.Native.Nat.{ℕ, _≤_, _<_};
 ghost use Rattle.lent.specs.Fit.{base, cap, more, StoredAt};
 ghost use Rattle.spec.specs.Answers.{numberOf};
-ghost use Rattle.nest.specs.Finding.{cell, numberFrom, orZero};
+ghost use Rattle.nest.specs.Finding.{cell, numberFrom};
 ghost use Rattle.emit.specs.Puts.{placeOf};
 ghost use Rattle.emit.specs.Written.{Writes, spotOf, wordsOf};
 ghost use Rattle.row_segment.specs.Stream.{Lined, Sees, ahead, partPut, outcomeOf};
@@ -34,21 +34,12 @@ pub struct Tried {
     pub delimiters: Delimiters,
 }
 
-fn component_word(n: Number) -> u64
-    ensures { λ r. ⌜ r ≡ orZero (numberOf n) ⌝ }
-{
-    match n {
-        Number::None => 0,
-        Number::Is(c) => c as u64 + 1,
-    }
-}
-
 fn spot(x: Line, name: u64, element: u32, component: Number, column: u32) -> Spot
     ensures { λ r. ⌜ ((id : List ℕ) → name ≡ numberFrom 0 id → r ≡ spotOf (cell (x .t .0) (x .r .0) column) (placeOf id element (numberOf component))) ⌝ }
 {
     let t = x.t;
     let r = x.r;
-    let word = component_word(component);
+    let word = signs::component_word(component);
     Spot {
         origin: 0,
         table: t.0 as u64,

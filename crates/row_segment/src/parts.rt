@@ -12,11 +12,10 @@ use spec::ids::TableId;
 ghost use mathlib.Core.Path.{_≡_};
 ghost use mathlib.Core.List.{List};
 ghost use Prim.Native.Nat.{ℕ, _<_, max};
-ghost use Rattle.spec.specs.Answers.{numberOf};
 ghost use mathlib.Core.Bool.{false};
 ghost use Rattle.nest.specs.Ready.{Ready};
 ghost use Rattle.plan.specs.Answers.{elementOf};
-ghost use Rattle.segment.specs.Parts.{pick, isEmpty, orOne};
+ghost use Rattle.segment.specs.Parts.{pick, isEmpty};
 ghost use Rattle.segment.specs.Pen.{valueText};
 ghost use Rattle.emit.specs.Written.{Writes};
 ghost use Rattle.row_segment.specs.Stream.{Lined, Stands, Looks, elementPut, lookPut, outcomeOf};
@@ -142,16 +141,6 @@ pub fn first_part(job: &[u8], index: &[u32], x: Line) -> Look
     let l = x.l;
     let at = plan::planned::first_element(job, index, l, x.i);
     next_part(job, index, x, 0, at)
-}
-
-// The component of a part, 1 for a plain one.
-pub fn component_of(n: Number) -> u32
-    ensures { λ r. ⌜ r ≡ orOne (numberOf n) ⌝ }
-{
-    match n {
-        Number::None => 1,
-        Number::Is(c) => c,
-    }
 }
 
 // The text of a part, and the reason why it has none.

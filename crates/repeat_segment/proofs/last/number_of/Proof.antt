@@ -11,11 +11,11 @@ enum-told c = search needs
 enum-known-q : tie.Need-enum-known-q
 enum-known-q c = search needs
 
-or-one-requires : tie.Need-or-one-requires
-or-one-requires c κs = search needs
+component-of-requires : tie.Need-component-of-requires
+component-of-requires c κs = search needs
 
 returns : tie.Need-returns
-returns c = λ text. let a = c .before .before .before .before .before .args in rw (c .before .before .before .q .given .1, eq-eqb (a .m) _ (c .before .if1 .taken)) (c .or-one .ensures)
+returns c = λ text. let a = c .before .before .before .before .before .args in rw (c .before .before .before .q .given .1, eq-eqb (a .m) _ (c .before .if1 .taken)) (c .component-of .ensures)
 
 returns-2 : tie.Need-returns-2
 returns-2 c = λ text. rw (c .enum-told .given .1) refl
@@ -25,4 +25,4 @@ returns-3 c = λ text. let a = c .before .before .before .before .args in rw (c 
 
 pub number-of-spec : {M : Type 1} → statement M
 number-of-spec =
-    tie.close (tie.spec enum-told enum-known-q or-one-requires returns returns-2 returns-3)
+    tie.close (tie.spec enum-told enum-known-q component-of-requires returns returns-2 returns-3)

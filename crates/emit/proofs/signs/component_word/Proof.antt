@@ -1,8 +1,8 @@
--- `row_segment::notes::component_word` meets its contract. Assumes nothing.
+-- `emit::signs::component_word` meets its contract. Assumes nothing.
 use native.Mathlib.Omega.{arith}
 use borrow.Author.Needs.{needs}
-use Rattle.row_segment.proofs.notes.component_word.Statement.{statement}
-use Rattle.row_segment.proofs.notes.component_word.Tie as tie
+use Rattle.emit.proofs.signs.component_word.Statement.{statement}
+use Rattle.emit.proofs.signs.component_word.Tie as tie
 
 enum-told : tie.Need-enum-told
 enum-told c = search needs

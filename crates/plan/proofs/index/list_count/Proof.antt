@@ -1,8 +1,9 @@
+-- `plan::index::list_count` meets its contract. Assumes nothing.
 use Rattle.codec.specs.Codec.{le}
 use mathlib.Core.Path.{ap, _∙_}
 use borrow.Author.Needs.{needs}
-use Rattle.paths.proofs.counts.list_count.Statement.{statement}
-use Rattle.paths.proofs.counts.list_count.Tie as tie
+use Rattle.plan.proofs.index.list_count.Statement.{statement}
+use Rattle.plan.proofs.index.list_count.Tie as tie
 
 place-requires : tie.Need-place-requires
 place-requires c κs = search needs
