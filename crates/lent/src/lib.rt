@@ -49,17 +49,6 @@ pub fn put_byte(d: &mut [u8], at: usize, b: u8) -> usize
     more(at, 1)
 }
 
-// One number.
-pub fn put_word(d: &mut [u64], at: usize, w: u64) -> usize
-    ensures { λ r. ⌜ Stored (now (d .entry)) at (w ∷ []) r (now (d .exit)) ⌝ }
-{
-    if at < d.len() {
-        d[at] = w;
-        return more(at, 1);
-    }
-    more(at, 1)
-}
-
 fn fill(d: &mut [u8], at: usize, b: u8, n: usize)
     requires { ⌜ n ≤ length (now d) - at ⌝ }
     ensures { λ _. ⌜ now (d .exit) ≡ sets (now (d .entry)) at (replicate n b) ⌝ }

@@ -4,7 +4,7 @@ pub mod read;
 ghost use mathlib.Core.Path.{_≡_};
 ghost use mathlib.Core.List.{List, [], _++_};
 ghost use Prim.Native.Nat.{ℕ, _+_, _-_, _<_};
-ghost use lib.ListN.{length, take, replicate};
+ghost use lib.ListN.{take, replicate};
 ghost use Rattle.lent.specs.Fit.{more, stretch, Stored};
 ghost use Rattle.segment.specs.Parts.{isEmpty};
 ghost use Rattle.segment.specs.Pen.{valueText, holds, holdsAny, oneOf, componentsIn, reached, placed, finished, opened, ending, closing, Penned};
@@ -91,18 +91,6 @@ pub fn own(bytes: [u8; 48], count: usize) -> Value
         len: 0,
         spaces: 0,
     }
-}
-
-// How long a text is.
-pub fn text_len(job: &[u8], v: Value) -> usize
-    ensures { λ r. ⌜ r ≡ more 0 (length (valueText (now (job .entry)) v)) ⌝ }
-{
-    let bytes = v.bytes;
-    let own = lent::stretch_len(&bytes, 0, v.count);
-    let held = lent::stretch_len(job, v.start, v.len);
-    let a = lent::more(v.zeros, own);
-    let b = lent::more(a, held);
-    lent::more(b, v.spaces)
 }
 
 fn one_of(x: u8, a: u8, b: u8, c: u8, d: u8) -> bool

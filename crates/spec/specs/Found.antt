@@ -132,7 +132,7 @@ module _ (b : List ℕ) (a : Bool) (p q n : ℕ) (h : a ≡ sameAt b p q n) wher
   unfolding sameAt
   same-done r = let z : n ≡ 0 = omega arith in sym (h ∙ rw z)
 
-same-lists : (b v w : List ℕ) (p q : ℕ) → length v ≡ length w → ((i : ℕ) → i < length v → getD v i 0 ≡ getD b (p + i) 0) → ((i : ℕ) → i < length w → getD w i 0 ≡ getD b (q + i) 0) → sameAt b p q (length v) ≡ sameBytes v w
+pub same-lists : (b v w : List ℕ) (p q : ℕ) → length v ≡ length w → ((i : ℕ) → i < length v → getD v i 0 ≡ getD b (p + i) 0) → ((i : ℕ) → i < length w → getD w i 0 ≡ getD b (q + i) 0) → sameAt b p q (length v) ≡ sameBytes v w
 unfolding sameAt
 same-lists b [] [] p q n h k = refl
 same-lists b [] (y ∷ w) p q n h k = absurd (omega arith)
@@ -146,7 +146,7 @@ same-lists b (x ∷ v) (y ∷ w) p q n h k =
     go true ih = ih
     go false ih = refl
 
-same-lengths : (v w : List ℕ) → (length v ≡ length w → ⊥) → false ≡ sameBytes v w
+pub same-lengths : (v w : List ℕ) → (length v ≡ length w → ⊥) → false ≡ sameBytes v w
 same-lengths [] [] h = absurd (h refl)
 same-lengths [] (y ∷ w) h = refl
 same-lengths (x ∷ v) [] h = refl
@@ -157,11 +157,11 @@ same-lengths (x ∷ v) (y ∷ w) h = go (eqb x y) (same-lengths v w (λ q. h (ap
     go false ih = refl
 
 module _ (b : List ℕ) (s : Stretch) (in-b : s .start + s .len ≤ length b) where
-  stretch-long : length (stretchOf b s) ≡ s .len
+  pub stretch-long : length (stretchOf b s) ≡ s .len
   unfolding stretchOf
   stretch-long = length-take-le (s .len) (drop (s .start) b) (rw length-drop (omega arith))
 
-  stretch-byte : (i : ℕ) → i < s .len → getD (stretchOf b s) i 0 ≡ getD b (s .start + i) 0
+  pub stretch-byte : (i : ℕ) → i < s .len → getD (stretchOf b s) i 0 ≡ getD b (s .start + i) 0
   unfolding stretchOf
   stretch-byte i h = getD-take (s .len) (drop (s .start) b) i 0 h ∙ getD-drop (s .start) b i 0
 

@@ -1,17 +1,14 @@
 -- What an element of a trigger takes, one law for each way.
 use Prim.Native.Nat.{ℕ, zero, suc, _+_, _-_, _≤_, _<_}
 use mathlib.Core.Path.{_≡_, refl, sym, ap, _∙_}
-use mathlib.Core.Bool.{Bool, true, false, cond}
+use mathlib.Core.Bool.{Bool, true, false}
 use mathlib.Core.List.{List, [], _∷_, _++_, append-nil}
 use mathlib.Core.Option.{Option, none, some}
 use native.Mathlib.Omega.{arith}
-use native.Mathlib.Nat.{add-zero}
 use native.Mathlib.Decide.{decLt}
 use lib.ListN.{length, getD, take, drop, replicate, length-drop}
-use lib.Seq.{getD-take, getD-drop, length-take-le}
-use lib.Dec.{eqb, leb}
+use lib.Seq.{getD-drop}
 use borrow.Author.Tests.{eq-eqb, ne-eqb, le-leb, lt-leb}
-use Rattle.codec.specs.Codec.{pick as codec-pick}
 use Rattle.format.specs.Spec.{ElementDef, Version}
 use Rattle.format.specs.Envelope as E
 use Rattle.format.specs.Job.{Job}
@@ -24,10 +21,10 @@ use Rattle.spec.specs.declared.ids.Text.the-variants as text-is
 use Rattle.spec.specs.declared.ids.VersionRule.{VersionRule}
 use Rattle.spec.specs.declared.ids.Version as version
 use Rattle.spec.specs.declared.ids.Version.the-variants as version-is
-use Rattle.spec.specs.Answers.{stretchOf, Holds, HoldsText, textOf}
+use Rattle.spec.specs.Answers.{stretchOf, Holds, HoldsText}
 use Rattle.spec.specs.Cursor.{ElementSays, firstOf}
-use Rattle.spec.specs.VersionIs.{HoldsVersion, VersionWithin, versionRule, versionOf}
-use Rattle.spec.specs.Found.{sameAt}
+use Rattle.spec.specs.VersionIs.{HoldsVersion, versionRule}
+use Rattle.spec.specs.Found.{sameAt, same-lists, same-lengths, stretch-long, stretch-byte}
 use Rattle.texts.specs.declared.Text.{Text}
 use Rattle.texts.specs.declared.render.Said.{Said}
 use Rattle.texts.specs.Held.{held}
@@ -35,7 +32,6 @@ use Rattle.texts.specs.Reason.{Outcome, Says, reasonOf}
 use Rattle.texts.specs.DateText.{envelopeDate}
 use Rattle.texts.specs.Clock.{envelopeTime}
 use Rattle.texts.specs.Floor.{signed32}
-use Rattle.segment.specs.Parts.{pick}
 use Rattle.nest.specs.Lists.{on, first}
 use Rattle.emit.specs.declared.envelope.Held.{Held}
 use Rattle.emit.specs.declared.envelope.Held.the-variants.{Field, Nothing}
@@ -43,7 +39,7 @@ use Rattle.emit.specs.declared.findings.Repetition.{Repetition}
 use Rattle.emit.specs.declared.findings.Repetition.the-variants.{Absent, Byte}
 use Rattle.emit.specs.Table.{heldField}
 use Rattle.emit.specs.Puts.{maxIn}
-use Rattle.emit.specs.Envelope.{Given, Sourced, plainly, outcome, separator, isWhite, unlessLast, trimEnd, repetitionGiven, fieldGiven, fieldAt, fielded, versionAt, versioned, unsourced}
+use Rattle.emit.specs.Envelope.{Sourced, plainly, outcome, separator, isWhite, unlessLast, trimEnd, fieldGiven, fieldAt, fielded, versionAt, versioned, unsourced}
 use Rattle.emit.proofs.TextLaws.{held-text}
 use Rattle.emit.specs.Written.{repetitionOf}
 use Rattle.trigger.specs.declared.given.Source.{Source}
@@ -258,47 +254,9 @@ tells-as e h = rw (← e) h
 
 -- ---- the same bytes
 
-same-lists : (b v w : List ℕ) (p q : ℕ) → length v ≡ length w → ((i : ℕ) → i < length v → getD v i 0 ≡ getD b (p + i) 0) → ((i : ℕ) → i < length w → getD w i 0 ≡ getD b (q + i) 0)
-    → sameAt b p q (length v) ≡ sameBytes v w
-unfolding sameAt
-same-lists b [] [] p q n h k = refl
-same-lists b [] (y ∷ w) p q n h k = absurd (omega arith)
-same-lists b (x ∷ v) [] p q n h k = absurd (omega arith)
-same-lists b (x ∷ v) (y ∷ w) p q n h k =
-    let i : x ≡ getD b p 0 = rw add-zero at (h 0 (omega arith)) in
-    let j : y ≡ getD b q 0 = rw add-zero at (k 0 (omega arith)) in
-    rw (i, j)
-    (go (eqb (getD b p 0) (getD b q 0))
-    (same-lists b v w (p + 1) (q + 1) (omega arith)
-    (λ m r. let s : p + 1 + m ≡ p + suc m = omega arith in rw s (h (suc m) (omega arith)))
-    (λ m r. let s : q + 1 + m ≡ q + suc m = omega arith in rw s (k (suc m) (omega arith)))))
-  where
-    go : (t : Bool) → sameAt b (p + 1) (q + 1) (length v) ≡ sameBytes v w → codec-pick t (sameAt b (p + 1) (q + 1) (length v)) false ≡ cond t (sameBytes v w) false
-    go true ih = ih
-    go false ih = refl
-
-other-lengths : (v w : List ℕ) → (length v ≡ length w → ⊥) → false ≡ sameBytes v w
-other-lengths [] [] h = absurd (h refl)
-other-lengths [] (y ∷ w) h = refl
-other-lengths (x ∷ v) [] h = refl
-other-lengths (x ∷ v) (y ∷ w) h = go (eqb x y) (other-lengths v w (λ q. h (ap suc q)))
-  where
-    go : (t : Bool) → false ≡ sameBytes v w → false ≡ cond t (sameBytes v w) false
-    go true ih = ih
-    go false ih = refl
-
-module _ (b : List ℕ) (s : Stretch) (within : s .start + s .len ≤ length b) where
-  stretch-long : length (stretchOf b s) ≡ s .len
-  unfolding stretchOf
-  stretch-long = length-take-le (s .len) (drop (s .start) b) (rw length-drop (omega arith))
-
-  stretch-byte : (i : ℕ) → i < s .len → getD (stretchOf b s) i 0 ≡ getD b (s .start + i) 0
-  unfolding stretchOf
-  stretch-byte i h = getD-take (s .len) (drop (s .start) b) i 0 h ∙ getD-drop (s .start) b i 0
-
 module _ (b : List ℕ) (s t : Stretch) (h : s .start + s .len ≤ length b) (k : t .start + t .len ≤ length b) where
   pub not-same : (s .len ≡ t .len → ⊥) → false ≡ sameBytes (stretchOf b s) (stretchOf b t)
-  not-same n = other-lengths (stretchOf b s) (stretchOf b t) (λ q. n (sym (stretch-long b s h) ∙ q ∙ stretch-long b t k))
+  not-same n = same-lengths (stretchOf b s) (stretchOf b t) (λ q. n (sym (stretch-long b s h) ∙ q ∙ stretch-long b t k))
 
   pub same-by : (r : Bool) → s .len ≡ t .len → r ≡ sameAt b (s .start) (t .start) (s .len) → r ≡ sameBytes (stretchOf b s) (stretchOf b t)
   same-by r e f =

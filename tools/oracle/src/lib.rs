@@ -8,7 +8,7 @@ mod listing;
 
 pub use listing::{listing, listing_lines, program};
 /// How long the Rust itself takes on a job.
-pub use oxedi_plain::nanoseconds;
+pub use oxedi_plain::{nanoseconds, nanoseconds_from};
 
 use job::{Job, Refusal};
 use oxedi_probed::probe::{self, Bounds, Notes, Over};

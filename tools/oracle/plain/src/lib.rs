@@ -9,4 +9,4 @@ include!(concat!(env!("OUT_DIR"), "/modules.rs"));
 mod json;
 pub use json::*;
 
-pub use write::{nanoseconds, run};
+pub use write::{nanoseconds, nanoseconds_from, run};

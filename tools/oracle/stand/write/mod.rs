@@ -201,18 +201,28 @@ pub fn run(job: &job::Job) -> Written {
     })
 }
 
-/// How long `nest` and `Emitter::run` take on a job, over as many runs as fit into a length of time, in
-/// nanoseconds; what they take is made before.
+/// How long `nest` and `Emitter::run` take on a job, in nanoseconds; what they take is made before.
 pub fn nanoseconds(job: &job::Job, length: std::time::Duration) -> f64 {
-    prepared(job, |once| {
-        let start = std::time::Instant::now();
-        let mut runs = 0u64;
-        while start.elapsed() < length {
-            std::hint::black_box(once());
-            runs += 1;
-        }
-        start.elapsed().as_nanos() as f64 / runs as f64
+    prepared(job, |once| average(length, || drop(std::hint::black_box(once()))))
+}
+
+/// The same from a job's bytes on: reading and judging them, making what the Rust takes, `nest` and `Emitter::run`.
+pub fn nanoseconds_from(bytes: &[u8], length: std::time::Duration) -> f64 {
+    average(length, || {
+        let job = job::check(std::hint::black_box(bytes)).expect("a job that passes refusals 1 to 5");
+        prepared(&job, |once| drop(std::hint::black_box(once())));
     })
+}
+
+/// The time of a call, over as many as fit into a length of time, in nanoseconds.
+fn average(length: std::time::Duration, mut call: impl FnMut()) -> f64 {
+    let start = std::time::Instant::now();
+    let mut runs = 0u64;
+    while start.elapsed() < length {
+        call();
+        runs += 1;
+    }
+    start.elapsed().as_nanos() as f64 / runs as f64
 }
 
 /// The segments of a trace as it shows itself: `segments: [(0, Some((1, 2))), (3, None)], open: 4`.
