@@ -1,4 +1,5 @@
 pub mod NameLaws
+pub mod ScaleLaws
 pub mod CellLaws
 pub mod TextLaws
 pub mod FindingLaws

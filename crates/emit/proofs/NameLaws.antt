@@ -23,7 +23,7 @@ use Rattle.spec.specs.Answers.{stretchOf, Holds}
 -- ---- how long they are
 
 -- what holds of each item that fails a test holds of every item, and of the one past the last, if none passes it
-of-item : {A : Type 0} (f : A → Bool) (P : A → Type 0) (d : A) (xs : List A) → anyOf f xs ≡ false → P d → ((x : A) → f x ≡ false → P x) → (i : ℕ) → P (getD xs i d)
+pub of-item : {A : Type 0} (f : A → Bool) (P : A → Type 0) (d : A) (xs : List A) → anyOf f xs ≡ false → P d → ((x : A) → f x ≡ false → P x) → (i : ℕ) → P (getD xs i d)
 of-item f P d xs h z g i = go (ltb i (length xs)) refl
   where
     go : (t : Bool) → ltb i (length xs) ≡ t → P (getD xs i d)

@@ -1,5 +1,5 @@
 -- What a planned place puts into its segment: a part, the findings on its text, and its trace entry (write/cells.rs, write/trace.rs).
-use Prim.Native.Nat.{ℕ, zero, suc, _+_, _*_, min}
+use Prim.Native.Nat.{ℕ, zero, suc, _+_, _*_}
 use mathlib.Core.List.{List, [], _∷_, _++_}
 use mathlib.Core.Option.{Option, none, some}
 use lib.Dec.{eqb}
@@ -27,13 +27,12 @@ abbrev pub maxIn : Option ℕ → Max
 maxIn none = Free
 maxIn (some n) = At n
 
--- a cell's text for an element with that max, or the reason why it has none; a null writes an empty place. No column has a scale above 38 (refusal 5);
--- such a one would be read as 38
+-- a cell's text for an element with that max, or the reason why it has none; a null writes an empty place
 unfoldable pub cellText : Cell → Max → Outcome
 cellText null max = gives []
 cellText (binary bytes) max = gives bytes
 cellText (int64 x) max = gives (intText (signed64 x))
-cellText (decimal x scale) max = gives (decimalText (signed128 x) (min scale 38))
+cellText (decimal x scale) max = gives (decimalText (signed128 x) scale)
 cellText (date32 x) max = dateText (signed32 x) max
 cellText (time32 x) max = timeText (signed32 x) max
 

@@ -31,6 +31,16 @@ takesMax (Wide low high scale) = false
 takesMax (Days bits) = true
 takesMax (Seconds bits) = true
 
+-- the scale of a decimal, 0 of any other cell
+abbrev pub scaleIn : Read → ℕ
+scaleIn None = 0
+scaleIn Null = 0
+scaleIn (Bytes start len) = 0
+scaleIn (Int bits) = 0
+scaleIn (Wide low high scale) = scale
+scaleIn (Days bits) = 0
+scaleIn (Seconds bits) = 0
+
 -- ---- findings on a text
 
 -- where a text comes from and where it goes, as the numbers of its findings

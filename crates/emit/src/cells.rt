@@ -15,7 +15,7 @@ use texts::render::Refused;
 use texts::render::Said;
 ghost use mathlib.Core.Path.{_≡_};
 ghost use mathlib.Core.List.{List, []};
-ghost use Prim.Native.Nat.{ℕ, _+_, _*_, _≤_, min};
+ghost use Prim.Native.Nat.{ℕ, _+_, _*_, _≤_};
 ghost use lib.ListN.{length};
 ghost use Rattle.format.specs.Sections.{jobOf};
 ghost use Rattle.column.specs.Cell.{orNull};
@@ -29,10 +29,9 @@ ghost use Rattle.texts.specs.Number.{intText, decimalText};
 ghost use Rattle.texts.specs.DateText.{dateText};
 ghost use Rattle.texts.specs.Clock.{timeText};
 ghost use Rattle.spec.specs.Answers.{stretchOf, numberOf};
-ghost use Rattle.spec.specs.Segments.{SegmentsIndexed};
-ghost use Rattle.tables.specs.Index.{TablesIndexed};
+ghost use Rattle.nest.specs.Ready.{Ready};
 ghost use Rattle.emit.specs.Puts.{maxIn, cellText, cellOutcome};
-ghost use Rattle.emit.specs.Written.{Writes, takesMax};
+ghost use Rattle.emit.specs.Written.{Writes, takesMax, scaleIn};
 
 // A text, and the reason why there is none, or 0.
 pub struct Written {
@@ -82,7 +81,8 @@ fn of_int(bits: u64) -> Written
 }
 
 fn of_decimal(lo: u64, hi: u64, scale: u8) -> Written
-    ensures { λ r. ⌜ ((job : List ℕ) → Writes job r (gives (decimalText (signed128 (lo + 18446744073709551616 * hi)) (min scale 38)))) ⌝ }
+    requires { ⌜ scale ≤ 38 ⌝ }
+    ensures { λ r. ⌜ ((job : List ℕ) → Writes job r (gives (decimalText (signed128 (lo + 18446744073709551616 * hi)) scale))) ⌝ }
 {
     of_text(number::decimal_text(Wide { lo, hi }, scale), 0)
 }
@@ -100,7 +100,8 @@ fn of_seconds(bits: u32, max: Max) -> Written
 }
 
 // The text of a cell for an element with that max; no answer and null give an empty one.
-pub fn cell_value(cell: Cell, max: Max) -> Written
+fn cell_value(cell: Cell, max: Max) -> Written
+    requires { ⌜ scaleIn cell ≤ 38 ⌝ }
     ensures { λ r. ⌜ ((job : List ℕ) → Writes job r (cellText (orNull (cellAt job cell)) max)) ⌝ }
 {
     match cell {
@@ -151,7 +152,7 @@ pub fn cell_text(
     component: Number,
     column: u32,
 ) -> Written
-    requires { ⌜ SegmentsIndexed (now job) (now index) × TablesIndexed (now job) (now index) × (id .start + id .len ≤ length (now job)) ⌝ }
+    requires { ⌜ Ready (now job) (now index) × (id .start + id .len ≤ length (now job)) ⌝ }
     ensures { λ w. ⌜ Writes (now (job .entry)) w (cellOutcome (jobOf (now (job .entry))) (stretchOf (now (job .entry)) id) (t .0) (r .0) element (numberOf component) column) ⌝ }
 {
     let cell = tables::data::cell(job, index, t, column, r);

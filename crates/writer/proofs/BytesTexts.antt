@@ -1,5 +1,5 @@
 -- How long the text of a cell is at most: a number, a date or a time has 48 bytes at most.
-use Prim.Native.Nat.{ℕ, _+_, _-_, _/_, _%_, _^_, _≤_, _<_, min}
+use Prim.Native.Nat.{ℕ, _+_, _-_, _/_, _%_, _^_, _≤_, _<_}
 use mathlib.Core.Path.{_≡_, refl}
 use mathlib.Core.Bool.{Bool, true, false, cond}
 use mathlib.Core.List.{List, [], _∷_, _++_}
@@ -21,6 +21,7 @@ use Rattle.texts.specs.DateText.{two, monthDay, longDate, shortDate, dayText, d
 use Rattle.texts.specs.Clock.{hoursMinutes, hoursMinutesSeconds, clock, timeText, withinDay}
 use Rattle.texts.proofs.Sizes.{int-length, decimal-length}
 use Rattle.emit.specs.Puts.{cellText}
+use Rattle.emit.proofs.ScaleLaws.{scaleOf}
 use Rattle.writer.proofs.BytesJoined.{charge}
 use Rattle.writer.proofs.BytesColumns.{weigh}
 
@@ -76,15 +77,15 @@ time-short : (s : ℤ) (max : Max) → length (timeText s max .text) ≤ 6
 unfolding timeText
 time-short s max = picked (withinDay s) (clock (natAbs s) max) (refuses 3) 6 (clock-short (natAbs s) max) (omega arith)
 
-pub cell-charge : (c : Cell) (max : Max) (n : ℕ) → n ≤ 255 → charge (cellText c max .text) n ≤ weigh c
+pub cell-charge : (c : Cell) (max : Max) (n : ℕ) → scaleOf c ≤ 38 → n ≤ 255 → charge (cellText c max .text) n ≤ weigh c
 unfolding cellText
-cell-charge null max n h = omega arith
-cell-charge (binary bytes) max n h = omega (arith, charge-most bytes n)
-cell-charge (int64 x) max n h = omega (arith, charge-most (intText (signed64 x)) n, int-length (signed64 x) 19 (omega arith) (signed-abs (2 ^ 63) x (10 ^ 19) (omega arith) (lit< tt)))
-cell-charge (decimal x scale) max n h =
-    omega (arith, charge-most (decimalText (signed128 x) (min scale 38)) n, decimal-length (signed128 x) (min scale 38) 39 (omega arith) (signed-abs (2 ^ 127) x (10 ^ 39) one (lit< tt)))
+cell-charge null max n k h = omega arith
+cell-charge (binary bytes) max n k h = omega (arith, charge-most bytes n)
+cell-charge (int64 x) max n k h = omega (arith, charge-most (intText (signed64 x)) n, int-length (signed64 x) 19 (omega arith) (signed-abs (2 ^ 63) x (10 ^ 19) (omega arith) (lit< tt)))
+cell-charge (decimal x scale) max n k h =
+    omega (arith, charge-most (decimalText (signed128 x) scale) n, decimal-length (signed128 x) scale 39 (omega (arith, k)) (signed-abs (2 ^ 127) x (10 ^ 39) one (lit< tt)))
   where
     one : 1 ≤ 2 ^ 127
     one = lit< tt
-cell-charge (date32 x) max n h = omega (arith, charge-most (dateText (signed32 x) max .text) n, date-short (signed32 x) max)
-cell-charge (time32 x) max n h = omega (arith, charge-most (timeText (signed32 x) max .text) n, time-short (signed32 x) max)
+cell-charge (date32 x) max n k h = omega (arith, charge-most (dateText (signed32 x) max .text) n, date-short (signed32 x) max)
+cell-charge (time32 x) max n k h = omega (arith, charge-most (timeText (signed32 x) max .text) n, time-short (signed32 x) max)

@@ -28,12 +28,13 @@ use Rattle.walk.specs.Tour.{Step, enters, stop, opener, rowSegment, fill, chunk
 use Rattle.walk.proofs.Bounds.{repeat-few, Counted, tour-bound}
 use Rattle.emit.specs.Fold as F
 use Rattle.emit.specs.Fold.{stopOut, rowOut, fillOut, chunkOut, stepOut, stepsOut}
-use Rattle.writer.specs.Result.{walkedOut}
+use Rattle.lossless.specs.NothingLost.{walkedOut}
 use Rattle.writer.proofs.Lengths.{whole, order-within, segment-few}
 use Rattle.writer.proofs.BytesSums.{sum-more, sum-less, sum-both}
 use Rattle.writer.proofs.BytesProduct.{quota, product}
 use Rattle.writer.proofs.BytesColumns.{cell-weigh}
 use Rattle.writer.proofs.BytesSections.{specBytes, planBytes, layoutBytes, dataBytes, codeIn, planned-within, data-within, identifier-within}
+use Rattle.emit.proofs.ScaleLaws.{scales-low}
 use Rattle.writer.proofs.BytesLimits.{planned-placed, step-small}
 use Rattle.writer.proofs.BytesSegments.{given, givenBy, row-bytes, chunk-bytes}
 use Rattle.writer.proofs.BytesRepeats.{grouped, repeat-total, repeat-lone}
@@ -78,7 +79,7 @@ module _ (b : List ℕ) (bs : Bytes b) (p : Passed b) where
       let n : dataBytes j + 303 ≤ 65815 = omega (arith, sections) in
       omega (
         arith,
-        row-bytes j (planned-placed j (p .limits)) (step-small j (p .limits)) l i t r s,
+        row-bytes j (scales-low j (p .fit)) (planned-placed j (p .limits)) (step-small j (p .limits)) l i t r s,
         sum-less (givenBy j t r) (λ (e : ElementPlan). (dataBytes j + 303) + code e) (λ e. given-most t r (e .value)) es,
         sum-more (dataBytes j + 303) code es,
         sum-more 10 code es,
@@ -93,7 +94,7 @@ module _ (b : List ℕ) (bs : Bytes b) (p : Passed b) where
       let es : List ElementPlan = (plannedOf j l i) .elements in
       omega (
         arith,
-        chunk-bytes j (planned-placed j (p .limits)) (step-small j (p .limits)) l i t rs s,
+        chunk-bytes j (scales-low j (p .fit)) (planned-placed j (p .limits)) (step-small j (p .limits)) l i t rs s,
         identifier-within j l i,
         sum-more 255 (λ r. sum (givenBy j t r) es) rs,
         sum-same (λ r. sum (givenBy j t r) es + 255) (λ r. 255 + sum (givenBy j t r) es) rs (λ r. omega arith),

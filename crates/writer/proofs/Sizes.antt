@@ -24,7 +24,8 @@ use Rattle.walk.proofs.Own.{chunks-all}
 use Rattle.walk.proofs.Bounds.{repeat-few, Counted, tour-bound, segments-bound, stops-bound}
 use Rattle.emit.specs.Fold as F
 use Rattle.emit.specs.Fold.{stopOut, rowOut, fillOut, chunkOut, stepOut, stepsOut}
-use Rattle.writer.specs.Result.{resultOf, walkedOut}
+use Rattle.lossless.specs.NothingLost.{walkedOut}
+use Rattle.writer.specs.Result.{resultOf}
 use Rattle.writer.proofs.NestedLaws.{rows-of-all}
 use Rattle.writer.proofs.StepKinds.{opener-is, closer-is}
 use Rattle.writer.proofs.FewFindings.{texted, step-findings}

@@ -6,18 +6,15 @@ use Rattle.format.specs.Job.{Job}
 use Rattle.nest.specs.Finding.{Finding}
 use Rattle.nest.specs.NestFindings.{nestFindings}
 use Rattle.nest.specs.OfJob.{outlineOf}
-use Rattle.walk.specs.Tour.{Stop, tour}
-use Rattle.emit.specs.Fold.{Traced, Out, start, stepsOut}
+use Rattle.walk.specs.Tour.{Stop}
+use Rattle.emit.specs.Fold.{Traced}
+use Rattle.lossless.specs.NothingLost.{walkedOut}
 
 pub record Result : Type 0 where
   pub bytes : List ℕ
   pub segments : List Traced
   pub findings : List Finding
   pub stops : List Stop
-
--- the whole walk
-abbrev pub walkedOut : Job → Out
-walkedOut j = stepsOut j (tour (outlineOf j)) (start j)
 
 -- the walk's findings follow nest's
 unfoldable pub resultOf : Job → Result

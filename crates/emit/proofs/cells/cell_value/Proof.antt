@@ -33,5 +33,8 @@ returns-7 : tie.Need-returns-7
 unfolding cellText cellAt
 returns-7 c = λ job. rw (c .before .before .cell5 .given .1) (c .of-seconds .ensures job)
 
+of-decimal-requires : tie.Need-of-decimal-requires
+of-decimal-requires c κs = rw (c .before .cell3 .given .1) at (c .before .before .before .pre)
+
 pub cell-value-spec : {M : Type 1} → statement M
-cell-value-spec = tie.close (tie.spec (λ c. search needs) (λ c κs. search needs) (λ c. search needs) (λ c κs. search needs) (λ c. search needs) (λ c κs. search needs) (λ c. search needs) (λ c κs. search needs) (λ c. search needs) (λ c κs. search needs) (λ c. search needs) (λ c κs. search needs) (λ c. search needs) (λ c κs. search needs) returns returns-2 returns-3 returns-4 returns-5 returns-6 returns-7)
+cell-value-spec = tie.close (tie.spec (λ c. search needs) (λ c κs. search needs) (λ c. search needs) (λ c κs. search needs) (λ c. search needs) (λ c κs. search needs) (λ c. search needs) (λ c κs. search needs) (λ c. search needs) of-decimal-requires (λ c. search needs) (λ c κs. search needs) (λ c. search needs) (λ c κs. search needs) returns returns-2 returns-3 returns-4 returns-5 returns-6 returns-7)

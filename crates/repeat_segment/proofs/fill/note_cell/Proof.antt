@@ -11,7 +11,7 @@ use Rattle.repeat_segment.proofs.fill.note_cell.Statement.{statement}
 use Rattle.repeat_segment.proofs.fill.note_cell.Tie as tie
 
 cell-text-requires : tie.Need-cell-text-requires
-cell-text-requires c κs = let w = c .before .before .before .pre in (w .0 .segments, w .0 .tables, w .1 .id .within)
+cell-text-requires c κs = let w = c .before .before .before .pre in (w .0, w .1 .id .within)
 
 spot-of-requires : tie.Need-spot-of-requires
 spot-of-requires c κs = search needs

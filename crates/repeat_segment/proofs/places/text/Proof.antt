@@ -9,13 +9,13 @@ enum-known-v : tie.Need-enum-known-v
 enum-known-v c = search needs
 
 cell-text-requires : tie.Need-cell-text-requires
-cell-text-requires c κs = let w = c .before .before .before .before .before .pre in (w .0 .segments, w .0 .tables, w .1 .id .within)
+cell-text-requires c κs = let w = c .before .before .before .before .before .pre in (w .0, w .1 .id .within)
 
 enum-known-v-2 : tie.Need-enum-known-v-2
 enum-known-v-2 c = search needs
 
 cell-text-requires-2 : tie.Need-cell-text-requires-2
-cell-text-requires-2 c κs = let w = c .before .before .before .before .before .pre in (w .0 .segments, w .0 .tables, w .1 .id .within)
+cell-text-requires-2 c κs = let w = c .before .before .before .before .before .pre in (w .0, w .1 .id .within)
 
 enum-known-v-3 : tie.Need-enum-known-v-3
 enum-known-v-3 c = search needs

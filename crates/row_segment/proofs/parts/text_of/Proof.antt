@@ -8,7 +8,7 @@ enum-known-source : tie.Need-enum-known-source
 enum-known-source c = search needs
 
 cell-text-requires : tie.Need-cell-text-requires
-cell-text-requires c κs = let w = c .before .before .before .before .before .before .before .before .pre in (w .ready .segments, w .ready .tables, w .id .within)
+cell-text-requires c κs = let w = c .before .before .before .before .before .before .before .before .pre in (w .ready, w .id .within)
 
 enum-known-source-2 : tie.Need-enum-known-source-2
 enum-known-source-2 c = search needs
