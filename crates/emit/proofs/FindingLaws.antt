@@ -132,6 +132,12 @@ unfolding unwritten
 stored-no-reason o p zero h e = none-stored e
 stored-no-reason o p (suc k) h e = absurd (not-suc-le-zero h)
 
+-- neither a reason nor a separator: no finding
+pub none-found : (o : Origin) (p : Place) (reason : ℕ) (text bs : List ℕ) → reason ≤ 0 → heldIn o p text 0 bs ≡ [] → unwritten o p reason ++ heldIn o p text 0 bs ≡ []
+unfolding unwritten
+none-found o p zero text bs h e = e
+none-found o p (suc k) text bs h e = absurd (not-suc-le-zero h)
+
 pub still-fits : {d d₁ items : List ℕ} {at n : ℕ} → length d ≤ wide → Noted d at items n d₁ → length d₁ ≤ wide
 still-fits {items = items} h s = rw (stored-length items s) h
 

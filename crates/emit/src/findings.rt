@@ -2,7 +2,7 @@
 use crate::cells::Written;
 use segment::Value;
 ghost use mathlib.Core.Path.{_≡_};
-ghost use mathlib.Core.Bool.{false};
+ghost use mathlib.Core.Bool.{true, false};
 ghost use mathlib.Core.List.{List, [], _∷_, _++_};
 ghost use Prim.Native.Nat.{ℕ};
 ghost use Rattle.lent.specs.Fit.{Noted};
@@ -155,6 +155,20 @@ pub fn note_reason(findings: &mut [u64], at: usize, w: Spot, reason: u64) -> usi
         return note(findings, at, 5, w, reason, 0);
     }
     lent::more(at, 0)
+}
+
+// Whether a cell's text has no finding, as is usual.
+pub fn silent(job: &[u8], x: Written, d: Delimiters) -> bool
+    ensures { λ s. ⌜ ((o : Origin) (p : Place) → s ≡ true → unwritten o p (x .reason) ++ heldIn o p (valueText (now (job .entry)) (x .value)) 0 (tried d) ≡ []) ⌝ }
+{
+    if 0 < x.reason {
+        return false;
+    }
+    let v = x.value;
+    if holds_delimiter(job, v, d) {
+        return false;
+    }
+    true
 }
 
 // The findings on a cell's text.

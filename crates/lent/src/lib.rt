@@ -82,10 +82,16 @@ fn copy_words(d: &mut [u64], at: usize, words: [u64; 10], start: usize, n: usize
     }
 }
 
-// The byte b, n times.
+// The byte b, n times; none and one, the usual cases, without a loop.
 pub fn put_run(d: &mut [u8], at: usize, b: u8, n: usize) -> usize
     ensures { λ r. ⌜ Stored (now (d .entry)) at (replicate n b) r (now (d .exit)) ⌝ }
 {
+    if n == 0 {
+        return more(at, 0);
+    }
+    if n == 1 {
+        return put_byte(d, at, b);
+    }
     let fits = fitting(d.len(), at, n);
     fill(d, at, b, fits);
     more(at, n)

@@ -64,6 +64,9 @@ fn note_cell(
         (wordsOf ((putCell (jobOf (now (job .entry))) (idOf (now (job .entry)) s) p (numberOf component) (s .table .0) column (r .0)) .findings)) n (now (findings .exit)) ⌝ }
 {
     let x = cells::cell_text(job, index, s.id, s.table, r, p, component, column);
+    if findings::silent(job, x, d) {
+        return lent::more(at, 0);
+    }
     let w = spot_of(job, s, p, component, column, r);
     findings::note_cell(findings, at, job, x, w, d)
 }

@@ -78,14 +78,13 @@ fn note_part(
     let source = p.source;
     let d = y.delimiters;
     match source {
-        Source::Cell(column) => findings::note_cell(
-            findings,
-            at,
-            job,
-            w,
-            spot(x, y.name, p.element, component, column),
-            d,
-        ),
+        Source::Cell(column) => {
+            if findings::silent(job, w, d) {
+                return lent::more(at, 0);
+            }
+            let place = spot(x, y.name, p.element, component, column);
+            findings::note_cell(findings, at, job, w, place, d)
+        }
         Source::Code(s) => lent::more(at, 0),
     }
 }

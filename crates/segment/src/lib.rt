@@ -178,10 +178,10 @@ fn put_front(doc: &mut [u8], at: usize, v: Value) -> usize
 fn put_back(doc: &mut [u8], at: usize, job: &[u8], v: Value) -> usize
     ensures { λ r. ⌜ Stored (now (doc .entry)) at (stretch (now (job .entry)) (v .start) (v .len) ++ replicate (v .spaces) 32) r (now (doc .exit)) ⌝ }
 {
-    let a = lent::put_stretch(doc, at, job, v.start, v.len);
-    if v.spaces == 0 {
-        return a;
+    if v.len == 0 {
+        return lent::put_run(doc, at, b' ', v.spaces);
     }
+    let a = lent::put_stretch(doc, at, job, v.start, v.len);
     lent::put_run(doc, a, b' ', v.spaces)
 }
 
