@@ -21,16 +21,6 @@ pub record Writes (job : List ℕ) (r : Written) (o : Outcome) : Type 0 where
   pub text : valueText job (r .value) ≡ o .text
   pub reason : r .reason ≡ o .reason
 
--- only dates and times have another text where a place takes less
-abbrev pub takesMax : Read → Bool
-takesMax None = false
-takesMax Null = false
-takesMax (Bytes start len) = false
-takesMax (Int bits) = false
-takesMax (Wide low high scale) = false
-takesMax (Days bits) = true
-takesMax (Seconds bits) = true
-
 -- the scale of a decimal, 0 of any other cell
 abbrev pub scaleIn : Read → ℕ
 scaleIn None = 0

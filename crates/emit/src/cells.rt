@@ -18,8 +18,7 @@ ghost use mathlib.Core.List.{List, []};
 ghost use Prim.Native.Nat.{ℕ, _+_, _*_, _≤_};
 ghost use lib.ListN.{length};
 ghost use Rattle.format.specs.Sections.{jobOf};
-ghost use Rattle.column.specs.Cell.{orNull};
-ghost use Rattle.column.specs.Answers.{cellAt};
+ghost use Rattle.format.specs.Ask.{maxOf};
 ghost use Rattle.lent.specs.Fit.{stretch};
 ghost use Rattle.texts.specs.Held.{held};
 ghost use Rattle.texts.specs.Reason.{Outcome, reasonOf, Says, gives};
@@ -30,8 +29,8 @@ ghost use Rattle.texts.specs.DateText.{dateText};
 ghost use Rattle.texts.specs.Clock.{timeText};
 ghost use Rattle.spec.specs.Answers.{stretchOf, numberOf};
 ghost use Rattle.nest.specs.Ready.{Ready};
-ghost use Rattle.emit.specs.Puts.{maxIn, cellText, cellOutcome};
-ghost use Rattle.emit.specs.Written.{Writes, takesMax, scaleIn};
+ghost use Rattle.emit.specs.Puts.{maxIn, cellOutcome};
+ghost use Rattle.emit.specs.Written.{Writes};
 
 // A text, and the reason why there is none, or 0.
 pub struct Written {
@@ -99,22 +98,6 @@ fn of_seconds(bits: u32, max: Max) -> Written
     of_said(render::time_text(parse::from_bits(bits), max))
 }
 
-// The text of a cell for an element with that max; no answer and null give an empty one.
-fn cell_value(cell: Cell, max: Max) -> Written
-    requires { ⌜ scaleIn cell ≤ 38 ⌝ }
-    ensures { λ r. ⌜ ((job : List ℕ) → Writes job r (cellText (orNull (cellAt job cell)) max)) ⌝ }
-{
-    match cell {
-        Cell::None => of_stretch(0, 0),
-        Cell::Null => of_stretch(0, 0),
-        Cell::Bytes(start, len) => of_stretch(start, len),
-        Cell::Int(bits) => of_int(bits),
-        Cell::Wide(lo, hi, scale) => of_decimal(lo, hi, scale),
-        Cell::Days(bits) => of_days(bits, max),
-        Cell::Seconds(bits) => of_seconds(bits, max),
-    }
-}
-
 // ---- at a place
 
 pub fn max_by(n: Number) -> Max
@@ -126,19 +109,12 @@ pub fn max_by(n: Number) -> Max
     }
 }
 
-// Whether the most that its place takes matters to the text of a cell.
-fn takes_max(cell: Cell) -> bool
-    ensures { λ r. ⌜ r ≡ takesMax cell ⌝ }
+// The most that a place takes.
+fn max_at(job: &[u8], index: &[u32], id: Stretch, element: u32, component: Number) -> Max
+    requires { ⌜ Ready (now job) (now index) × (id .start + id .len ≤ length (now job)) ⌝ }
+    ensures { λ r. ⌜ r ≡ maxIn (maxOf (jobOf (now (job .entry))) (stretchOf (now (job .entry)) id) element (numberOf component)) ⌝ }
 {
-    match cell {
-        Cell::None => false,
-        Cell::Null => false,
-        Cell::Bytes(start, len) => false,
-        Cell::Int(bits) => false,
-        Cell::Wide(lo, hi, scale) => false,
-        Cell::Days(bits) => true,
-        Cell::Seconds(bits) => true,
-    }
+    max_by(spec::segments::max_of(job, index, id, element, component))
 }
 
 // The text of a row's cell at a place of the segment with that identifier, and the reason why it has none.
@@ -156,11 +132,15 @@ pub fn cell_text(
     ensures { λ w. ⌜ Writes (now (job .entry)) w (cellOutcome (jobOf (now (job .entry))) (stretchOf (now (job .entry)) id) (t .0) (r .0) element (numberOf component) column) ⌝ }
 {
     let cell = tables::data::cell(job, index, t, column, r);
-    if takes_max(cell) {
-        let max = spec::segments::max_of(job, index, id, element, component);
-        return cell_value(cell, max_by(max));
+    match cell {
+        Cell::None => of_stretch(0, 0),
+        Cell::Null => of_stretch(0, 0),
+        Cell::Bytes(start, len) => of_stretch(start, len),
+        Cell::Int(bits) => of_int(bits),
+        Cell::Wide(lo, hi, scale) => of_decimal(lo, hi, scale),
+        Cell::Days(bits) => of_days(bits, max_at(job, index, id, element, component)),
+        Cell::Seconds(bits) => of_seconds(bits, max_at(job, index, id, element, component)),
     }
-    cell_value(cell, Max::Free)
 }
 
 // The text of a code.
