@@ -8,27 +8,26 @@ use lib.ListN.{length, getD}
 use borrow.Author.Tests.{eq-eqb, ne-eqb}
 use Rattle.codec.specs.Codec.{Codec, _⊗_, le}
 use Rattle.codec.specs.Skip.{skip, steps, Is, skip-pair, skip-le}
-use Rattle.codec.specs.Field.{ListIs, is-in, is-pair, is-list, is-le}
+use Rattle.codec.specs.Field.{ListIs, is-pair, is-list, is-le}
 use Rattle.codec.specs.Forms.{numC, optC}
 use Rattle.codec.specs.declared.OptNum.{OptNum}
 use Rattle.codec.specs.declared.OptNum.the-variants.{Num, Nothing}
 use Rattle.format.specs.Data.{Column, columnC}
 use Rattle.column.specs.Cell.{optGet, int64Of, orElse, keyIn, refColumn, referenceIn}
-use Rattle.column.specs.Answers.{Reads, cellAt, intIs, OptColumnAt}
+use Rattle.column.specs.Answers.{intIs, OptColumnAt}
 use Rattle.column.specs.Parts.{refsC}
-use Rattle.column.specs.declared.Cell.{Cell as Read}
 use Rattle.column.specs.declared.OptInt.{OptInt}
 use Rattle.column.specs.declared.OptInt.the-variants.{Number, NoNumber}
 
 -- ---- the key of a row
-module _ (b : List ℕ) (at row : ℕ) (r : Read) (f : (e : ℕ) (o : Option Column) → e ≤ length b → Is (optC columnC) b e at o → Reads b r (optGet o row)) (x : OptInt) (g : (b : List ℕ) → intIs x ≡ int64Of (cellAt b r)) where
+module _ (b : List ℕ) (at row : ℕ) (x : OptInt) (f : (e : ℕ) (o : Option Column) → e ≤ length b → Is (optC columnC) b e at o → intIs x ≡ int64Of (optGet o row)) where
   pub key-is : (n : ℕ) → x ≡ Number n → (e : ℕ) (o : Option Column) → e ≤ length b → Is (optC columnC) b e at o → n ≡ keyIn o row
   unfolding keyIn
-  key-is n h e o l is = ap (λ (y : OptInt). orElse row (intIs y)) (sym h) ∙ ap (orElse row) (g b ∙ ap int64Of (f e o l is .cell))
+  key-is n h e o l is = ap (λ (y : OptInt). orElse row (intIs y)) (sym h) ∙ ap (orElse row) (f e o l is)
 
   pub key-else : x ≡ NoNumber → (e : ℕ) (o : Option Column) → e ≤ length b → Is (optC columnC) b e at o → row ≡ keyIn o row
   unfolding keyIn
-  key-else h e o l is = ap (λ (y : OptInt). orElse row (intIs y)) (sym h) ∙ ap (orElse row) (g b ∙ ap int64Of (f e o l is .cell))
+  key-else h e o l is = ap (λ (y : OptInt). orElse row (intIs y)) (sym h) ∙ ap (orElse row) (f e o l is)
 
 -- ---- the first column of references to a table
 -- the items of a list stand one behind the other
@@ -62,12 +61,12 @@ module _ (b : List ℕ) (above : ℕ) where
         let q : skip numC b p e ≡ p + 4 = skip-le 4 b p e (u .0) in
         (u .1, (rw q at (t .1), skip-pair numC (optC columnC) b p e ∙ rw q))
 
-    pub rest-broken : {A : Type 0} → Rest b above e left p o → 0 < left → e ≤ length b → length b < p → A
+    pub rest-broken : {A : Type 0} → Rest b above e left p o → 0 < left → e ≤ length b → length b < p + 4 → A
     rest-broken r h l k = absurd (go (r .entries) (r .many) (r .stand))
       where
         go : (ws : List (ℕ × Option Column)) → length ws ≡ left → Items (numC ⊗ optC columnC) b e p ws → ⊥
         go [] m s = omega arith
-        go (w ∷ ws) m s = omega (arith, is-in _ b e p w (s .0))
+        go (w ∷ ws) m s = omega (arith, is-le 4 b e p (w .0) (is-pair numC (optC columnC) b e p w (s .0) .0) .0)
 
     pub rest-found : Rest b above e left p o → 0 < left → (t : ℕ) → t ≡ le 4 b p → t ≡ above → Is (optC columnC) b e (p + 4) o
     unfolding refColumn
@@ -103,12 +102,12 @@ module _ (b : List ℕ) (above : ℕ) where
 
 -- ---- the reference of a row
 module _ (b : List ℕ) (at above row : ℕ) (found : OptNum) (f : (e : ℕ) (refs : List (ℕ × Option Column)) → e ≤ length b → Is refsC b e at refs → OptColumnAt b e found (refColumn refs above)) where
-  pub reference-is : (p : ℕ) → found ≡ Num p → (r : Read) → ((e : ℕ) (o : Option Column) → e ≤ length b → Is (optC columnC) b e p o → Reads b r (optGet o row)) → (x : OptInt) → ((b : List ℕ) → intIs x ≡ int64Of (cellAt b r))
+  pub reference-is : (p : ℕ) → found ≡ Num p → (x : OptInt) → ((e : ℕ) (o : Option Column) → e ≤ length b → Is (optC columnC) b e p o → intIs x ≡ int64Of (optGet o row))
       → (e : ℕ) (refs : List (ℕ × Option Column)) → e ≤ length b → Is refsC b e at refs → intIs x ≡ referenceIn refs above row
   unfolding referenceIn
-  reference-is p q r h x g e refs l is =
+  reference-is p q x h e refs l is =
       let w : OptColumnAt b e (Num p) (refColumn refs above) = rw q at (f e refs l is) in
-      g b ∙ ap int64Of (h e (refColumn refs above) l w .cell)
+      h e (refColumn refs above) l w
 
   pub reference-none : found ≡ Nothing → (e : ℕ) (refs : List (ℕ × Option Column)) → e ≤ length b → Is refsC b e at refs → none ≡ referenceIn refs above row
   unfolding referenceIn optGet

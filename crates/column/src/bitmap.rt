@@ -1,7 +1,8 @@
 // The validity of a column's rows.
 ghost use mathlib.Core.Path.{_≡_};
 ghost use mathlib.Core.List.{List};
-ghost use Prim.Native.Nat.{ℕ, _+_, _/_, _%_, _^_, _<_};
+ghost use Prim.Native.Nat.{ℕ, _+_, _/_, _%_, _^_, _≤_, _<_};
+ghost use lib.ListN.{length};
 ghost use lib.Dec.{eqb};
 ghost use Rattle.codec.specs.Codec.{_⊗_};
 ghost use Rattle.codec.specs.Skip.{Is};
@@ -18,12 +19,18 @@ pub fn bit_of(byte: usize, k: usize) -> bool
     (byte >> k) % 2 == 1
 }
 
-// The bit of a row in the validity that stands at a place.
+// The bit of a row in the validity that stands at a place. Two tests of the job's length spare those of each read.
 pub fn bit_at(job: &[u8], at: usize, row: u32) -> Bit
     requires { ⌜ at < 4398046511104 ⌝ }
-    ensures { λ r. ⌜ ((e : ℕ) (bytes : List ℕ) (count : ℕ) → Is (bytesC ⊗ numC) (now (job .entry)) e at (bytes, count) → bitIs r ≡ bitOf bytes count row) ⌝ }
+    ensures { λ r. ⌜ ((e : ℕ) (bytes : List ℕ) (count : ℕ) → e ≤ length (now (job .entry)) → Is (bytesC ⊗ numC) (now (job .entry)) e at (bytes, count) → bitIs r ≡ bitOf bytes count row) ⌝ }
 {
+    if job.len() < at + 4 {
+        return Bit::Missing;
+    }
     let n = codec::num(job, at);
+    if job.len() < at + 8 + n {
+        return Bit::Missing;
+    }
     let count = codec::num(job, at + 4 + n);
     let row = row as usize;
     if count <= row {
@@ -32,7 +39,7 @@ pub fn bit_at(job: &[u8], at: usize, row: u32) -> Bit
     if n <= row / 8 {
         return Bit::Missing;
     }
-    let byte = codec::byte_at(job, at + 4 + row / 8);
+    let byte = job[at + 4 + row / 8] as usize;
     if bit_of(byte, row % 8) {
         return Bit::Set;
     }

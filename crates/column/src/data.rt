@@ -14,13 +14,17 @@ use crate::Cell;
 use crate::OptInt;
 use crate::get::after_column;
 use crate::get::get;
+use crate::get::int_cell;
 use codec::OptNum;
 
-// The answer of the optional column that stands at a place, as a `segment` column keeps it.
+// The answer of the optional column that stands at a place, as a `segment` column keeps it. A column that is there has six bytes or more.
 pub fn opt_get(job: &[u8], at: usize, row: u32) -> Cell
     requires { ⌜ at < 1099511627776 ⌝ }
     ensures { λ r. ⌜ ((e : ℕ) (o : Option Column) → e ≤ length (now (job .entry)) → Is (optC columnC) (now (job .entry)) e at o → Reads (now (job .entry)) r (optGet o row)) ⌝ }
 {
+    if job.len() < at + 6 {
+        return Cell::None;
+    }
     let there = codec::byte_at(job, at);
     if there == 0 {
         return Cell::None;
@@ -85,6 +89,27 @@ pub fn int_of(cell: Cell) -> OptInt
     }
 }
 
+// The number of the optional column that stands at a place: only an Int64 column has one.
+pub fn opt_int(job: &[u8], at: usize, row: u32) -> OptInt
+    requires { ⌜ at < 1099511627776 ⌝ }
+    ensures { λ r. ⌜ ((e : ℕ) (o : Option Column) → e ≤ length (now (job .entry)) → Is (optC columnC) (now (job .entry)) e at o → intIs r ≡ int64Of (optGet o row)) ⌝ }
+{
+    if job.len() < at + 6 {
+        return OptInt::NoNumber;
+    }
+    let there = codec::byte_at(job, at);
+    if there == 0 {
+        return OptInt::NoNumber;
+    }
+    let p = at + 1;
+    let kind = codec::byte_at(job, p);
+    if kind != 1 {
+        return OptInt::NoNumber;
+    }
+    let n = codec::num(job, p + 1);
+    int_of(int_cell(job, p, n, row))
+}
+
 // The cell of the optional column that stands at a place.
 pub fn cell(job: &[u8], at: usize, row: u32) -> Cell
     requires { ⌜ at < 1099511627776 ⌝ }
@@ -98,7 +123,7 @@ pub fn key(job: &[u8], at: usize, row: u32) -> u64
     requires { ⌜ at < 1099511627776 ⌝ }
     ensures { λ r. ⌜ ((e : ℕ) (o : Option Column) → e ≤ length (now (job .entry)) → Is (optC columnC) (now (job .entry)) e at o → r ≡ keyIn o row) ⌝ }
 {
-    let x = int_of(opt_get(job, at, row));
+    let x = opt_int(job, at, row);
     match x {
         OptInt::Number(n) => n,
         OptInt::NoNumber => row as u64,
@@ -113,7 +138,7 @@ pub fn find_ref(job: &[u8], at: usize, above: u32) -> OptNum
     let mut left = codec::num(job, at);
     let mut p = at + 4;
     while 0 < left {
-        if job.len() < p {
+        if job.len() < p + 4 {
             return OptNum::Nothing;
         }
         let table = codec::num(job, p);
@@ -133,7 +158,7 @@ pub fn reference(job: &[u8], at: usize, above: u32, row: u32) -> OptInt
 {
     let found = find_ref(job, at, above);
     match found {
-        OptNum::Num(p) => int_of(opt_get(job, p, row)),
+        OptNum::Num(p) => opt_int(job, p, row),
         OptNum::Nothing => OptInt::NoNumber,
     }
 }

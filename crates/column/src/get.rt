@@ -2,70 +2,22 @@
 ghost use mathlib.Core.Path.{_≡_};
 ghost use mathlib.Core.List.{List};
 ghost use Prim.Native.Nat.{ℕ, _+_, _≤_, _<_};
-ghost use lib.ListN.{length};
-ghost use Rattle.codec.specs.Codec.{_⊗_, listC};
+ghost use lib.ListN.{length, getD};
+ghost use Rattle.codec.specs.Codec.{le};
 ghost use Rattle.codec.specs.Skip.{skip, Is};
-ghost use Rattle.codec.specs.Forms.{numC, byteC, longC, wideC, bytesC};
+ghost use Rattle.codec.specs.Forms.{bytesC};
 ghost use Rattle.format.specs.Data.{Values, valuesC, Column, columnC};
-ghost use Rattle.column.specs.Cell.{Cell as CellOf, held, between, bytesOf, valueOf, get as getOf};
+ghost use Rattle.column.specs.Cell.{between, get as getOf};
 ghost use Rattle.column.specs.Answers.{Reads};
 use crate::Bit;
 use crate::Cell;
 use crate::bitmap::bit_at;
 
-pub fn int_in(job: &[u8], at: usize, row: u32) -> Cell
-    requires { ⌜ at < 4398046511104 ⌝ }
-    ensures { λ r. ⌜ ((e : ℕ) (xs : List ℕ) → Is (listC longC) (now (job .entry)) e at xs → Reads (now (job .entry)) r (held CellOf.int64 xs row)) ⌝ }
-{
-    let n = codec::num(job, at);
-    if n <= row as usize {
-        return Cell::None;
-    }
-    Cell::Int(codec::long(job, at + 4 + row as usize * 8))
-}
-
-pub fn wide_in(job: &[u8], at: usize, row: u32) -> Cell
-    requires { ⌜ at < 4398046511104 ⌝ }
-    ensures { λ r. ⌜ ((e : ℕ) (xs : List ℕ) (scale : ℕ) → Is (listC wideC ⊗ byteC) (now (job .entry)) e at (xs, scale) → Reads (now (job .entry)) r (held (λ x. CellOf.decimal x scale) xs row)) ⌝ }
-{
-    let n = codec::num(job, at);
-    if n <= row as usize {
-        return Cell::None;
-    }
-    let low = codec::long(job, at + 4 + row as usize * 16);
-    let high = codec::long(job, at + 4 + row as usize * 16 + 8);
-    let scale = codec::byte_at(job, at + 4 + n * 16);
-    Cell::Wide(low, high, scale as u8)
-}
-
-pub fn days_in(job: &[u8], at: usize, row: u32) -> Cell
-    requires { ⌜ at < 4398046511104 ⌝ }
-    ensures { λ r. ⌜ ((e : ℕ) (xs : List ℕ) → Is (listC numC) (now (job .entry)) e at xs → Reads (now (job .entry)) r (held CellOf.date32 xs row)) ⌝ }
-{
-    let n = codec::num(job, at);
-    if n <= row as usize {
-        return Cell::None;
-    }
-    Cell::Days(codec::num(job, at + 4 + row as usize * 4) as u32)
-}
-
-pub fn seconds_in(job: &[u8], at: usize, row: u32) -> Cell
-    requires { ⌜ at < 4398046511104 ⌝ }
-    ensures { λ r. ⌜ ((e : ℕ) (xs : List ℕ) → Is (listC numC) (now (job .entry)) e at xs → Reads (now (job .entry)) r (held CellOf.time32 xs row)) ⌝ }
-{
-    let n = codec::num(job, at);
-    if n <= row as usize {
-        return Cell::None;
-    }
-    Cell::Seconds(codec::num(job, at + 4 + row as usize * 4) as u32)
-}
-
-// The bytes from one offset up to another of the byte string that stands at a place.
-pub fn stretch(job: &[u8], at: usize, from: u32, to: u32) -> Cell
+// The bytes from one offset up to another of the n bytes whose count stands at a place.
+pub fn stretch(at: usize, n: usize, from: u32, to: u32) -> Cell
     requires { ⌜ at < 8796093022208 ⌝ }
-    ensures { λ r. ⌜ ((e : ℕ) (bytes : List ℕ) → e ≤ length (now (job .entry)) → Is bytesC (now (job .entry)) e at bytes → Reads (now (job .entry)) r (between bytes from to)) ⌝ }
+    ensures { λ r. ⌜ ((b : List ℕ) (e : ℕ) (bytes : List ℕ) → n ≡ le 4 b at → e ≤ length b → Is bytesC b e at bytes → Reads b r (between bytes from to)) ⌝ }
 {
-    let n = codec::num(job, at);
     if 2147483648 <= from {
         return Cell::None;
     }
@@ -81,42 +33,107 @@ pub fn stretch(job: &[u8], at: usize, from: u32, to: u32) -> Cell
     Cell::Bytes(at + 4 + from as usize, (to - from) as usize)
 }
 
-pub fn bytes_in(job: &[u8], at: usize, row: u32) -> Cell
-    requires { ⌜ at < 4398046511104 ⌝ }
-    ensures { λ r. ⌜ ((e : ℕ) (offsets bytes : List ℕ) → e ≤ length (now (job .entry)) → Is (listC numC ⊗ bytesC) (now (job .entry)) e at (offsets, bytes) → Reads (now (job .entry)) r (bytesOf offsets bytes row)) ⌝ }
+// The cell of a row in the column of bytes, with n offsets, that stands at a place.
+pub fn bytes_cell(job: &[u8], at: usize, n: usize, row: u32) -> Cell
+    requires { ⌜ (at < 2199023255552) × (n < 4294967296) × (getD (now job) at 0 ≡ 0) × (n ≡ le 4 (now job) (at + 1)) ⌝ }
+    ensures { λ r. ⌜ ((e : ℕ) (v : Column) → e ≤ length (now (job .entry)) → Is columnC (now (job .entry)) e at v → Reads (now (job .entry)) r (getOf v row)) ⌝ }
 {
-    let n = codec::num(job, at);
-    let next = row as usize + 1;
-    if n <= next {
-        return Cell::None;
+    let data = at + 5 + n * 4;
+    let m = codec::num(job, data);
+    let bit = bit_at(job, data + 4 + m, row);
+    match bit {
+        Bit::Missing => Cell::None,
+        Bit::Unset => Cell::Null,
+        Bit::Set => {
+            let next = row as usize + 1;
+            if n <= next {
+                return Cell::None;
+            }
+            let from = codec::num(job, at + 5 + row as usize * 4);
+            let to = codec::num(job, at + 5 + next * 4);
+            stretch(data, m, from as u32, to as u32)
+        }
     }
-    let from = codec::num(job, at + 4 + row as usize * 4);
-    let to = codec::num(job, at + 4 + next * 4);
-    stretch(job, at + 4 + n * 4, from as u32, to as u32)
 }
 
-// The value of a row, whatever its validity, in the values that stand at a place.
-pub fn value(job: &[u8], at: usize, row: u32) -> Cell
+// The cell of a row in the column of n numbers of 64 bits that stands at a place.
+pub fn int_cell(job: &[u8], at: usize, n: usize, row: u32) -> Cell
+    requires { ⌜ (at < 2199023255552) × (n < 4294967296) × (getD (now job) at 0 ≡ 1) × (n ≡ le 4 (now job) (at + 1)) ⌝ }
+    ensures { λ r. ⌜ ((e : ℕ) (v : Column) → e ≤ length (now (job .entry)) → Is columnC (now (job .entry)) e at v → Reads (now (job .entry)) r (getOf v row)) ⌝ }
+{
+    let bit = bit_at(job, at + 5 + n * 8 + 1, row);
+    match bit {
+        Bit::Missing => Cell::None,
+        Bit::Unset => Cell::Null,
+        Bit::Set => {
+            if n <= row as usize {
+                return Cell::None;
+            }
+            Cell::Int(codec::long(job, at + 5 + row as usize * 8))
+        }
+    }
+}
+
+// The cell of a row in the column of n numbers of 128 bits that stands at a place.
+pub fn wide_cell(job: &[u8], at: usize, n: usize, row: u32) -> Cell
+    requires { ⌜ (at < 2199023255552) × (n < 4294967296) × (getD (now job) at 0 ≡ 2) × (n ≡ le 4 (now job) (at + 1)) ⌝ }
+    ensures { λ r. ⌜ ((e : ℕ) (v : Column) → e ≤ length (now (job .entry)) → Is columnC (now (job .entry)) e at v → Reads (now (job .entry)) r (getOf v row)) ⌝ }
+{
+    let bit = bit_at(job, at + 5 + n * 16 + 1, row);
+    match bit {
+        Bit::Missing => Cell::None,
+        Bit::Unset => Cell::Null,
+        Bit::Set => {
+            if n <= row as usize {
+                return Cell::None;
+            }
+            let low = codec::long(job, at + 5 + row as usize * 16);
+            let high = codec::long(job, at + 5 + row as usize * 16 + 8);
+            let scale = codec::byte_at(job, at + 5 + n * 16);
+            Cell::Wide(low, high, scale as u8)
+        }
+    }
+}
+
+// The cell of a row in the column of n days, which are of kind 3, or seconds that stands at a place.
+pub fn short_cell(job: &[u8], at: usize, kind: usize, n: usize, row: u32) -> Cell
+    requires { ⌜ (at < 2199023255552) × (n < 4294967296) × (2 < kind) × (getD (now job) at 0 ≡ kind) × (n ≡ le 4 (now job) (at + 1)) ⌝ }
+    ensures { λ r. ⌜ ((e : ℕ) (v : Column) → e ≤ length (now (job .entry)) → Is columnC (now (job .entry)) e at v → Reads (now (job .entry)) r (getOf v row)) ⌝ }
+{
+    let bit = bit_at(job, at + 5 + n * 4, row);
+    match bit {
+        Bit::Missing => Cell::None,
+        Bit::Unset => Cell::Null,
+        Bit::Set => {
+            if n <= row as usize {
+                return Cell::None;
+            }
+            let x = codec::num(job, at + 5 + row as usize * 4) as u32;
+            if kind == 3 {
+                return Cell::Days(x);
+            }
+            Cell::Seconds(x)
+        }
+    }
+}
+
+// The cell of a row in the column that stands at a place.
+pub fn get(job: &[u8], at: usize, row: u32) -> Cell
     requires { ⌜ at < 2199023255552 ⌝ }
-    ensures { λ r. ⌜ ((e : ℕ) (v : Values) → e ≤ length (now (job .entry)) → Is valuesC (now (job .entry)) e at v → Reads (now (job .entry)) r (valueOf v row)) ⌝ }
+    ensures { λ r. ⌜ ((e : ℕ) (v : Column) → e ≤ length (now (job .entry)) → Is columnC (now (job .entry)) e at v → Reads (now (job .entry)) r (getOf v row)) ⌝ }
 {
     let kind = codec::byte_at(job, at);
+    let n = codec::num(job, at + 1);
     if kind == 0 {
-        return bytes_in(job, at + 1, row);
+        return bytes_cell(job, at, n, row);
     }
     if kind == 1 {
-        return int_in(job, at + 1, row);
+        return int_cell(job, at, n, row);
     }
     if kind == 2 {
-        return wide_in(job, at + 1, row);
+        return wide_cell(job, at, n, row);
     }
-    if kind == 3 {
-        return days_in(job, at + 1, row);
-    }
-    if kind == 4 {
-        return seconds_in(job, at + 1, row);
-    }
-    Cell::None
+    short_cell(job, at, kind, n, row)
 }
 
 // The place behind the values that stand at a place.
@@ -147,18 +164,4 @@ pub fn after_column(job: &[u8], at: usize) -> usize
     let p = after_values(job, at);
     let n = codec::num(job, p);
     p + 4 + n + 4
-}
-
-// The cell of a row in the column that stands at a place.
-pub fn get(job: &[u8], at: usize, row: u32) -> Cell
-    requires { ⌜ at < 2199023255552 ⌝ }
-    ensures { λ r. ⌜ ((e : ℕ) (v : Column) → e ≤ length (now (job .entry)) → Is columnC (now (job .entry)) e at v → Reads (now (job .entry)) r (getOf v row)) ⌝ }
-{
-    let p = after_values(job, at);
-    let bit = bit_at(job, p, row);
-    match bit {
-        Bit::Missing => Cell::None,
-        Bit::Unset => Cell::Null,
-        Bit::Set => value(job, at, row),
-    }
 }

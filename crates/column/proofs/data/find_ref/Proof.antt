@@ -35,4 +35,4 @@ returns-3 : tie.Need-returns-3 Inv-loop μ-loop
 returns-3 c = (λ e refs l is. rest-done _ _ e _ _ _ (c .before .loop .inv .0 e refs l is) (c .loop-test .left), omega arith)
 
 pub find-ref-spec : {M : Type 1} → statement M
-find-ref-spec = tie.close (tie.spec Inv-loop μ-loop (λ c κs. search needs) (λ c. search needs) loop-holds returns (λ c κs. search needs) (λ c. search needs) returns-2 (λ c. search needs) (λ c κs. search needs) (λ c. search needs) (λ c. search needs) loop-again returns-3)
+find-ref-spec = tie.close (tie.spec Inv-loop μ-loop (λ c κs. search needs) (λ c. search needs) loop-holds (λ c. search needs) returns (λ c κs. search needs) (λ c. search needs) returns-2 (λ c. search needs) (λ c κs. search needs) (λ c. search needs) (λ c. search needs) loop-again returns-3)

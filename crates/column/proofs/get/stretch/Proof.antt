@@ -5,19 +5,19 @@ use Rattle.column.proofs.get.stretch.Statement.{statement}
 use Rattle.column.proofs.get.stretch.Tie as tie
 
 returns : tie.Need-returns
-returns c = from-negative _ _ _ _ _ (c .before .num .ensures .0) (c .if1 .taken)
+returns c = from-negative _ _ _ _ (c .if1 .taken)
 
 returns-2 : tie.Need-returns-2
-returns-2 c = to-negative _ _ _ _ _ (c .before .before .num .ensures .0) (c .before .if1 .left) (c .if2 .taken)
+returns-2 c = to-negative _ _ _ _ (c .before .if1 .left) (c .if2 .taken)
 
 returns-3 : tie.Need-returns-3
-returns-3 c = falling _ _ _ _ _ (c .before .before .before .num .ensures .0) (c .before .before .if1 .left) (c .before .if2 .left) (c .if3 .taken)
+returns-3 c = falling _ _ _ _ (c .before .before .if1 .left) (c .before .if2 .left) (c .if3 .taken)
 
 returns-4 : tie.Need-returns-4
-returns-4 c = passing _ _ _ _ _ (c .before .before .before .before .num .ensures .0) (c .before .before .before .if1 .left) (c .before .before .if2 .left) (c .before .if3 .left) (c .if4 .taken)
+returns-4 c = passing _ _ _ _ (c .before .before .before .if1 .left) (c .before .before .if2 .left) (c .before .if3 .left) (c .if4 .taken)
 
 returns-5 : tie.Need-returns-5
-returns-5 c = stretch-is _ _ _ _ _ (c .before .before .before .before .num .ensures .0) (c .before .before .before .if1 .left) (c .before .before .if2 .left) (c .before .if3 .left) (c .if4 .left)
+returns-5 c = stretch-is _ _ _ _ (c .before .before .before .if1 .left) (c .before .before .if2 .left) (c .before .if3 .left) (c .if4 .left)
 
 pub stretch-spec : {M : Type 1} → statement M
-stretch-spec = tie.close (tie.spec (λ c κs. search needs) returns returns-2 returns-3 returns-4 (λ c. search needs) (λ c. search needs) (λ c. search needs) returns-5)
+stretch-spec = tie.close (tie.spec returns returns-2 returns-3 returns-4 (λ c. search needs) (λ c. search needs) (λ c. search needs) returns-5)
