@@ -30,9 +30,6 @@ before-past (y ∷ ts) zero h = absurd (omega arith)
 before-past (y ∷ ts) (suc t) h = ap (λ n. y .rows + n) (before-past ts t (omega arith))
 
 module _ (b idx : List ℕ) (x : TablesIndexed b idx) where
-  pub count-is : (n p : ℕ) → n ≡ le 4 b p → p ≡ getD idx 2624 0 → n ≡ length (jobOf b .tables)
-  count-is n p h q = h ∙ rw q (sym (is-list tableDataC b (trailer b) _ _ (x .tables .list) .counted))
-
   pub past-table : (n t : ℕ) → n ≡ length (jobOf b .tables) → n ≤ t → dataOf (jobOf b) t ≡ noTableData
   unfolding dataOf
   past-table n t h q = List·getD-eq-default (jobOf b .tables) noTableData (omega arith)
@@ -46,6 +43,9 @@ module _ (b idx : List ℕ) (x : TablesIndexed b idx) where
 
   pub first-past : (n t p : ℕ) → n ≡ length (jobOf b .tables) → n ≤ t → p ≡ getD idx (2657 + n) 0 → p ≡ rowsBefore (jobOf b .tables) t
   first-past n t p h q i = i ∙ x .first n (omega arith) ∙ rw h (before-past (jobOf b .tables) t (omega arith))
+
+  pub refs-there : (n t p : ℕ) → n ≡ length (jobOf b .tables) → t < n → p ≡ getD idx (3203 + t) 0 → Is refsC b (trailer b) p ((dataOf (jobOf b) t) .refs)
+  refs-there n t p h q i = rw i (x .refs t (omega arith))
 
   -- the columns of a table
   pub column-there : (t n i p q : ℕ) → t < length (jobOf b .tables) → p ≡ getD idx (2674 + t * 33) 0 → n ≡ le 4 b p → i < n → q ≡ getD idx (2674 + t * 33 + 1 + i) 0 → Is (optC columnC) b (trailer b) q (getD ((dataOf (jobOf b) t) .columns) i none)
@@ -88,13 +88,6 @@ module _ (b : List ℕ) (p : ℕ) (v : TableData) (h : Is tableDataC b (trailer 
 
     pub segment-in : s ≤ length b
     segment-in = let i : s ≤ trailer b = is-in _ b (trailer b) s _ segment-there in omega arith
-
-    module _ (r : ℕ) (g : (e : ℕ) (o : Option Column) → Is (optC columnC) b e s o → r ≡ skip (optC columnC) b s e) where
-      pub refs-there : Is refsC b (trailer b) r (v .refs)
-      refs-there = rw (g _ _ segment-there, f _ _ row-there) (all .refs)
-
-      pub refs-in : r ≤ length b
-      refs-in = let i : r ≤ trailer b = is-in _ b (trailer b) r _ refs-there in omega arith
 
 -- ---- a table that is not there
 pub none-cell : (b : List ℕ) (v : TableData) (column row : ℕ) → v ≡ noTableData → Reads b cell.Null (some (cellOf v column row))

@@ -14,7 +14,7 @@ use Rattle.codec.specs.Codec.{le, leC}
 use Rattle.codec.specs.Forms.{optC}
 use Rattle.codec.specs.Skip.{skip, countAt, Is, skip-le}
 use Rattle.codec.specs.Field.{is-list, count-list, is-le}
-use Rattle.codec.specs.Rows.{small}
+use Rattle.codec.specs.Rows.{small, is-small}
 use Rattle.codec.specs.Limits.{none-of, none-in}
 use Rattle.format.specs.Data.{columnC, TableData, tableDataC, noTableData, dataC}
 use Rattle.format.specs.Sections.{jobOf, dataStart, trailer}
@@ -26,8 +26,8 @@ use Rattle.column.specs.Parts.{refsC, is-table-data}
 use Rattle.spec.specs.Kept.{Kept, kept-same, kept-set, kept-then, kept-wide}
 use Rattle.spec.specs.Region.{Stored, Listed}
 use Rattle.spec.proofs.Storing.{Lists, stored-kept, listed}
-use Rattle.tables.specs.Parts.{columnsFrom, rowsBefore, rowsBy}
-use Rattle.tables.specs.Index.{TablesIndexed, TablesFilled}
+use Rattle.tables.specs.Parts.{refsFrom, columnsFrom, rowsBefore, rowsBy}
+use Rattle.tables.specs.Index.{TablesIndexed, RefsStored, TablesFilled}
 
 -- ---- the columns of the tables, one table after the other
 abbrev pub Columns : List ℕ → ℕ → ℕ → List ℕ → List ℕ → Type 0
@@ -37,6 +37,38 @@ module _ (b : List ℕ) (e : ℕ) where
   -- the list stands behind rows, row, segment and refs
   pub columns-at : (p q r s t at k : ℕ) (new : List ℕ) → p ≡ q → r ≡ skip (leC 4) b p e → s ≡ skip (optC columnC) b r e → t ≡ skip (optC columnC) b s e → at ≡ skip refsC b t e → Stored (optC columnC) b e at k new → Stored (optC columnC) b e (columnsFrom b e q) k new
   columns-at p q r s t at k new h i j m n w = rw (← h, ← i, ← j, ← m, ← n) w
+
+-- ---- the references of the tables
+-- the places of the first t tables' references are stored
+pub record Refs (b : List ℕ) (e t : ℕ) (old new : List ℕ) : Type 0 where
+  pub kept : Kept 3202 3219 old new
+  pub stored : (j : ℕ) → j < t → 3203 + j < length old → getD new (3203 + j) 0 ≡ small (refsFrom b e (getD old (2625 + j) 0))
+
+module _ (b : List ℕ) (e : ℕ) where
+  pub refs-none : (idx : List ℕ) → Refs b e 0 idx idx
+  refs-none idx = record { kept = kept-same _ _ idx; stored = λ j m. absurd (omega arith) }
+
+  pub refs-more : (t p r s q : ℕ) (old d new : List ℕ) → t < 16 → Refs b e t old d → p ≡ getD d (2625 + t) 0 → r ≡ skip (leC 4) b p e → s ≡ skip (optC columnC) b r e → q ≡ skip (optC columnC) b s e → new ≡ set d (3203 + t) (small q) → Refs b e (t + 1) old new
+  refs-more t p r s q old d new m h i k l n w = record { kept = kept-set 3202 3219 old d new (3203 + t) (small q) (h .kept) w (omega arith) (omega arith); stored = λ j o y. rw w (go j o y (ltb j t) refl) }
+    where
+      from : q ≡ refsFrom b e (getD old (2625 + t) 0)
+      from = rw (n, l, k, i, h .kept .below (2625 + t) (omega arith))
+
+      go : (j : ℕ) → j < t + 1 → 3203 + j < length old → (u : Bool) → ltb j t ≡ u → getD (set d (3203 + t) (small q)) (3203 + j) 0 ≡ small (refsFrom b e (getD old (2625 + j) 0))
+      go j o y true v = let z : j < t = ltb-true _ _ v in getD-set-other d (3203 + t) (3203 + j) (small q) 0 (omega arith) ∙ h .stored j z y
+      go j o y false v =
+          let z : t ≤ j = ltb-false _ _ v in
+          let x : j ≡ t = omega arith in
+          let g : 3203 + t < length d = omega (arith, h .kept .long) in
+          rw x (getD-set-same d (3203 + t) (small q) 0 g ∙ ap small from)
+
+  -- and in front of them the count
+  pub refs-all : (n t : ℕ) (old d new : List ℕ) → n ≤ t → Refs b e t old d → new ≡ set d 3202 (small n) → RefsStored b e n old new
+  refs-all n t old d new q h w = record {
+    kept = kept-set 3202 3219 old d new 3202 (small n) (h .kept) w (omega arith) (omega arith);
+    count = λ m. rw w (getD-set-same d 3202 (small n) 0 (omega (arith, h .kept .long)));
+    place = λ j m l. rw w (getD-set-other d 3202 (3203 + j) (small n) 0 (omega arith) ∙ h .stored j (omega arith) l);
+  }
 
 -- ---- the rows before each table
 -- the numbers of the first t tables are stored; f rows stand before the next
@@ -107,9 +139,20 @@ rows-by b idx e ts h m (suc t) q =
     rw z (rw (i, ← k) (sym n))
 
 -- ---- all together
-module _ (b x₀ x₁ x₂ x₃ : List ℕ) (w : Passed b) (k₁ : Kept 2624 2657 x₀ x₁) (s₁ : Stored tableDataC b (trailer b) (dataStart b) 2624 x₁)
+module _ (b x₀ y₀ x₁ x₂ x₃ : List ℕ) (w : Passed b) (k₀ : Kept 2624 2657 x₀ y₀) (s₀ : Stored tableDataC b (trailer b) (dataStart b) 2624 y₀)
+    (r₁ : RefsStored b (trailer b) (countAt b (dataStart b) (trailer b)) y₀ x₁)
     (k₂ : Kept 2674 3202 x₁ x₂) (s₂ : (t : ℕ) → t < countAt b (dataStart b) (trailer b) → Stored (optC columnC) b (trailer b) (columnsFrom b (trailer b) (getD x₁ (2625 + t) 0)) (2674 + t * 33) x₂)
     (k₃ : Kept 2657 2674 x₂ x₃) (s₃ : (t : ℕ) → t ≤ countAt b (dataStart b) (trailer b) → 2657 + t < length x₂ → getD x₃ (2657 + t) 0 ≡ small (rowsBy b x₂ t)) where
+  k₁ : Kept 2624 4096 x₀ x₁
+  k₁ = kept-then 2624 4096 3202 3219 x₀ y₀ x₁ (kept-wide 2624 2657 2624 4096 x₀ y₀ (omega arith) (omega arith) k₀) (r₁ .kept) (omega arith) (omega arith)
+
+  s₁ : Stored tableDataC b (trailer b) (dataStart b) 2624 x₁
+  s₁ = stored-kept tableDataC b (trailer b) _ 2624 3202 3219 y₀ x₁ s₀ (r₁ .kept) (inl (omega arith))
+
+  -- what stands behind the columns stays
+  behind : (i : ℕ) → 3202 ≤ i → getD x₃ i 0 ≡ getD x₁ i 0
+  behind i h = k₃ .above i (omega arith) ∙ k₂ .above i h
+
   data-there : Is dataC b (trailer b) (dataStart b) (jobOf b .tables)
   data-there = is-read dataC b (dataStart b) (trailer b) _ (w .read .tables)
 
@@ -167,12 +210,25 @@ module _ (b x₀ x₁ x₂ x₃ : List ℕ) (w : Passed b) (k₁ : Kept 2624 265
         let y : skip (leC 4) b (getD x₁ (2625 + t) 0) (trailer b) ≡ getD x₁ (2625 + t) 0 + 4 = skip-le 4 b _ (trailer b) (is-le 4 b (trailer b) _ _ (i .rows) .0) in
         listed (optC columnC) b (trailer b) _ (2674 + t * 33) x₃ _ fits (omega (arith, long₃)) s (rw y (i .columns))
 
+    count : getD x₃ 3202 0 ≡ length (jobOf b .tables)
+    count = omega (arith, few-tables, counted, behind 3202 (omega arith), r₁ .count (omega (arith, k₀ .long)))
+
+    listed-refs : (t : ℕ) → t < length (jobOf b .tables) → Is refsC b (trailer b) (getD x₃ (3203 + t) 0) ((dataOf (jobOf b) t) .refs)
+    unfolding dataOf
+    listed-refs t m =
+        let n = few-tables in
+        let i = is-table-data b (trailer b) _ _ (listed₁ .item t noTableData m (omega arith)) in
+        let y : skip (leC 4) b (getD x₁ (2625 + t) 0) (trailer b) ≡ getD x₁ (2625 + t) 0 + 4 = skip-le 4 b _ (trailer b) (is-le 4 b (trailer b) _ _ (i .rows) .0) in
+        let h : getD x₁ (2625 + t) 0 ≡ getD y₀ (2625 + t) 0 = r₁ .kept .below (2625 + t) (omega arith) in
+        let z : getD x₃ (3203 + t) 0 ≡ small (refsFrom b (trailer b) (getD x₁ (2625 + t) 0)) = rw h (behind (3203 + t) (omega arith) ∙ r₁ .place t (omega (arith, counted)) (omega (arith, k₀ .long))) in
+        is-small refsC b (trailer b) (refsFrom b (trailer b) (getD x₁ (2625 + t) 0)) _ _ fits z (rw y (i .refs))
+
     pub tables-indexed : TablesIndexed b x₃
-    tables-indexed = record { short = w .sound .most; few = few-tables; few-rows = few-rows; few-columns = few-columns; tables = listed₃; first = firsts; columns = listed-columns }
+    tables-indexed = record { short = w .sound .most; few = few-tables; few-rows = few-rows; few-columns = few-columns; tables = listed₃; first = firsts; count = count; refs = listed-refs; columns = listed-columns }
 
   pub tables-filled : TablesFilled b x₀ x₃
   tables-filled = record {
-    kept = kept-then 2624 4096 2657 2674 x₀ x₂ x₃ (kept-then 2624 4096 2674 3202 x₀ x₁ x₂ (kept-wide 2624 2657 2624 4096 x₀ x₁ (omega arith) (omega arith) k₁) k₂ (omega arith) (omega arith)) k₃ (omega arith) (omega arith);
+    kept = kept-then 2624 4096 2657 2674 x₀ x₂ x₃ (kept-then 2624 4096 2674 3202 x₀ x₁ x₂ k₁ k₂ (omega arith) (omega arith)) k₃ (omega arith) (omega arith);
     indexed = tables-indexed;
   }
 
@@ -186,9 +242,9 @@ few-counted b n at e w p q c =
     omega arith
 
 -- the numbers of the trailer, as they were read
-pub filled : (b x₀ x₁ x₂ x₃ : List ℕ) (n at e : ℕ) → Passed b → at ≡ dataStart b → e ≡ trailer b → n ≡ countAt b at e → Kept 2624 2657 x₀ x₁ → Stored tableDataC b e at 2624 x₁
+pub filled : (b x₀ y₀ x₁ x₂ x₃ : List ℕ) (n at e : ℕ) → Passed b → at ≡ dataStart b → e ≡ trailer b → n ≡ countAt b at e → Kept 2624 2657 x₀ y₀ → Stored tableDataC b e at 2624 y₀ → RefsStored b e n y₀ x₁
     → Kept 2674 3202 x₁ x₂ → ((t : ℕ) → t < n → Stored (optC columnC) b e (columnsFrom b e (getD x₁ (2625 + t) 0)) (2674 + t * 33) x₂)
     → Kept 2657 2674 x₂ x₃ → ((t : ℕ) → t ≤ n → 2657 + t < length x₂ → getD x₃ (2657 + t) 0 ≡ small (rowsBy b x₂ t)) → TablesFilled b x₀ x₃
-filled b x₀ x₁ x₂ x₃ n at e w p q c k₁ s₁ k₂ s₂ k₃ s₃ =
+filled b x₀ y₀ x₁ x₂ x₃ n at e w p q c k₀ s₀ r₁ k₂ s₂ k₃ s₃ =
     let m : n ≡ countAt b (dataStart b) (trailer b) = rw (← p, ← q) c in
-    tables-filled b x₀ x₁ x₂ x₃ w k₁ (rw (← p, ← q) s₁) k₂ (λ t h. rw (← q) (s₂ t (omega arith))) k₃ (λ t h. s₃ t (omega arith))
+    tables-filled b x₀ y₀ x₁ x₂ x₃ w k₀ (rw (← p, ← q) s₀) (rw (← m, ← q) r₁) k₂ (λ t h. rw (← q) (s₂ t (omega arith))) k₃ (λ t h. s₃ t (omega arith))

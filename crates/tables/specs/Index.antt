@@ -1,18 +1,22 @@
 -- The region of data in the index of a job that passed: the place of the list of tables and those of its tables (33 numbers), how many
--- rows stand before each table and in all (17), and for each table the place of its list of columns and those of its columns (33).
+-- rows stand before each table and in all (17), for each table the place of its list of columns and those of its columns (33), and how many
+-- tables there are and the place of each one's references (17).
 use Prim.Native.Nat.{ℕ, _+_, _*_, _≤_, _<_}
-use mathlib.Core.Path.{_≡_}
+use mathlib.Core.Path.{_≡_, _∙_}
 use mathlib.Core.List.{List}
 use native.Mathlib.Omega.{arith}
 use lib.ListN.{length, getD}
 use Rattle.codec.specs.Forms.{optC}
+use Rattle.codec.specs.Skip.{Is}
+use Rattle.codec.specs.Rows.{small}
 use Rattle.format.specs.Data.{columnC, tableDataC}
 use Rattle.format.specs.Sections.{jobOf, trailer}
 use Rattle.format.specs.Refusal.{rowsOfAll}
 use Rattle.format.specs.Ask.{dataOf}
+use Rattle.column.specs.Parts.{refsC}
 use Rattle.spec.specs.Kept.{Kept}
 use Rattle.spec.specs.Region.{Listed, listed-kept}
-use Rattle.tables.specs.Parts.{rowsBefore}
+use Rattle.tables.specs.Parts.{refsFrom, rowsBefore}
 
 -- from here on, the columns of a table
 abbrev pub columnsAt : ℕ → ℕ
@@ -25,6 +29,8 @@ pub record TablesIndexed (b idx : List ℕ) : Type 0 where
   pub few-columns : (t : ℕ) → length ((dataOf (jobOf b) t) .columns) ≤ 32
   pub tables : Listed tableDataC b (trailer b) idx 2624 (jobOf b .tables)
   pub first : (t : ℕ) → t ≤ length (jobOf b .tables) → getD idx (2657 + t) 0 ≡ rowsBefore (jobOf b .tables) t
+  pub count : getD idx 3202 0 ≡ length (jobOf b .tables)
+  pub refs : (t : ℕ) → t < length (jobOf b .tables) → Is refsC b (trailer b) (getD idx (3203 + t) 0) ((dataOf (jobOf b) t) .refs)
   pub columns : (t : ℕ) → t < length (jobOf b .tables) → Listed (optC columnC) b (trailer b) idx (columnsAt t) ((dataOf (jobOf b) t) .columns)
 
 -- it holds as well of any index that agrees on the region
@@ -38,8 +44,16 @@ tables-indexed-kept b idx new q h =
       few-columns = h .few-columns;
       tables = listed-kept _ _ _ 2624 idx new _ (λ i m o. q i (omega arith) (omega arith)) (h .tables);
       first = λ t m. rw (q (2657 + t) (omega arith) (omega arith)) (h .first t m);
+      count = q 3202 (omega arith) (omega arith) ∙ h .count;
+      refs = λ t m. rw (q (3203 + t) (omega arith) (omega arith)) (h .refs t m);
       columns = λ t m. listed-kept _ _ _ (columnsAt t) idx new _ (λ i o p. q i (omega arith) (omega arith)) (h .columns t m);
     }
+
+-- the count n of the tables and the places of their references are stored, and nothing else
+pub record RefsStored (b : List ℕ) (e n : ℕ) (old new : List ℕ) : Type 0 where
+  pub kept : Kept 3202 3219 old new
+  pub count : 3202 < length old → getD new 3202 0 ≡ small n
+  pub place : (t : ℕ) → t < n → 3203 + t < length old → getD new (3203 + t) 0 ≡ small (refsFrom b e (getD old (2625 + t) 0))
 
 -- what filling does: the region of an index that has room for it, and nothing else
 pub record TablesFilled (b old new : List ℕ) : Type 0 where

@@ -13,9 +13,12 @@ use Rattle.format.specs.Sections.{trailer}
 use Rattle.format.specs.Refusal.{rowsOfAll}
 use Rattle.column.specs.Parts.{refsC}
 
--- where the columns of a table's data stand
+-- where the references of a table's data stand, and its columns
+abbrev pub refsFrom : List ℕ → ℕ → ℕ → ℕ
+refsFrom b e at = skip (optC columnC) b (skip (optC columnC) b (skip (leC 4) b at e) e) e
+
 abbrev pub columnsFrom : List ℕ → ℕ → ℕ → ℕ
-columnsFrom b e at = skip refsC b (skip (optC columnC) b (skip (optC columnC) b (skip (leC 4) b at e) e) e) e
+columnsFrom b e at = skip refsC b (refsFrom b e at) e
 
 -- how many rows the tables before t have
 unfoldable pub rowsBefore : List TableData → ℕ → ℕ

@@ -21,8 +21,7 @@ pub fn data_count(job: &[u8], index: &[u32]) -> u32
     requires { ⌜ TablesIndexed (now job) (now index) ⌝ }
     ensures { λ r. ⌜ r ≡ length (jobOf (now (job .entry)) .tables) ⌝ }
 {
-    let p = codec::place(index, 2624);
-    codec::num(job, p) as u32
+    codec::place(index, 3202) as u32
 }
 
 // Where a table stands.
@@ -108,13 +107,10 @@ pub fn reference(job: &[u8], index: &[u32], t: TableId, above: u32, row: RowId) 
     requires { ⌜ TablesIndexed (now job) (now index) ⌝ }
     ensures { λ r. ⌜ intIs r ≡ referenceOf (dataOf (jobOf (now (job .entry))) (t .0)) above (row .0) ⌝ }
 {
-    let found = table_at(job, index, t);
-    match found {
-        OptNum::Num(p) => {
-            let segment = after_opt(job, p + 4);
-            let refs = after_opt(job, segment);
-            column::data::reference(job, refs, above, row.0)
-        }
-        OptNum::Nothing => OptInt::NoNumber,
+    let n = data_count(job, index);
+    if n <= t.0 {
+        return OptInt::NoNumber;
     }
+    let p = codec::place(index, 3203 + t.0 as usize);
+    column::data::reference(job, p, above, row.0)
 }

@@ -9,9 +9,26 @@ ghost use Rattle.format.specs.Passed.{Passed};
 ghost use Rattle.spec.specs.Kept.{Kept};
 ghost use Rattle.spec.specs.Region.{Stored};
 ghost use Rattle.tables.specs.Parts.{columnsFrom, rowsBy};
-ghost use Rattle.tables.specs.Index.{TablesFilled};
+ghost use Rattle.tables.specs.Index.{RefsStored, TablesFilled};
 use spec::region::Part;
 use spec::region::list_into;
+
+// Stores for each of the first n tables the place of its references, and in front of them n.
+pub fn refs_into(job: &[u8], index: &mut [u32], n: u32, end: u32)
+    requires { ⌜ n ≤ 16 ⌝ }
+    ensures { λ r. ⌜ RefsStored (now (job .entry)) end n (now (index .entry)) (now (index .exit)) ⌝ }
+{
+    let mut t: u32 = 0;
+    while t < n {
+        let p = codec::place(index, 2625 + t as usize);
+        let row = codec::le_at(job, 4, p, end);
+        let segment = format::opt_column_at(job, row, end);
+        let refs = format::opt_column_at(job, segment, end);
+        codec::put(index, 3203 + t as usize, refs);
+        t = t + 1;
+    }
+    codec::put(index, 3202, n as usize);
+}
 
 // Stores the places of the columns of table t, whose place is stored.
 pub fn columns_into(job: &[u8], index: &mut [u32], t: u32, end: u32)
@@ -71,6 +88,7 @@ pub fn fill(job: &[u8], index: &mut [u32])
     let end = t as u32;
     list_into(job, index, Part::Table, 2624, start, end);
     let n = codec::count_at(job, start, end);
+    refs_into(job, index, n as u32, end);
     all_columns_into(job, index, n as u32, end);
     firsts_into(job, index, n as u32);
 }
