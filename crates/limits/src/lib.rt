@@ -4,15 +4,25 @@ ghost use Rattle.codec.specs.Codec.{_⊗_, listC};
 ghost use Rattle.codec.specs.Forms.{bytesC, numC, optC};
 ghost use Rattle.codec.specs.Limits.{anyOf};
 ghost use Rattle.format.specs.Words.{ifSome};
-ghost use Rattle.format.specs.Spec.{componentC, controlC, elementC, loopC, repeatC, segmentC, specC, tableC, versionC};
+ghost use Rattle.codec.specs.Skip.{Is};
+ghost use Rattle.format.specs.Fields.{specRoots, specTables};
+ghost use Rattle.format.specs.Spec.{componentC, controlC, elementC, loopC, repeatC, segmentC, Spec, specC, tableC, versionC};
 ghost use Rattle.format.specs.Layout.{layoutC};
 ghost use Rattle.format.specs.Refusal.{large, over, overComponent, overControl, overData, overElement, overElementPlan, overLoop, overLoopPlan, overSegment, overSegmentPlan, overSpec, overStep, overTable, overTableData, overVersion};
 ghost use Rattle.format.specs.Plan.{elementPlanC, loopPlanC, segmentPlanC};
 ghost use Rattle.format.specs.Data.{tableDataC};
 ghost use mathlib.Core.Bool.{false};
-ghost use Rattle.format.specs.Sections.{broken, jobOf, spoilt};
-ghost use Rattle.says.specs.Says.{Says};
-ghost use Rattle.limits.specs.Parts.{overLayout, overRows};
+ghost use Rattle.format.specs.Sections.{broken, jobOf, planStart, spoilt};
+ghost use Rattle.says.specs.Says.{Says, Passes};
+ghost use Rattle.limits.specs.Parts.{overLayout, overTables};
+use says::Told;
+
+// Whether a limit is passed, and where roots and tables of the spec stand, which is right where none is.
+pub struct Parts {
+    pub found: bool,
+    pub roots: usize,
+    pub tables: usize,
+}
 
 // ---- spec
 
@@ -68,64 +78,84 @@ pub fn opt_control_over(b: &[u8], at: usize, end: u32) -> bool
     false
 }
 
-pub fn loop_over(b: &[u8], at: usize, end: u32) -> bool
-    ensures { λ r. ⌜ Says loopC (now (b .entry)) end at overLoop r ⌝ }
+pub fn loop_over(b: &[u8], at: usize, end: u32) -> Told
+    ensures { λ r. ⌜ Passes loopC (now (b .entry)) end at overLoop (r .found) (r .next) ⌝ }
 {
     let parent = codec::opt_num_at(b, at, end);
     let trigger = codec::bytes_at(b, parent, end);
     let occurrences = codec::strings_at(b, trigger, end);
     let usage = codec::case_at(b, 2, occurrences, end);
     let last = codec::opt_bytes_at(b, usage, end);
+    let control = format::opt_control_at(b, last, end);
     let x = 32 < codec::count_at(b, trigger, end);
     let y = opt_control_over(b, last, end);
-    codec::either(x, y)
+    let found = codec::either(x, y);
+    let next = codec::les_at(b, 4, control, end);
+    Told {
+        found: found,
+        next: next,
+    }
 }
 
-pub fn loops_over(b: &[u8], at: usize, end: u32) -> bool
-    ensures { λ r. ⌜ Says (listC loopC) (now (b .entry)) end at (anyOf overLoop) r ⌝ }
+pub fn loops_over(b: &[u8], at: usize, end: u32) -> Told
+    ensures { λ r. ⌜ Passes (listC loopC) (now (b .entry)) end at (anyOf overLoop) (r .found) (r .next) ⌝ }
 {
     let mut left = codec::count_at(b, at, end);
     let mut p = codec::le_at(b, 4, at, end);
     while 0 < left {
-        if loop_over(b, p, end) {
-            return true;
+        let t = loop_over(b, p, end);
+        if t.found {
+            return t;
         }
-        p = format::loop_at(b, p, end);
+        p = t.next;
         left = left - 1;
     }
-    false
+    Told {
+        found: false,
+        next: p,
+    }
 }
 
 // A component and its number.
-pub fn component_over(b: &[u8], at: usize, end: u32) -> bool
-    ensures { λ r. ⌜ Says (numC ⊗ componentC) (now (b .entry)) end at overComponent r ⌝ }
+pub fn component_over(b: &[u8], at: usize, end: u32) -> Told
+    ensures { λ r. ⌜ Passes (numC ⊗ componentC) (now (b .entry)) end at overComponent (r .found) (r .next) ⌝ }
 {
     let value = codec::le_at(b, 4, at, end);
     let kind = format::kind_at(b, value, end);
+    let min = codec::opt_num_at(b, kind, end);
+    let max = codec::opt_num_at(b, min, end);
     let x = large_at(b, at, end);
     let y = opt_large_at(b, kind, end);
-    codec::either(x, y)
+    let found = codec::either(x, y);
+    let next = codec::strings_at(b, max, end);
+    Told {
+        found: found,
+        next: next,
+    }
 }
 
-pub fn components_over(b: &[u8], at: usize, end: u32) -> bool
-    ensures { λ r. ⌜ Says (listC (numC ⊗ componentC)) (now (b .entry)) end at (anyOf overComponent) r ⌝ }
+pub fn components_over(b: &[u8], at: usize, end: u32) -> Told
+    ensures { λ r. ⌜ Passes (listC (numC ⊗ componentC)) (now (b .entry)) end at (anyOf overComponent) (r .found) (r .next) ⌝ }
 {
     let mut left = codec::count_at(b, at, end);
     let mut p = codec::le_at(b, 4, at, end);
     while 0 < left {
-        if component_over(b, p, end) {
-            return true;
+        let t = component_over(b, p, end);
+        if t.found {
+            return t;
         }
-        let value = codec::le_at(b, 4, p, end);
-        p = format::component_at(b, value, end);
+        p = t.next;
         left = left - 1;
     }
-    false
+    Told {
+        found: false,
+        next: p,
+    }
 }
 
 // An element and its number.
-pub fn element_over(b: &[u8], at: usize, end: u32) -> bool
-    ensures { λ r. ⌜ Says (numC ⊗ elementC) (now (b .entry)) end at overElement r ⌝ }
+pub fn element_over(b: &[u8], at: usize, end: u32) -> Told
+    ensures { λ r. ⌜ Passes (numC ⊗ elementC) (now (b .entry)) end at overElement (r .found) (r .next) ⌝ }
 {
     let value = codec::le_at(b, 4, at, end);
     let kind = format::kind_at(b, value, end);
@@ -134,47 +164,58 @@ pub fn element_over(b: &[u8], at: usize, end: u32) -> bool
     let x = large_at(b, at, end);
     let y = opt_large_at(b, kind, end);
     let z = components_over(b, max, end);
-    codec::either(x, codec::either(y, z))
+    let found = codec::either(x, codec::either(y, z.found));
+    let next = codec::strings_at(b, z.next, end);
+    Told {
+        found: found,
+        next: next,
+    }
 }
 
-pub fn elements_over(b: &[u8], at: usize, end: u32) -> bool
-    ensures { λ r. ⌜ Says (listC (numC ⊗ elementC)) (now (b .entry)) end at (anyOf overElement) r ⌝ }
+pub fn elements_over(b: &[u8], at: usize, end: u32) -> Told
+    ensures { λ r. ⌜ Passes (listC (numC ⊗ elementC)) (now (b .entry)) end at (anyOf overElement) (r .found) (r .next) ⌝ }
 {
     let mut left = codec::count_at(b, at, end);
     let mut p = codec::le_at(b, 4, at, end);
     while 0 < left {
-        if element_over(b, p, end) {
-            return true;
+        let t = element_over(b, p, end);
+        if t.found {
+            return t;
         }
-        let value = codec::le_at(b, 4, p, end);
-        p = format::element_at(b, value, end);
+        p = t.next;
         left = left - 1;
     }
-    false
+    Told {
+        found: false,
+        next: p,
+    }
 }
 
 // A segment and its identifier.
-pub fn segment_over(b: &[u8], at: usize, end: u32) -> bool
-    ensures { λ r. ⌜ Says (bytesC ⊗ segmentC) (now (b .entry)) end at overSegment r ⌝ }
+pub fn segment_over(b: &[u8], at: usize, end: u32) -> Told
+    ensures { λ r. ⌜ Passes (bytesC ⊗ segmentC) (now (b .entry)) end at overSegment (r .found) (r .next) ⌝ }
 {
     let value = codec::bytes_at(b, at, end);
     elements_over(b, value, end)
 }
 
-pub fn segments_over(b: &[u8], at: usize, end: u32) -> bool
-    ensures { λ r. ⌜ Says (listC (bytesC ⊗ segmentC)) (now (b .entry)) end at (anyOf overSegment) r ⌝ }
+pub fn segments_over(b: &[u8], at: usize, end: u32) -> Told
+    ensures { λ r. ⌜ Passes (listC (bytesC ⊗ segmentC)) (now (b .entry)) end at (anyOf overSegment) (r .found) (r .next) ⌝ }
 {
     let mut left = codec::count_at(b, at, end);
     let mut p = codec::le_at(b, 4, at, end);
     while 0 < left {
-        if segment_over(b, p, end) {
-            return true;
+        let t = segment_over(b, p, end);
+        if t.found {
+            return t;
         }
-        let value = codec::bytes_at(b, p, end);
-        p = format::elements_at(b, value, end);
+        p = t.next;
         left = left - 1;
     }
-    false
+    Told {
+        found: false,
+        next: p,
+    }
 }
 
 pub fn step_over(b: &[u8], at: usize, end: u32) -> bool
@@ -194,30 +235,41 @@ pub fn opt_step_over(b: &[u8], at: usize, end: u32) -> bool
     false
 }
 
-pub fn table_over(b: &[u8], at: usize, end: u32) -> bool
-    ensures { λ r. ⌜ Says tableC (now (b .entry)) end at overTable r ⌝ }
+pub fn table_over(b: &[u8], at: usize, end: u32) -> Told
+    ensures { λ r. ⌜ Passes tableC (now (b .entry)) end at overTable (r .found) (r .next) ⌝ }
 {
     let loops = codec::les_at(b, 4, at, end);
     let segment = codec::case_at(b, 2, loops, end);
     let repeat = format::opt_repeat_at(b, segment, end);
+    let columns = codec::le_at(b, 4, repeat, end);
+    let parent = codec::opt_num_at(b, columns, end);
     let x = 32 < codec::count_at(b, repeat, end);
     let y = opt_step_over(b, segment, end);
-    codec::either(x, y)
+    let found = codec::either(x, y);
+    let next = codec::les_at(b, 4, parent, end);
+    Told {
+        found: found,
+        next: next,
+    }
 }
 
-pub fn tables_over(b: &[u8], at: usize, end: u32) -> bool
-    ensures { λ r. ⌜ Says (listC tableC) (now (b .entry)) end at (anyOf overTable) r ⌝ }
+pub fn tables_over(b: &[u8], at: usize, end: u32) -> Told
+    ensures { λ r. ⌜ Passes (listC tableC) (now (b .entry)) end at (anyOf overTable) (r .found) (r .next) ⌝ }
 {
     let mut left = codec::count_at(b, at, end);
     let mut p = codec::le_at(b, 4, at, end);
     while 0 < left {
-        if table_over(b, p, end) {
-            return true;
+        let t = table_over(b, p, end);
+        if t.found {
+            return t;
         }
-        p = format::table_at(b, p, end);
+        p = t.next;
         left = left - 1;
     }
-    false
+    Told {
+        found: false,
+        next: p,
+    }
 }
 
 pub fn version_over(b: &[u8], at: usize, end: u32) -> bool
@@ -237,96 +289,121 @@ pub fn opt_version_over(b: &[u8], at: usize, end: u32) -> bool
     false
 }
 
-pub fn spec_over(b: &[u8], at: usize, end: u32) -> bool
-    ensures { λ r. ⌜ Says specC (now (b .entry)) end at overSpec r ⌝ }
+pub fn spec_over(b: &[u8], at: usize, end: u32) -> Parts
+    ensures { λ r. ⌜ ((v : Spec) → Is specC (now (b .entry)) end at v → (r .found ≡ overSpec v) × (r .found ≡ false → (r .roots ≡ specRoots (now (b .entry)) end at) × (r .tables ≡ specTables (now (b .entry)) end at))) ⌝ }
 {
-    let loops = format::loops_at(b, at, end);
-    let roots = codec::les_at(b, 4, loops, end);
-    let segments = format::segments_at(b, roots, end);
-    let tables = format::tables_at(b, segments, end);
+    let roots = loops_over(b, at, end);
+    let segments = codec::les_at(b, 4, roots.next, end);
+    let tables = segments_over(b, segments, end);
+    let version = tables_over(b, tables.next, end);
     let x = 32 < codec::count_at(b, at, end);
-    let y = 16 < codec::count_at(b, segments, end);
-    let z = loops_over(b, at, end);
-    let u = segments_over(b, roots, end);
-    let v = tables_over(b, segments, end);
-    let w = opt_version_over(b, tables, end);
-    codec::either(
+    let y = 16 < codec::count_at(b, tables.next, end);
+    let w = opt_version_over(b, version.next, end);
+    let last = codec::either(y, codec::either(version.found, w));
+    let found = codec::either(
         x,
-        codec::either(y, codec::either(z, codec::either(u, codec::either(v, w)))),
-    )
+        codec::either(roots.found, codec::either(tables.found, last)),
+    );
+    Parts {
+        found,
+        roots: roots.next,
+        tables: tables.next,
+    }
 }
 
 // ---- plan and layout
 
-pub fn element_plan_over(b: &[u8], at: usize, end: u32) -> bool
-    ensures { λ r. ⌜ Says elementPlanC (now (b .entry)) end at overElementPlan r ⌝ }
+pub fn element_plan_over(b: &[u8], at: usize, end: u32) -> Told
+    ensures { λ r. ⌜ Passes elementPlanC (now (b .entry)) end at overElementPlan (r .found) (r .next) ⌝ }
 {
     let element = codec::le_at(b, 4, at, end);
+    let component = codec::opt_num_at(b, element, end);
     let x = large_at(b, at, end);
     let y = opt_large_at(b, element, end);
-    codec::either(x, y)
+    let found = codec::either(x, y);
+    let next = format::value_at(b, component, end);
+    Told {
+        found: found,
+        next: next,
+    }
 }
 
-pub fn element_plans_over(b: &[u8], at: usize, end: u32) -> bool
-    ensures { λ r. ⌜ Says (listC elementPlanC) (now (b .entry)) end at (anyOf overElementPlan) r ⌝ }
+pub fn element_plans_over(b: &[u8], at: usize, end: u32) -> Told
+    ensures { λ r. ⌜ Passes (listC elementPlanC) (now (b .entry)) end at (anyOf overElementPlan) (r .found) (r .next) ⌝ }
 {
     let mut left = codec::count_at(b, at, end);
     let mut p = codec::le_at(b, 4, at, end);
     while 0 < left {
-        if element_plan_over(b, p, end) {
-            return true;
+        let t = element_plan_over(b, p, end);
+        if t.found {
+            return t;
         }
-        p = format::element_plan_at(b, p, end);
+        p = t.next;
         left = left - 1;
     }
-    false
+    Told {
+        found: false,
+        next: p,
+    }
 }
 
-pub fn segment_plan_over(b: &[u8], at: usize, end: u32) -> bool
-    ensures { λ r. ⌜ Says segmentPlanC (now (b .entry)) end at overSegmentPlan r ⌝ }
+pub fn segment_plan_over(b: &[u8], at: usize, end: u32) -> Told
+    ensures { λ r. ⌜ Passes segmentPlanC (now (b .entry)) end at overSegmentPlan (r .found) (r .next) ⌝ }
 {
     let occurrence = codec::le_at(b, 4, at, end);
     let source = format::source_at(b, occurrence, end);
     element_plans_over(b, source, end)
 }
 
-pub fn segment_plans_over(b: &[u8], at: usize, end: u32) -> bool
-    ensures { λ r. ⌜ Says (listC segmentPlanC) (now (b .entry)) end at (anyOf overSegmentPlan) r ⌝ }
+pub fn segment_plans_over(b: &[u8], at: usize, end: u32) -> Told
+    ensures { λ r. ⌜ Passes (listC segmentPlanC) (now (b .entry)) end at (anyOf overSegmentPlan) (r .found) (r .next) ⌝ }
 {
     let mut left = codec::count_at(b, at, end);
     let mut p = codec::le_at(b, 4, at, end);
     while 0 < left {
-        if segment_plan_over(b, p, end) {
-            return true;
+        let t = segment_plan_over(b, p, end);
+        if t.found {
+            return t;
         }
-        p = format::segment_plan_at(b, p, end);
+        p = t.next;
         left = left - 1;
     }
-    false
+    Told {
+        found: false,
+        next: p,
+    }
 }
 
-pub fn loop_plan_over(b: &[u8], at: usize, end: u32) -> bool
-    ensures { λ r. ⌜ Says loopPlanC (now (b .entry)) end at overLoopPlan r ⌝ }
+pub fn loop_plan_over(b: &[u8], at: usize, end: u32) -> Told
+    ensures { λ r. ⌜ Passes loopPlanC (now (b .entry)) end at overLoopPlan (r .found) (r .next) ⌝ }
 {
     let instances = format::instances_at(b, at, end);
     let x = 32 < codec::count_at(b, instances, end);
     let y = segment_plans_over(b, instances, end);
-    codec::either(x, y)
+    let found = codec::either(x, y.found);
+    Told {
+        found,
+        next: y.next,
+    }
 }
 
-pub fn plan_over(b: &[u8], at: usize, end: u32) -> bool
-    ensures { λ r. ⌜ Says (listC loopPlanC) (now (b .entry)) end at (anyOf overLoopPlan) r ⌝ }
+pub fn plan_over(b: &[u8], at: usize, end: u32) -> Told
+    ensures { λ r. ⌜ Passes (listC loopPlanC) (now (b .entry)) end at (anyOf overLoopPlan) (r .found) (r .next) ⌝ }
 {
     let mut left = codec::count_at(b, at, end);
     let mut p = codec::le_at(b, 4, at, end);
     while 0 < left {
-        if loop_plan_over(b, p, end) {
-            return true;
+        let t = loop_plan_over(b, p, end);
+        if t.found {
+            return t;
         }
-        p = format::loop_plan_at(b, p, end);
+        p = t.next;
         left = left - 1;
     }
-    false
+    Told {
+        found: false,
+        next: p,
+    }
 }
 
 // The capacities.
@@ -342,34 +419,24 @@ pub fn layout_over(b: &[u8], at: usize, end: u32) -> bool
 
 // ---- data
 
-pub fn table_data_over(b: &[u8], at: usize, end: u32) -> bool
-    ensures { λ r. ⌜ Says tableDataC (now (b .entry)) end at overTableData r ⌝ }
+pub fn table_data_over(b: &[u8], at: usize, end: u32) -> Told
+    ensures { λ r. ⌜ Passes tableDataC (now (b .entry)) end at overTableData (r .found) (r .next) ⌝ }
 {
     let rows = codec::le_at(b, 4, at, end);
     let row = format::opt_column_at(b, rows, end);
     let segment = format::opt_column_at(b, row, end);
     let refs = format::references_at(b, segment, end);
-    32 < codec::count_at(b, refs, end)
-}
-
-pub fn table_datas_over(b: &[u8], at: usize, end: u32) -> bool
-    ensures { λ r. ⌜ Says (listC tableDataC) (now (b .entry)) end at (anyOf overTableData) r ⌝ }
-{
-    let mut left = codec::count_at(b, at, end);
-    let mut p = codec::le_at(b, 4, at, end);
-    while 0 < left {
-        if table_data_over(b, p, end) {
-            return true;
-        }
-        p = format::table_data_at(b, p, end);
-        left = left - 1;
+    let found = 32 < codec::count_at(b, refs, end);
+    let next = format::columns_at(b, refs, end);
+    Told {
+        found: found,
+        next: next,
     }
-    false
 }
 
-// The rows of all tables together.
-pub fn rows_over(b: &[u8], at: usize, end: u32) -> bool
-    ensures { λ r. ⌜ Says (listC tableDataC) (now (b .entry)) end at overRows r ⌝ }
+// Each table, and the rows of all together.
+pub fn table_datas_over(b: &[u8], at: usize, end: u32) -> bool
+    ensures { λ r. ⌜ Says (listC tableDataC) (now (b .entry)) end at overTables r ⌝ }
 {
     let mut left = codec::count_at(b, at, end);
     let mut p = codec::le_at(b, 4, at, end);
@@ -379,7 +446,11 @@ pub fn rows_over(b: &[u8], at: usize, end: u32) -> bool
         if 4096 < rows {
             return true;
         }
-        p = format::table_data_at(b, p, end);
+        let t = table_data_over(b, p, end);
+        if t.found {
+            return true;
+        }
+        p = t.next;
         left = left - 1;
     }
     false
@@ -389,17 +460,16 @@ pub fn data_over(b: &[u8], at: usize, end: u32) -> bool
     ensures { λ r. ⌜ Says (listC tableDataC) (now (b .entry)) end at overData r ⌝ }
 {
     let x = 16 < codec::count_at(b, at, end);
-    let y = rows_over(b, at, end);
-    let z = table_datas_over(b, at, end);
-    codec::either(x, codec::either(y, z))
+    let y = table_datas_over(b, at, end);
+    codec::either(x, y)
 }
 
 // ---- the whole
 
 // 3: a limit is passed.
-pub fn over_at(b: &[u8]) -> bool
+pub fn over_at(b: &[u8]) -> Parts
     requires { ⌜ (broken (now b) ≡ false) × (spoilt (now b) ≡ false) ⌝ }
-    ensures { λ r. ⌜ r ≡ over (jobOf (now (b .entry))) ⌝ }
+    ensures { λ r. ⌜ (r .found ≡ over (jobOf (now (b .entry)))) × (r .found ≡ false → (r .roots ≡ specRoots (now (b .entry)) (planStart (now (b .entry))) 0) × (r .tables ≡ specTables (now (b .entry)) (planStart (now (b .entry))) 0)) ⌝ }
 {
     let plan = says::start(b, 4);
     let layout = says::start(b, 8);
@@ -410,5 +480,10 @@ pub fn over_at(b: &[u8]) -> bool
     let y = plan_over(b, plan as usize, layout);
     let z = layout_over(b, layout as usize, envelope);
     let w = data_over(b, data as usize, t);
-    codec::either(x, codec::either(y, codec::either(z, w)))
+    let found = codec::either(x.found, codec::either(y.found, codec::either(z, w)));
+    Parts {
+        found,
+        roots: x.roots,
+        tables: x.tables,
+    }
 }

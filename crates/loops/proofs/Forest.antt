@@ -14,7 +14,7 @@ use Rattle.codec.specs.Limits.{any, anyOf, none-of}
 use Rattle.format.specs.Words.{anyFrom, memberOf, present, repeats, timesIn, none-from}
 use Rattle.format.specs.Spec.{Loop, loopC, noLoop, Spec, specC}
 use Rattle.format.specs.Layout.{Item, itemC, Layout, layoutC}
-use Rattle.format.specs.Fields.{is-spec, is-layout}
+use Rattle.format.specs.Fields.{specRoots, specTables, is-spec, is-layout}
 use Rattle.format.specs.Refusal.{outside, disagrees, ringed, misrooted, misordered, outsideLoop, outsideTable, outsideOrder, tangledLoops, tangled}
 use Rattle.format.specs.Job.{Job}
 use Rattle.format.specs.Decoding.{ReadAs, is-read}
@@ -101,6 +101,13 @@ roots-tangle s x r h i q t = sym (third-true _ _ _ (roots-twice (s .roots) (s .l
 -- ---- a test of the orders, which stand first in their section
 pub order-says : (b : List ℕ) (at e at′ e′ : ℕ) (f : List (List Item) → Bool) (r : Bool) (v : Layout) → Says (listC (listC itemC)) b e at f r → at ≡ at′ → e ≡ e′ → layoutC .read b at′ e′ ≡ got v e′ → r ≡ f (v .order)
 order-says b at e at′ e′ f r v s i j h = s (v .order) (rw (i, j) (is-layout b e′ at′ v (is-read layoutC b at′ e′ v h) .order))
+
+-- where roots and tables stand in the section that ends at e
+pub roots-for : (b : List ℕ) (e e′ r : ℕ) → e ≡ e′ → r ≡ specRoots b e′ 0 → r ≡ specRoots b e 0
+roots-for b e e′ r h i = i ∙ rw h
+
+pub tables-for : (b : List ℕ) (e e′ t : ℕ) → e ≡ e′ → t ≡ specTables b e′ 0 → t ≡ specTables b e 0
+tables-for b e e′ t h i = i ∙ rw h
 
 -- the loops stand first in theirs, and the roots behind them
 pub spec-roots : (b : List ℕ) (e e′ : ℕ) (v : Spec) (p : ℕ) (r : Bool) → Says (listC numC) b e p repeats r → p ≡ skip (listC loopC) b 0 e → e ≡ e′ → specC .read b 0 e′ ≡ got v e′ → r ≡ repeats (v .roots)

@@ -1,3 +1,4 @@
 pub mod Items
 pub mod Tangle
 pub mod Forest
+pub mod ByNumber

@@ -11,9 +11,10 @@ ghost use Rattle.codec.specs.Limits.{anyOf};
 ghost use Rattle.format.specs.Words.{anyFrom, ifSome, timesIn};
 ghost use Rattle.format.specs.Spec.{Loop, loopC, specC};
 ghost use Rattle.format.specs.Layout.{Item, itemC};
+ghost use Rattle.format.specs.Fields.{specRoots, specTables};
 ghost use Rattle.format.specs.Refusal.{disagrees, loopsIn, misordered, misrooted, notChild, notParent, ringed, tangled};
 ghost use mathlib.Core.Bool.{false};
-ghost use Rattle.format.specs.Sections.{broken, jobOf, spoilt};
+ghost use Rattle.format.specs.Sections.{broken, jobOf, planStart, spoilt};
 ghost use Rattle.says.specs.Says.{Says, SaysRest, SaysBefore};
 ghost use Rattle.tree.specs.Parts.{onLoop, Placed, Noted};
 ghost use Rattle.loops.specs.Parts.{hit, memberIn, repeatsIn, againIn, misplacedIn, repeatsBelow, tangledSpec};
@@ -80,17 +81,18 @@ pub fn loop_repeats(b: &[u8], at: usize, end: u32) -> bool
     tree::repeats_at(b, children, end)
 }
 
-pub fn loops_repeat(b: &[u8], at: usize, end: u32) -> bool
+pub fn loops_repeat(b: &[u8], at: usize, end: u32, places: &[usize]) -> bool
+    requires { ⌜ Placed (now b) end at (now places) ⌝ }
     ensures { λ r. ⌜ Says (listC loopC) (now (b .entry)) end at (anyOf repeatsBelow) r ⌝ }
 {
-    let mut left = codec::count_at(b, at, end);
-    let mut p = codec::le_at(b, 4, at, end);
-    while 0 < left {
+    let n = codec::count_at(b, at, end);
+    let mut k: usize = 0;
+    while k < n {
+        let p = tree::place_of(b, at, end, places, k);
         if loop_repeats(b, p, end) {
             return true;
         }
-        p = format::loop_at(b, p, end);
-        left = left - 1;
+        k = k + 1;
     }
     false
 }
@@ -108,20 +110,18 @@ pub fn disagrees_at(b: &[u8], at: usize, end: u32, loops: usize, places: &[usize
     codec::either(x, y)
 }
 
-pub fn disagreements(b: &[u8], at: usize, end: u32, loops: usize, places: &[usize]) -> bool
-    requires { ⌜ Placed (now b) end loops (now places) ⌝ }
-    ensures { λ r. ⌜ ((ls : List Loop) → Is (listC loopC) (now (b .entry)) end loops ls → Says (listC loopC) (now (b .entry)) end at (anyFrom (disagrees ls) 0) r) ⌝ }
+pub fn disagreements(b: &[u8], at: usize, end: u32, places: &[usize]) -> bool
+    requires { ⌜ Placed (now b) end at (now places) ⌝ }
+    ensures { λ r. ⌜ ((ls : List Loop) → Is (listC loopC) (now (b .entry)) end at ls → Says (listC loopC) (now (b .entry)) end at (anyFrom (disagrees ls) 0) r) ⌝ }
 {
-    let mut left = codec::count_at(b, at, end);
-    let mut p = codec::le_at(b, 4, at, end);
+    let n = codec::count_at(b, at, end);
     let mut k: usize = 0;
-    while 0 < left {
-        if disagrees_at(b, p, end, loops, places, k) {
+    while k < n {
+        let p = tree::place_of(b, at, end, places, k);
+        if disagrees_at(b, p, end, at, places, k) {
             return true;
         }
-        p = format::loop_at(b, p, end);
         k = k + 1;
-        left = left - 1;
     }
     false
 }
@@ -145,20 +145,17 @@ pub fn ringed_at(b: &[u8], at: usize, end: u32, places: &[usize], i: usize) -> b
     true
 }
 
-pub fn rings(b: &[u8], at: usize, end: u32, loops: usize, places: &[usize]) -> bool
-    requires { ⌜ Placed (now b) end loops (now places) ⌝ }
-    ensures { λ r. ⌜ ((ls : List Loop) → Is (listC loopC) (now (b .entry)) end loops ls → Says (listC loopC) (now (b .entry)) end at (anyFrom (ringed ls) 0) r) ⌝ }
+pub fn rings(b: &[u8], at: usize, end: u32, places: &[usize]) -> bool
+    requires { ⌜ Placed (now b) end at (now places) ⌝ }
+    ensures { λ r. ⌜ ((ls : List Loop) → Is (listC loopC) (now (b .entry)) end at ls → Says (listC loopC) (now (b .entry)) end at (anyFrom (ringed ls) 0) r) ⌝ }
 {
-    let mut left = codec::count_at(b, at, end);
-    let mut p = codec::le_at(b, 4, at, end);
+    let n = codec::count_at(b, at, end);
     let mut k: usize = 0;
-    while 0 < left {
-        if ringed_at(b, loops, end, places, k) {
+    while k < n {
+        if ringed_at(b, at, end, places, k) {
             return true;
         }
-        p = format::loop_at(b, p, end);
         k = k + 1;
-        left = left - 1;
     }
     false
 }
@@ -197,19 +194,18 @@ pub fn misrooted_at(b: &[u8], at: usize, end: u32, roots: usize, i: usize) -> bo
     t != 1
 }
 
-pub fn misroots(b: &[u8], at: usize, end: u32, roots: usize) -> bool
+pub fn misroots(b: &[u8], at: usize, end: u32, roots: usize, places: &[usize]) -> bool
+    requires { ⌜ Placed (now b) end at (now places) ⌝ }
     ensures { λ r. ⌜ ((rs : List ℕ) → Is (listC numC) (now (b .entry)) end roots rs → Says (listC loopC) (now (b .entry)) end at (anyFrom (misrooted rs) 0) r) ⌝ }
 {
-    let mut left = codec::count_at(b, at, end);
-    let mut p = codec::le_at(b, 4, at, end);
+    let n = codec::count_at(b, at, end);
     let mut k: usize = 0;
-    while 0 < left {
+    while k < n {
+        let p = tree::place_of(b, at, end, places, k);
         if misrooted_at(b, p, end, roots, k) {
             return true;
         }
-        p = format::loop_at(b, p, end);
         k = k + 1;
-        left = left - 1;
     }
     false
 }
@@ -417,43 +413,41 @@ pub fn misorders(b: &[u8], at: usize, end: u32, loops: usize, bound: u32, places
 
 // ---- the whole
 
-pub fn spec_tangled(b: &[u8], at: usize, end: u32, places: &[usize]) -> bool
-    requires { ⌜ Placed (now b) end at (now places) ⌝ }
+pub fn spec_tangled(b: &[u8], at: usize, end: u32, roots: usize, places: &[usize]) -> bool
+    requires { ⌜ Placed (now b) end at (now places) × (roots ≡ specRoots (now b) end at) ⌝ }
     ensures { λ r. ⌜ Says specC (now (b .entry)) end at tangledSpec r ⌝ }
 {
-    if loops_repeat(b, at, end) {
+    if loops_repeat(b, at, end, places) {
         return true;
     }
-    let roots = format::loops_at(b, at, end);
-    let x = disagreements(b, at, end, at, places);
-    let y = rings(b, at, end, at, places);
-    let z = misroots(b, at, end, roots);
+    let x = disagreements(b, at, end, places);
+    let y = rings(b, at, end, places);
+    let z = misroots(b, at, end, roots, places);
     codec::either(x, codec::either(y, z))
 }
 
-// 4: the loops are no forest that roots, tables and orders fit.
-pub fn tangled_at(b: &[u8]) -> bool
-    requires { ⌜ (broken (now b) ≡ false) × (spoilt (now b) ≡ false) ⌝ }
+// 4: the loops are no forest that roots, tables and orders fit. Where roots and tables stand is known.
+pub fn tangled_at(b: &[u8], roots: usize, tables: usize) -> bool
+    requires { ⌜ (broken (now b) ≡ false) × (spoilt (now b) ≡ false) × (roots ≡ specRoots (now b) (planStart (now b)) 0) × (tables ≡ specTables (now b) (planStart (now b)) 0) ⌝ }
     ensures { λ r. ⌜ r ≡ tangled (jobOf (now (b .entry))) ⌝ }
 {
     let plan = says::start(b, 4);
     let layout = says::start(b, 8);
     let envelope = says::start(b, 12);
     let n = codec::count_at(b, 0, plan);
-    if tree::spec_outside(b, 0, plan) {
+    if tree::spec_outside(b, 0, plan, roots, tables) {
         return true;
     }
     if tree::orders_outside(b, layout as usize, envelope, n) {
         return true;
     }
     // no list of roots that is counted through is long
-    let roots = format::loops_at(b, 0, plan);
     if tree::repeats_at(b, roots, plan) {
         return true;
     }
     let mut places = [0usize; 32];
     tree::fill_places(b, 0, plan, &mut places);
-    if spec_tangled(b, 0, plan, &places) {
+    if spec_tangled(b, 0, plan, roots, &places) {
         return true;
     }
     misorders(b, layout as usize, envelope, 0, plan, &places)

@@ -12,8 +12,9 @@ ghost use Rattle.format.specs.Data.{columnC, tableDataC};
 ghost use Rattle.format.specs.Envelope.{Envelope, envelopeC};
 ghost use mathlib.Core.Bool.{false};
 ghost use Rattle.format.specs.Sections.{broken, jobOf, spoilt};
-ghost use Rattle.says.specs.Says.{Says};
+ghost use Rattle.says.specs.Says.{Says, Passes};
 ghost use Rattle.marks.specs.Parts.{stray, marked, markedEnvelope, foreignEnvelope, high};
+use says::Told;
 
 // ---- bytes and byte strings
 
@@ -79,19 +80,25 @@ pub fn unnamed_at(b: &[u8], at: usize, end: u32) -> bool
     true
 }
 
-pub fn names_unfit(b: &[u8], at: usize, end: u32) -> bool
-    ensures { λ r. ⌜ Says (listC bytesC) (now (b .entry)) end at (anyOf unnamed) r ⌝ }
+pub fn names_unfit(b: &[u8], at: usize, end: u32) -> Told
+    ensures { λ r. ⌜ Passes (listC bytesC) (now (b .entry)) end at (anyOf unnamed) (r .found) (r .next) ⌝ }
 {
     let mut left = codec::count_at(b, at, end);
     let mut p = codec::le_at(b, 4, at, end);
     while 0 < left {
         if unnamed_at(b, p, end) {
-            return true;
+            return Told {
+                found: true,
+                next: p,
+            };
         }
         p = codec::bytes_at(b, p, end);
         left = left - 1;
     }
-    false
+    Told {
+        found: false,
+        next: p,
+    }
 }
 
 pub fn opt_unnamed_at(b: &[u8], at: usize, end: u32) -> bool
@@ -136,53 +143,69 @@ pub fn opt_foreign_at(b: &[u8], at: usize, end: u32) -> bool
     false
 }
 
-pub fn codes_unfit(b: &[u8], at: usize, end: u32) -> bool
-    ensures { λ r. ⌜ Says (listC bytesC) (now (b .entry)) end at (anyOf foreign) r ⌝ }
+pub fn codes_unfit(b: &[u8], at: usize, end: u32) -> Told
+    ensures { λ r. ⌜ Passes (listC bytesC) (now (b .entry)) end at (anyOf foreign) (r .found) (r .next) ⌝ }
 {
     let mut left = codec::count_at(b, at, end);
     let mut p = codec::le_at(b, 4, at, end);
     while 0 < left {
         if foreign_at(b, p, end) {
-            return true;
+            return Told {
+                found: true,
+                next: p,
+            };
         }
         p = codec::bytes_at(b, p, end);
         left = left - 1;
     }
-    false
+    Told {
+        found: false,
+        next: p,
+    }
 }
 
 // ---- spec
 
-pub fn loop_unfit(b: &[u8], at: usize, end: u32) -> bool
-    ensures { λ r. ⌜ Says loopC (now (b .entry)) end at unfitLoop r ⌝ }
+pub fn loop_unfit(b: &[u8], at: usize, end: u32) -> Told
+    ensures { λ r. ⌜ Passes loopC (now (b .entry)) end at unfitLoop (r .found) (r .next) ⌝ }
 {
     let parent = codec::opt_num_at(b, at, end);
     let trigger = codec::bytes_at(b, parent, end);
-    let occurrences = codec::strings_at(b, trigger, end);
-    let usage = codec::case_at(b, 2, occurrences, end);
     let x = unnamed_at(b, parent, end);
     let y = names_unfit(b, trigger, end);
+    let usage = codec::case_at(b, 2, y.next, end);
+    let last = codec::opt_bytes_at(b, usage, end);
+    let control = format::opt_control_at(b, last, end);
     let z = opt_unnamed_at(b, usage, end);
-    codec::either(x, codec::either(y, z))
+    let found = codec::either(x, codec::either(y.found, z));
+    let next = codec::les_at(b, 4, control, end);
+    Told {
+        found: found,
+        next: next,
+    }
 }
 
-pub fn loops_unfit(b: &[u8], at: usize, end: u32) -> bool
-    ensures { λ r. ⌜ Says (listC loopC) (now (b .entry)) end at (anyOf unfitLoop) r ⌝ }
+pub fn loops_unfit(b: &[u8], at: usize, end: u32) -> Told
+    ensures { λ r. ⌜ Passes (listC loopC) (now (b .entry)) end at (anyOf unfitLoop) (r .found) (r .next) ⌝ }
 {
     let mut left = codec::count_at(b, at, end);
     let mut p = codec::le_at(b, 4, at, end);
     while 0 < left {
-        if loop_unfit(b, p, end) {
-            return true;
+        let t = loop_unfit(b, p, end);
+        if t.found {
+            return t;
         }
-        p = format::loop_at(b, p, end);
+        p = t.next;
         left = left - 1;
     }
-    false
+    Told {
+        found: false,
+        next: p,
+    }
 }
 
-pub fn component_unfit(b: &[u8], at: usize, end: u32) -> bool
-    ensures { λ r. ⌜ Says (numC ⊗ componentC) (now (b .entry)) end at unfitComponent r ⌝ }
+pub fn component_unfit(b: &[u8], at: usize, end: u32) -> Told
+    ensures { λ r. ⌜ Passes (numC ⊗ componentC) (now (b .entry)) end at unfitComponent (r .found) (r .next) ⌝ }
 {
     let value = codec::le_at(b, 4, at, end);
     let kind = format::kind_at(b, value, end);
@@ -191,74 +214,90 @@ pub fn component_unfit(b: &[u8], at: usize, end: u32) -> bool
     codes_unfit(b, max, end)
 }
 
-pub fn components_unfit(b: &[u8], at: usize, end: u32) -> bool
-    ensures { λ r. ⌜ Says (listC (numC ⊗ componentC)) (now (b .entry)) end at (anyOf unfitComponent) r ⌝ }
+pub fn components_unfit(b: &[u8], at: usize, end: u32) -> Told
+    ensures { λ r. ⌜ Passes (listC (numC ⊗ componentC)) (now (b .entry)) end at (anyOf unfitComponent) (r .found) (r .next) ⌝ }
 {
     let mut left = codec::count_at(b, at, end);
     let mut p = codec::le_at(b, 4, at, end);
     while 0 < left {
-        if component_unfit(b, p, end) {
-            return true;
+        let t = component_unfit(b, p, end);
+        if t.found {
+            return t;
         }
-        let value = codec::le_at(b, 4, p, end);
-        p = format::component_at(b, value, end);
+        p = t.next;
         left = left - 1;
     }
-    false
+    Told {
+        found: false,
+        next: p,
+    }
 }
 
-pub fn element_unfit(b: &[u8], at: usize, end: u32) -> bool
-    ensures { λ r. ⌜ Says (numC ⊗ elementC) (now (b .entry)) end at unfitElement r ⌝ }
+pub fn element_unfit(b: &[u8], at: usize, end: u32) -> Told
+    ensures { λ r. ⌜ Passes (numC ⊗ elementC) (now (b .entry)) end at unfitElement (r .found) (r .next) ⌝ }
 {
     let value = codec::le_at(b, 4, at, end);
     let kind = format::kind_at(b, value, end);
     let min = codec::opt_num_at(b, kind, end);
     let max = codec::opt_num_at(b, min, end);
-    let components = format::components_at(b, max, end);
     let x = components_unfit(b, max, end);
-    let y = codes_unfit(b, components, end);
-    codec::either(x, y)
+    let y = codes_unfit(b, x.next, end);
+    let found = codec::either(x.found, y.found);
+    Told {
+        found,
+        next: y.next,
+    }
 }
 
-pub fn elements_unfit(b: &[u8], at: usize, end: u32) -> bool
-    ensures { λ r. ⌜ Says (listC (numC ⊗ elementC)) (now (b .entry)) end at (anyOf unfitElement) r ⌝ }
+pub fn elements_unfit(b: &[u8], at: usize, end: u32) -> Told
+    ensures { λ r. ⌜ Passes (listC (numC ⊗ elementC)) (now (b .entry)) end at (anyOf unfitElement) (r .found) (r .next) ⌝ }
 {
     let mut left = codec::count_at(b, at, end);
     let mut p = codec::le_at(b, 4, at, end);
     while 0 < left {
-        if element_unfit(b, p, end) {
-            return true;
+        let t = element_unfit(b, p, end);
+        if t.found {
+            return t;
         }
-        let value = codec::le_at(b, 4, p, end);
-        p = format::element_at(b, value, end);
+        p = t.next;
         left = left - 1;
     }
-    false
+    Told {
+        found: false,
+        next: p,
+    }
 }
 
-pub fn segment_unfit(b: &[u8], at: usize, end: u32) -> bool
-    ensures { λ r. ⌜ Says (bytesC ⊗ segmentC) (now (b .entry)) end at unfitSegment r ⌝ }
+pub fn segment_unfit(b: &[u8], at: usize, end: u32) -> Told
+    ensures { λ r. ⌜ Passes (bytesC ⊗ segmentC) (now (b .entry)) end at unfitSegment (r .found) (r .next) ⌝ }
 {
     let value = codec::bytes_at(b, at, end);
     let x = unnamed_at(b, at, end);
     let y = elements_unfit(b, value, end);
-    codec::either(x, y)
+    let found = codec::either(x, y.found);
+    Told {
+        found,
+        next: y.next,
+    }
 }
 
-pub fn segments_unfit(b: &[u8], at: usize, end: u32) -> bool
-    ensures { λ r. ⌜ Says (listC (bytesC ⊗ segmentC)) (now (b .entry)) end at (anyOf unfitSegment) r ⌝ }
+pub fn segments_unfit(b: &[u8], at: usize, end: u32) -> Told
+    ensures { λ r. ⌜ Passes (listC (bytesC ⊗ segmentC)) (now (b .entry)) end at (anyOf unfitSegment) (r .found) (r .next) ⌝ }
 {
     let mut left = codec::count_at(b, at, end);
     let mut p = codec::le_at(b, 4, at, end);
     while 0 < left {
-        if segment_unfit(b, p, end) {
-            return true;
+        let t = segment_unfit(b, p, end);
+        if t.found {
+            return t;
         }
-        let value = codec::bytes_at(b, p, end);
-        p = format::elements_at(b, value, end);
+        p = t.next;
         left = left - 1;
     }
-    false
+    Told {
+        found: false,
+        next: p,
+    }
 }
 
 pub fn version_unfit(b: &[u8], at: usize, end: u32) -> bool
@@ -284,14 +323,12 @@ pub fn opt_version_unfit(b: &[u8], at: usize, end: u32) -> bool
 pub fn spec_unfit(b: &[u8], at: usize, end: u32) -> bool
     ensures { λ r. ⌜ Says specC (now (b .entry)) end at unfitSpec r ⌝ }
 {
-    let loops = format::loops_at(b, at, end);
-    let roots = codec::les_at(b, 4, loops, end);
-    let segments = format::segments_at(b, roots, end);
-    let tables = format::tables_at(b, segments, end);
-    let x = loops_unfit(b, at, end);
-    let y = segments_unfit(b, roots, end);
-    let z = opt_version_unfit(b, tables, end);
-    codec::either(x, codec::either(y, z))
+    let roots = loops_unfit(b, at, end);
+    let segments = codec::les_at(b, 4, roots.next, end);
+    let tables = segments_unfit(b, segments, end);
+    let version = format::tables_at(b, tables.next, end);
+    let z = opt_version_unfit(b, version, end);
+    codec::either(roots.found, codec::either(tables.found, z))
 }
 
 // ---- envelope
@@ -428,19 +465,25 @@ pub fn opt_column_unfit(b: &[u8], at: usize, end: u32) -> bool
     false
 }
 
-pub fn columns_unfit(b: &[u8], at: usize, end: u32) -> bool
-    ensures { λ r. ⌜ Says (listC (optC columnC)) (now (b .entry)) end at (anyOf (ifSome unfitColumn)) r ⌝ }
+pub fn columns_unfit(b: &[u8], at: usize, end: u32) -> Told
+    ensures { λ r. ⌜ Passes (listC (optC columnC)) (now (b .entry)) end at (anyOf (ifSome unfitColumn)) (r .found) (r .next) ⌝ }
 {
     let mut left = codec::count_at(b, at, end);
     let mut p = codec::le_at(b, 4, at, end);
     while 0 < left {
         if opt_column_unfit(b, p, end) {
-            return true;
+            return Told {
+                found: true,
+                next: p,
+            };
         }
         p = format::opt_column_at(b, p, end);
         left = left - 1;
     }
-    false
+    Told {
+        found: false,
+        next: p,
+    }
 }
 
 pub fn reference_unfit(b: &[u8], at: usize, end: u32) -> bool
@@ -450,48 +493,61 @@ pub fn reference_unfit(b: &[u8], at: usize, end: u32) -> bool
     opt_column_unfit(b, table, end)
 }
 
-pub fn references_unfit(b: &[u8], at: usize, end: u32) -> bool
-    ensures { λ r. ⌜ Says (listC (numC ⊗ optC columnC)) (now (b .entry)) end at (anyOf unfitReference) r ⌝ }
+pub fn references_unfit(b: &[u8], at: usize, end: u32) -> Told
+    ensures { λ r. ⌜ Passes (listC (numC ⊗ optC columnC)) (now (b .entry)) end at (anyOf unfitReference) (r .found) (r .next) ⌝ }
 {
     let mut left = codec::count_at(b, at, end);
     let mut p = codec::le_at(b, 4, at, end);
     while 0 < left {
         if reference_unfit(b, p, end) {
-            return true;
+            return Told {
+                found: true,
+                next: p,
+            };
         }
         p = format::reference_at(b, p, end);
         left = left - 1;
     }
-    false
+    Told {
+        found: false,
+        next: p,
+    }
 }
 
-pub fn table_data_unfit(b: &[u8], at: usize, end: u32) -> bool
-    ensures { λ r. ⌜ Says tableDataC (now (b .entry)) end at unfitTableData r ⌝ }
+pub fn table_data_unfit(b: &[u8], at: usize, end: u32) -> Told
+    ensures { λ r. ⌜ Passes tableDataC (now (b .entry)) end at unfitTableData (r .found) (r .next) ⌝ }
 {
     let rows = codec::le_at(b, 4, at, end);
     let row = format::opt_column_at(b, rows, end);
     let segment = format::opt_column_at(b, row, end);
-    let refs = format::references_at(b, segment, end);
     let x = opt_column_unfit(b, rows, end);
     let y = opt_column_unfit(b, row, end);
     let z = references_unfit(b, segment, end);
-    let w = columns_unfit(b, refs, end);
-    codec::either(x, codec::either(y, codec::either(z, w)))
+    let w = columns_unfit(b, z.next, end);
+    let found = codec::either(x, codec::either(y, codec::either(z.found, w.found)));
+    Told {
+        found,
+        next: w.next,
+    }
 }
 
-pub fn data_unfit(b: &[u8], at: usize, end: u32) -> bool
-    ensures { λ r. ⌜ Says (listC tableDataC) (now (b .entry)) end at (anyOf unfitTableData) r ⌝ }
+pub fn data_unfit(b: &[u8], at: usize, end: u32) -> Told
+    ensures { λ r. ⌜ Passes (listC tableDataC) (now (b .entry)) end at (anyOf unfitTableData) (r .found) (r .next) ⌝ }
 {
     let mut left = codec::count_at(b, at, end);
     let mut p = codec::le_at(b, 4, at, end);
     while 0 < left {
-        if table_data_unfit(b, p, end) {
-            return true;
+        let t = table_data_unfit(b, p, end);
+        if t.found {
+            return t;
         }
-        p = format::table_data_at(b, p, end);
+        p = t.next;
         left = left - 1;
     }
-    false
+    Told {
+        found: false,
+        next: p,
+    }
 }
 
 // ---- the whole
@@ -508,5 +564,5 @@ pub fn unfit_at(b: &[u8]) -> bool
     let x = spec_unfit(b, 0, plan);
     let y = envelope_unfit(b, envelope as usize, data);
     let z = data_unfit(b, data as usize, t);
-    codec::either(x, codec::either(y, z))
+    codec::either(x, codec::either(y, z.found))
 }

@@ -22,10 +22,11 @@ pub fn check(job: &[u8]) -> Checked
     if format::spoilt_at(job) {
         return Checked::Structure;
     }
-    if limits::over_at(job) {
+    let parts = limits::over_at(job);
+    if parts.found {
         return Checked::Limit;
     }
-    if loops::tangled_at(job) {
+    if loops::tangled_at(job, parts.roots, parts.tables) {
         return Checked::Loops;
     }
     if marks::unfit_at(job) {

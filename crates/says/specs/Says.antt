@@ -2,13 +2,17 @@
 use Prim.Native.Nat.{ℕ, _<_}
 use mathlib.Core.Path.{_≡_}
 use mathlib.Core.List.{List}
-use mathlib.Core.Bool.{Bool}
+use mathlib.Core.Bool.{Bool, false}
 use lib.ListN.{length, getD}
 use Rattle.codec.specs.Codec.{Codec}
-use Rattle.codec.specs.Skip.{Is, steps}
+use Rattle.codec.specs.Skip.{Is, skip, steps}
 
 abbrev pub Says : {A B : Type 0} → Codec A → List ℕ → ℕ → ℕ → (A → B) → B → Type 0
 Says {A} C b e at f r = (v : A) → Is C b e at v → r ≡ f v
+
+-- what a test answers, and where that is no, the place behind what it was asked of
+abbrev pub Passes : {A : Type 0} → Codec A → List ℕ → ℕ → ℕ → (A → Bool) → Bool → ℕ → Type 0
+Passes {A} C b e at f r n = (v : A) → Is C b e at v → (r ≡ f v) × (r ≡ false → n ≡ skip C b at e)
 
 -- ---- what is left of a list: n items from the place p on, and P holds of them
 pub record Rest {A : Type 0} (C : Codec A) (b : List ℕ) (e : ℕ) (P : List A → Type 0) (n p : ℕ) : Type 0 where

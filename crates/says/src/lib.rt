@@ -6,6 +6,12 @@ ghost use Rattle.codec.specs.Codec.{le};
 ghost use mathlib.Core.Bool.{false};
 ghost use Rattle.format.specs.Sections.{broken};
 
+// What a test found, and the place behind what it was asked of, which is right where it found nothing.
+pub struct Told {
+    pub found: bool,
+    pub next: usize,
+}
+
 // One of the trailer's numbers: k is its place there.
 pub fn start(b: &[u8], k: u8) -> u32
     requires { ⌜ broken (now b) ≡ false ⌝ }

@@ -18,7 +18,7 @@ unfolding Placed
 placed-at b e at ps i d h k = d i h k
 
 -- the last step
-steps-last : {A : Type 0} (C : Codec A) (b : List ℕ) (e n p : ℕ) → steps C b e (n + 1) p ≡ skip C b (steps C b e n p) e
+pub steps-last : {A : Type 0} (C : Codec A) (b : List ℕ) (e n p : ℕ) → steps C b e (n + 1) p ≡ skip C b (steps C b e n p) e
 unfolding steps
 steps-last C b e zero p = refl
 steps-last C b e (suc n) p = let z : suc n + 1 ≡ suc (n + 1) = omega arith in rw z (steps-last C b e n (skip C b p e))

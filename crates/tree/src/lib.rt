@@ -12,10 +12,11 @@ ghost use Rattle.codec.specs.Limits.{anyOf};
 ghost use Rattle.format.specs.Words.{ifSome, memberOf, present, repeats};
 ghost use Rattle.format.specs.Spec.{Loop, loopC, specC, tableC};
 ghost use Rattle.format.specs.Layout.{itemC};
-ghost use Rattle.format.specs.Fields.{loopChildren};
+ghost use Rattle.format.specs.Fields.{loopChildren, specRoots, specTables};
 ghost use Rattle.format.specs.Refusal.{loopAt, outside, outsideLoop, outsideOrder, outsideTable};
-ghost use Rattle.says.specs.Says.{Says, SaysRest};
+ghost use Rattle.says.specs.Says.{Says, Passes, SaysRest};
 ghost use Rattle.tree.specs.Parts.{onLoop, Placed, Noted, outsideSpec};
+use says::Told;
 
 // ---- numbers that are no loop's, of n loops
 
@@ -62,28 +63,37 @@ pub fn children_at(b: &[u8], at: usize, end: u32) -> usize
     format::opt_control_at(b, last, end)
 }
 
-pub fn loop_outside(b: &[u8], at: usize, end: u32, n: usize) -> bool
-    ensures { λ r. ⌜ Says loopC (now (b .entry)) end at (outsideLoop n) r ⌝ }
+pub fn loop_outside(b: &[u8], at: usize, end: u32, n: usize) -> Told
+    ensures { λ r. ⌜ Passes loopC (now (b .entry)) end at (outsideLoop n) (r .found) (r .next) ⌝ }
 {
     let children = children_at(b, at, end);
     let x = opt_outside_at(b, at, end, n);
     let y = outsides_at(b, children, end, n);
-    codec::either(x, y)
+    let found = codec::either(x, y);
+    let next = codec::les_at(b, 4, children, end);
+    Told {
+        found: found,
+        next: next,
+    }
 }
 
-pub fn loops_outside(b: &[u8], at: usize, end: u32, n: usize) -> bool
-    ensures { λ r. ⌜ Says (listC loopC) (now (b .entry)) end at (anyOf (outsideLoop n)) r ⌝ }
+pub fn loops_outside(b: &[u8], at: usize, end: u32, n: usize) -> Told
+    ensures { λ r. ⌜ Passes (listC loopC) (now (b .entry)) end at (anyOf (outsideLoop n)) (r .found) (r .next) ⌝ }
 {
     let mut left = codec::count_at(b, at, end);
     let mut p = codec::le_at(b, 4, at, end);
     while 0 < left {
-        if loop_outside(b, p, end, n) {
-            return true;
+        let t = loop_outside(b, p, end, n);
+        if t.found {
+            return t;
         }
-        p = format::loop_at(b, p, end);
+        p = t.next;
         left = left - 1;
     }
-    false
+    Told {
+        found: false,
+        next: p,
+    }
 }
 
 pub fn table_outside(b: &[u8], at: usize, end: u32, n: usize) -> bool
@@ -147,17 +157,15 @@ pub fn orders_outside(b: &[u8], at: usize, end: u32, n: usize) -> bool
     false
 }
 
-pub fn spec_outside(b: &[u8], at: usize, end: u32) -> bool
+pub fn spec_outside(b: &[u8], at: usize, end: u32, roots: usize, tables: usize) -> bool
+    requires { ⌜ (roots ≡ specRoots (now b) end at) × (tables ≡ specTables (now b) end at) ⌝ }
     ensures { λ r. ⌜ Says specC (now (b .entry)) end at outsideSpec r ⌝ }
 {
     let n = codec::count_at(b, at, end);
-    let loops = format::loops_at(b, at, end);
-    let roots = codec::les_at(b, 4, loops, end);
-    let segments = format::segments_at(b, roots, end);
     let x = loops_outside(b, at, end, n);
-    let y = outsides_at(b, loops, end, n);
-    let z = tables_outside(b, segments, end, n);
-    codec::either(x, codec::either(y, z))
+    let y = outsides_at(b, roots, end, n);
+    let z = tables_outside(b, tables, end, n);
+    codec::either(x.found, codec::either(y, z))
 }
 
 // ---- a loop by its number

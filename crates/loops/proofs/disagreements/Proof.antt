@@ -1,36 +1,36 @@
 -- `loops::disagreements` meets its contract. Assumes nothing.
+use mathlib.Core.List.{List}
 use Rattle.codec.specs.Codec.{listC}
 use Rattle.codec.specs.Skip.{Is}
-use Rattle.format.specs.Spec.{loopC, Loop}
+use Rattle.format.specs.Spec.{Loop, loopC}
 use Rattle.format.specs.Refusal.{disagrees}
-use Rattle.says.proofs.Behind.{NoneUpTo, from-start, from-again, from-found, from-none}
-use Prim.Native.Nat.{_<_, _+_}
-use mathlib.Core.List.{List}
+use Rattle.loops.proofs.ByNumber.{Upto, upto-start, upto-again, upto-found, upto-none}
+use Prim.Native.Nat.{_-_}
 use native.Mathlib.Omega.{arith}
 use borrow.Author.Needs.{needs}
 use Rattle.loops.proofs.disagreements.Statement.{statement}
 use Rattle.loops.proofs.disagreements.Tie as tie
 
 abbrev Inv-loop : tie.InvT-loop
-Inv-loop b at end loops places left₀ p₀ k₀ left p k = (k + left < 4294967296) × ((ls : List Loop) → Is (listC loopC) b end loops ls → NoneUpTo loopC b end at (disagrees ls) k left p)
+Inv-loop b at end places n k₀ k = (ls : List Loop) → Is (listC loopC) b end at ls → Upto b end at (disagrees ls) n k
 
 abbrev μ-loop : tie.MeasureT-loop
-μ-loop b at end loops places left₀ p₀ k₀ left p k = left
+μ-loop b at end places n k₀ k = n - k
 
 loop-holds : tie.Need-loop-holds Inv-loop μ-loop
-loop-holds c = (omega (arith, c .before .count-at .ensures .1), λ ls q. from-start _ _ _ _ _ _ _ (c .before .count-at .ensures .0) (c .le-at .ensures))
+loop-holds c = λ ls q. upto-start _ _ _ _ _ (c .count-at .ensures .0)
 
 returns : tie.Need-returns Inv-loop μ-loop
-returns c = λ ls q. from-found _ _ _ _ _ _ _ _ _ (c .before .before .before .loop .inv .1 ls q) (c .before .before .loop-test .taken) (c .before .disagrees-at .ensures ls q) (c .if1 .taken)
+returns c = λ ls q. upto-found _ _ _ _ _ (c .before .before .before .before .before .count-at .ensures .0) _ _ _ (c .before .before .before .before .loop .inv ls q) (c .before .before .before .loop-test .taken) (c .before .before .place-of .ensures) (c .before .disagrees-at .ensures ls q) (c .if1 .taken)
 
 add-k : tie.Need-add-k Inv-loop μ-loop
-add-k c = omega (arith, c .before .before .before .before .loop .inv .0, c .before .before .before .loop-test .taken)
+add-k c = omega (arith, c .before .before .before .loop-test .taken, c .before .before .before .before .before .count-at .ensures .1)
 
 loop-again : tie.Need-loop-again Inv-loop μ-loop
-loop-again c = (omega (arith, c .before .before .before .before .loop .inv .0, c .before .before .before .loop-test .taken), λ ls q. from-again _ _ _ _ _ _ _ _ _ _ (c .before .before .before .before .loop .inv .1 ls q) (c .before .before .before .loop-test .taken) (c .loop-at .ensures) (c .before .before .disagrees-at .ensures ls q) (c .before .if1 .left))
+loop-again c = λ ls q. upto-again _ _ _ _ _ (c .before .before .before .before .before .count-at .ensures .0) _ _ _ (c .before .before .before .before .loop .inv ls q) (c .before .before .before .loop-test .taken) (c .before .before .place-of .ensures) (c .before .disagrees-at .ensures ls q) (c .if1 .left)
 
 returns-2 : tie.Need-returns-2 Inv-loop μ-loop
-returns-2 c = λ ls q. from-none _ _ _ _ _ _ _ _ (c .before .loop .inv .1 ls q) (c .loop-test .left)
+returns-2 c = λ ls q. upto-none _ _ _ _ _ (c .before .before .count-at .ensures .0) _ (c .before .loop .inv ls q) (c .loop-test .left)
 
 pub disagreements-spec : {M : Type 1} → statement M
-disagreements-spec = tie.close (tie.spec Inv-loop μ-loop (λ c κs. search needs) (λ c κs. search needs) loop-holds (λ c κs. search needs) returns (λ c κs. search needs) add-k (λ c. search needs) (λ c. search needs) loop-again returns-2)
+disagreements-spec = tie.close (tie.spec Inv-loop μ-loop (λ c κs. search needs) loop-holds (λ c κs. search needs) (λ c κs. search needs) returns add-k (λ c. search needs) loop-again returns-2)

@@ -3,10 +3,13 @@ use mathlib.Core.Path.{refl}
 use Rattle.format.specs.Decoding.{read-job}
 use Rattle.says.proofs.Walk.{section-says}
 use Rattle.says.proofs.Walk.{count-length}
-use Rattle.loops.proofs.Forest.{order-says, order-out, spec-loops, spec-roots, tangled-outside, tangled-order, tangled-rest, tangled-roots, tangled-spec}
+use Rattle.loops.proofs.Forest.{order-says, order-out, roots-for, spec-loops, spec-roots, tables-for, tangled-outside, tangled-order, tangled-rest, tangled-roots, tangled-spec}
 use borrow.Author.Needs.{needs}
 use Rattle.loops.proofs.tangled_at.Statement.{statement}
 use Rattle.loops.proofs.tangled_at.Tie as tie
+
+spec-outside-requires : tie.Need-spec-outside-requires
+spec-outside-requires c κs = (roots-for _ _ _ _ (c .before .before .before .start .ensures) (c .before .before .before .before .before .pre .2), tables-for _ _ _ _ (c .before .before .before .start .ensures) (c .before .before .before .before .before .pre .3))
 
 returns : tie.Need-returns
 returns c = let r = read-job _ (c .before .before .before .before .before .before .before .pre .0) (c .before .before .before .before .before .before .before .pre .1) in tangled-outside _ _ r _ (section-says _ _ _ _ _ _ _ _ _ (c .before .spec-outside .ensures) refl (c .before .before .before .before .before .start .ensures) (r .spec)) (c .if1 .taken)
@@ -20,29 +23,32 @@ returns-2 c =
 
 returns-3 : tie.Need-returns-3
 returns-3 c =
-    let r = read-job _ (c .before .before .before .before .before .before .before .before .before .before .before .before .pre .0) (c .before .before .before .before .before .before .before .before .before .before .before .before .pre .1) in
-    let z = count-length _ _ _ _ _ _ (c .before .before .before .before .before .before .before .count-at .ensures .0) (spec-loops _ _ _ _ (c .before .before .before .before .before .before .before .before .before .before .start .ensures) (r .spec)) in
-    tangled-roots _ _ r _ (section-says _ _ _ _ _ _ _ _ _ (c .before .before .before .before .before .before .spec-outside .ensures) refl (c .before .before .before .before .before .before .before .before .before .before .start .ensures) (r .spec)) _
-    (order-out _ _ r _ _ _ _ (c .before .before .before .before .orders-outside .ensures) (c .before .before .before .before .before .before .before .before .before .start2 .ensures) (c .before .before .before .before .before .before .before .before .start3 .ensures) z) (c .before .before .before .before .before .if1 .left) (c .before .before .before .if2 .left)
-    _ (spec-roots _ _ _ _ _ _ (c .before .repeats-at .ensures) (c .before .before .loops-at .ensures) (c .before .before .before .before .before .before .before .before .before .before .start .ensures) (r .spec)) (c .if3 .taken)
+    let r = read-job _ (c .before .before .before .before .before .before .before .before .before .before .before .pre .0) (c .before .before .before .before .before .before .before .before .before .before .before .pre .1) in
+    let z = count-length _ _ _ _ _ _ (c .before .before .before .before .before .before .count-at .ensures .0) (spec-loops _ _ _ _ (c .before .before .before .before .before .before .before .before .before .start .ensures) (r .spec)) in
+    tangled-roots _ _ r _ (section-says _ _ _ _ _ _ _ _ _ (c .before .before .before .before .before .spec-outside .ensures) refl (c .before .before .before .before .before .before .before .before .before .start .ensures) (r .spec)) _
+    (order-out _ _ r _ _ _ _ (c .before .before .before .orders-outside .ensures) (c .before .before .before .before .before .before .before .before .start2 .ensures) (c .before .before .before .before .before .before .before .start3 .ensures) z) (c .before .before .before .before .if1 .left) (c .before .before .if2 .left)
+    _ (spec-roots _ _ _ _ _ _ (c .before .repeats-at .ensures) (roots-for _ _ _ _ (c .before .before .before .before .before .before .before .before .before .start .ensures) (c .before .before .before .before .before .before .before .before .before .before .before .pre .2)) (c .before .before .before .before .before .before .before .before .before .start .ensures) (r .spec)) (c .if3 .taken)
+
+spec-tangled-requires : tie.Need-spec-tangled-requires
+spec-tangled-requires c κs = (search needs, roots-for _ _ _ _ (c .before .before .before .before .before .before .before .before .before .before .before .before .before .start .ensures) (c .before .before .before .before .before .before .before .before .before .before .before .before .before .before .before .pre .2))
 
 returns-4 : tie.Need-returns-4
 returns-4 c =
-    let r = read-job _ (c .before .before .before .before .before .before .before .before .before .before .before .before .before .before .before .before .before .before .pre .0) (c .before .before .before .before .before .before .before .before .before .before .before .before .before .before .before .before .before .before .pre .1) in
-    let z = count-length _ _ _ _ _ _ (c .before .before .before .before .before .before .before .before .before .before .before .before .before .count-at .ensures .0) (spec-loops _ _ _ _ (c .before .before .before .before .before .before .before .before .before .before .before .before .before .before .before .before .start .ensures) (r .spec)) in
-    tangled-spec _ _ r _ (section-says _ _ _ _ _ _ _ _ _ (c .before .before .before .before .before .before .before .before .before .before .before .before .spec-outside .ensures) refl (c .before .before .before .before .before .before .before .before .before .before .before .before .before .before .before .before .start .ensures) (r .spec)) _
-    (order-out _ _ r _ _ _ _ (c .before .before .before .before .before .before .before .before .before .before .orders-outside .ensures) (c .before .before .before .before .before .before .before .before .before .before .before .before .before .before .before .start2 .ensures) (c .before .before .before .before .before .before .before .before .before .before .before .before .before .before .start3 .ensures) z) (c .before .before .before .before .before .before .before .before .before .before .before .if1 .left) (c .before .before .before .before .before .before .before .before .before .if2 .left)
-    _ (section-says _ _ _ _ _ _ _ _ _ (c .before .spec-tangled .ensures) refl (c .before .before .before .before .before .before .before .before .before .before .before .before .before .before .before .before .start .ensures) (r .spec)) (c .if4 .taken)
+    let r = read-job _ (c .before .before .before .before .before .before .before .before .before .before .before .before .before .before .before .before .before .pre .0) (c .before .before .before .before .before .before .before .before .before .before .before .before .before .before .before .before .before .pre .1) in
+    let z = count-length _ _ _ _ _ _ (c .before .before .before .before .before .before .before .before .before .before .before .before .count-at .ensures .0) (spec-loops _ _ _ _ (c .before .before .before .before .before .before .before .before .before .before .before .before .before .before .before .start .ensures) (r .spec)) in
+    tangled-spec _ _ r _ (section-says _ _ _ _ _ _ _ _ _ (c .before .before .before .before .before .before .before .before .before .before .before .spec-outside .ensures) refl (c .before .before .before .before .before .before .before .before .before .before .before .before .before .before .before .start .ensures) (r .spec)) _
+    (order-out _ _ r _ _ _ _ (c .before .before .before .before .before .before .before .before .before .orders-outside .ensures) (c .before .before .before .before .before .before .before .before .before .before .before .before .before .before .start2 .ensures) (c .before .before .before .before .before .before .before .before .before .before .before .before .before .start3 .ensures) z) (c .before .before .before .before .before .before .before .before .before .before .if1 .left) (c .before .before .before .before .before .before .before .before .if2 .left)
+    _ (section-says _ _ _ _ _ _ _ _ _ (c .before .spec-tangled .ensures) refl (c .before .before .before .before .before .before .before .before .before .before .before .before .before .before .before .start .ensures) (r .spec)) (c .if4 .taken)
 
 returns-5 : tie.Need-returns-5
 returns-5 c =
-    let r = read-job _ (c .before .before .before .before .before .before .before .before .before .before .before .before .before .before .before .before .before .before .before .before .pre .0) (c .before .before .before .before .before .before .before .before .before .before .before .before .before .before .before .before .before .before .before .before .pre .1) in
-    let ls = spec-loops _ _ _ _ (c .before .before .before .before .before .before .before .before .before .before .before .before .before .before .before .before .before .before .start .ensures) (r .spec) in
-    let z = count-length _ _ _ _ _ _ (c .before .before .before .before .before .before .before .before .before .before .before .before .before .before .before .count-at .ensures .0) ls in
-    tangled-rest _ _ r _ (section-says _ _ _ _ _ _ _ _ _ (c .before .before .before .before .before .before .before .before .before .before .before .before .before .before .spec-outside .ensures) refl (c .before .before .before .before .before .before .before .before .before .before .before .before .before .before .before .before .before .before .start .ensures) (r .spec)) _
-    (order-out _ _ r _ _ _ _ (c .before .before .before .before .before .before .before .before .before .before .before .before .orders-outside .ensures) (c .before .before .before .before .before .before .before .before .before .before .before .before .before .before .before .before .before .start2 .ensures) (c .before .before .before .before .before .before .before .before .before .before .before .before .before .before .before .before .start3 .ensures) z) (c .before .before .before .before .before .before .before .before .before .before .before .before .before .if1 .left) (c .before .before .before .before .before .before .before .before .before .before .before .if2 .left)
-    _ _ (section-says _ _ _ _ _ _ _ _ _ (c .before .before .before .spec-tangled .ensures) refl (c .before .before .before .before .before .before .before .before .before .before .before .before .before .before .before .before .before .before .start .ensures) (r .spec)) (c .before .before .if4 .left)
-    (order-says _ _ _ _ _ _ _ _ (c .misorders .ensures _ ls) (c .before .before .before .before .before .before .before .before .before .before .before .before .before .before .before .before .before .start2 .ensures) (c .before .before .before .before .before .before .before .before .before .before .before .before .before .before .before .before .start3 .ensures) (r .layout))
+    let r = read-job _ (c .before .before .before .before .before .before .before .before .before .before .before .before .before .before .before .before .before .before .before .pre .0) (c .before .before .before .before .before .before .before .before .before .before .before .before .before .before .before .before .before .before .before .pre .1) in
+    let ls = spec-loops _ _ _ _ (c .before .before .before .before .before .before .before .before .before .before .before .before .before .before .before .before .before .start .ensures) (r .spec) in
+    let z = count-length _ _ _ _ _ _ (c .before .before .before .before .before .before .before .before .before .before .before .before .before .before .count-at .ensures .0) ls in
+    tangled-rest _ _ r _ (section-says _ _ _ _ _ _ _ _ _ (c .before .before .before .before .before .before .before .before .before .before .before .before .before .spec-outside .ensures) refl (c .before .before .before .before .before .before .before .before .before .before .before .before .before .before .before .before .before .start .ensures) (r .spec)) _
+    (order-out _ _ r _ _ _ _ (c .before .before .before .before .before .before .before .before .before .before .before .orders-outside .ensures) (c .before .before .before .before .before .before .before .before .before .before .before .before .before .before .before .before .start2 .ensures) (c .before .before .before .before .before .before .before .before .before .before .before .before .before .before .before .start3 .ensures) z) (c .before .before .before .before .before .before .before .before .before .before .before .before .if1 .left) (c .before .before .before .before .before .before .before .before .before .before .if2 .left)
+    _ _ (section-says _ _ _ _ _ _ _ _ _ (c .before .before .before .spec-tangled .ensures) refl (c .before .before .before .before .before .before .before .before .before .before .before .before .before .before .before .before .before .start .ensures) (r .spec)) (c .before .before .if4 .left)
+    (order-says _ _ _ _ _ _ _ _ (c .misorders .ensures _ ls) (c .before .before .before .before .before .before .before .before .before .before .before .before .before .before .before .before .start2 .ensures) (c .before .before .before .before .before .before .before .before .before .before .before .before .before .before .before .start3 .ensures) (r .layout))
 
 pub tangled-at-spec : {M : Type 1} → statement M
-tangled-at-spec = tie.close (tie.spec (λ c κs. search needs) (λ c κs. search needs) (λ c κs. search needs) (λ c κs. search needs) (λ c κs. search needs) returns (λ c. search needs) (λ c κs. search needs) returns-2 (λ c κs. search needs) (λ c κs. search needs) returns-3 (λ c. search needs) (λ c κs. search needs) (λ c. search needs) (λ c κs. search needs) returns-4 (λ c. search needs) (λ c. search needs) (λ c κs. search needs) returns-5)
+tangled-at-spec = tie.close (tie.spec (λ c κs. search needs) (λ c κs. search needs) (λ c κs. search needs) (λ c κs. search needs) spec-outside-requires returns (λ c. search needs) (λ c κs. search needs) returns-2 (λ c κs. search needs) returns-3 (λ c. search needs) (λ c κs. search needs) (λ c. search needs) spec-tangled-requires returns-4 (λ c. search needs) (λ c. search needs) (λ c κs. search needs) returns-5)
