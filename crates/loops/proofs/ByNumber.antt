@@ -5,11 +5,14 @@ use mathlib.Core.List.{List, [], _∷_}
 use mathlib.Core.Bool.{Bool, true, false}
 use native.Mathlib.Omega.{arith}
 use Rattle.codec.specs.Codec.{leC, listC}
+use Rattle.codec.specs.Forms.{numC}
 use Rattle.codec.specs.Skip.{skip, steps, countAt}
 use Rattle.codec.specs.Limits.{anyOf}
+use Rattle.format.specs.Fields.{loopChildren, is-loop}
 use Rattle.format.specs.Spec.{Loop, loopC}
 use Rattle.format.specs.Words.{anyFrom}
 use Rattle.says.specs.Says.{Says}
+use Rattle.says.proofs.Walk.{says-at}
 use Rattle.says.proofs.Behind.{NoneUpTo, from-start, from-again, from-found, from-none}
 use Rattle.tree.proofs.Places.{steps-last}
 
@@ -40,3 +43,11 @@ module _ (b : List ℕ) (e at : ℕ) (f : ℕ → Loop → Bool) (n : ℕ) (h : 
 
   pub upto-none : (k : ℕ) → Upto b e at f n k → n ≤ k → Says (listC loopC) b e at (anyFrom f 0) false
   upto-none k d l = from-none loopC b e at f k (n - k) _ d (omega (arith, l))
+
+-- the children of the loop k stand at q
+module _ (b : List ℕ) (e at n k q : ℕ) (h : n ≡ countAt b at e) (l : k < n) (i : k < countAt b at e → q ≡ loopChildren b e (steps loopC b e k (skip (leC 4) b at e))) where
+  pub below-test : {B : Type 0} (g : List ℕ → B) (r : B) → Says (listC numC) b e q g r → Says loopC b e (steps loopC b e k (skip (leC 4) b at e)) (λ v. g (v .children)) r
+  below-test g r s v m = says-at (listC numC) b e q _ g r (v .children) s (is-loop b e _ v m .children) (i (omega (arith, l, h)))
+
+  pub below-same : (p : ℕ) → (k < countAt b at e → p ≡ steps loopC b e k (skip (leC 4) b at e)) → q ≡ loopChildren b e p
+  below-same p j = rw (j (omega (arith, l, h))) (i (omega (arith, l, h)))

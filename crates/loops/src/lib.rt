@@ -11,7 +11,7 @@ ghost use Rattle.codec.specs.Limits.{anyOf};
 ghost use Rattle.format.specs.Words.{anyFrom, ifSome, timesIn};
 ghost use Rattle.format.specs.Spec.{Loop, loopC, specC};
 ghost use Rattle.format.specs.Layout.{Item, itemC};
-ghost use Rattle.format.specs.Fields.{specRoots, specTables};
+ghost use Rattle.format.specs.Fields.{loopChildren, specRoots, specTables};
 ghost use Rattle.format.specs.Refusal.{disagrees, loopsIn, misordered, misrooted, notChild, notParent, ringed, tangled};
 ghost use mathlib.Core.Bool.{false};
 ghost use Rattle.format.specs.Sections.{broken, jobOf, planStart, spoilt};
@@ -74,13 +74,6 @@ pub fn opt_unlisted_at(
 }
 
 // A loop's children repeat. Asked of all loops first, so that no list of children that is looked through is long.
-pub fn loop_repeats(b: &[u8], at: usize, end: u32) -> bool
-    ensures { λ r. ⌜ Says loopC (now (b .entry)) end at repeatsBelow r ⌝ }
-{
-    let children = tree::children_at(b, at, end);
-    tree::repeats_at(b, children, end)
-}
-
 pub fn loops_repeat(b: &[u8], at: usize, end: u32, places: &[usize]) -> bool
     requires { ⌜ Placed (now b) end at (now places) ⌝ }
     ensures { λ r. ⌜ Says (listC loopC) (now (b .entry)) end at (anyOf repeatsBelow) r ⌝ }
@@ -88,8 +81,8 @@ pub fn loops_repeat(b: &[u8], at: usize, end: u32, places: &[usize]) -> bool
     let n = codec::count_at(b, at, end);
     let mut k: usize = 0;
     while k < n {
-        let p = tree::place_of(b, at, end, places, k);
-        if loop_repeats(b, p, end) {
+        let children = tree::below(b, at, end, places, k);
+        if tree::repeats_at(b, children, end) {
             return true;
         }
         k = k + 1;
@@ -97,11 +90,19 @@ pub fn loops_repeat(b: &[u8], at: usize, end: u32, places: &[usize]) -> bool
     false
 }
 
-pub fn disagrees_at(b: &[u8], at: usize, end: u32, loops: usize, places: &[usize], i: usize) -> bool
-    requires { ⌜ Placed (now b) end loops (now places) ⌝ }
+// The loop i, whose children are known to stand at a place.
+pub fn disagrees_at(
+    b: &[u8],
+    at: usize,
+    children: usize,
+    end: u32,
+    loops: usize,
+    places: &[usize],
+    i: usize,
+) -> bool
+    requires { ⌜ Placed (now b) end loops (now places) × (children ≡ loopChildren (now b) end at) ⌝ }
     ensures { λ r. ⌜ ((ls : List Loop) → Is (listC loopC) (now (b .entry)) end loops ls → Says loopC (now (b .entry)) end at (disagrees ls i) r) ⌝ }
 {
-    let children = tree::children_at(b, at, end);
     if tree::repeats_at(b, children, end) {
         return true;
     }
@@ -118,7 +119,8 @@ pub fn disagreements(b: &[u8], at: usize, end: u32, places: &[usize]) -> bool
     let mut k: usize = 0;
     while k < n {
         let p = tree::place_of(b, at, end, places, k);
-        if disagrees_at(b, p, end, at, places, k) {
+        let children = tree::below(b, at, end, places, k);
+        if disagrees_at(b, p, children, end, at, places, k) {
             return true;
         }
         k = k + 1;
@@ -445,7 +447,7 @@ pub fn tangled_at(b: &[u8], roots: usize, tables: usize) -> bool
     if tree::repeats_at(b, roots, plan) {
         return true;
     }
-    let mut places = [0usize; 32];
+    let mut places = [0usize; 64];
     tree::fill_places(b, 0, plan, &mut places);
     if spec_tangled(b, 0, plan, roots, &places) {
         return true;

@@ -17,11 +17,11 @@ use Rattle.codec.specs.Limits.{anyOf}
 use Rattle.format.specs.Words.{memberOf, repeats}
 use Rattle.format.specs.Spec.{Loop, loopC, noLoop}
 use Rattle.format.specs.Layout.{Item, segmentItem, loopItem, itemC}
-use Rattle.format.specs.Fields.{item-tag, is-loopItem, is-loop}
+use Rattle.format.specs.Fields.{loopChildren, item-tag, is-loopItem, is-loop}
 use Rattle.format.specs.Refusal.{loopAt, loopsIn, outside}
 use Rattle.says.specs.Says.{Says, SaysRest, SaysBefore}
 use Rattle.tree.specs.Parts.{onLoop}
-use Rattle.says.proofs.Walk.{number-is}
+use Rattle.says.proofs.Walk.{number-is, says-at}
 
 pub outside-says : (b : List ℕ) (e at m n : ℕ) → m ≡ countAt b at e → Says numC b e at (outside n) (leb n m)
 unfolding outside
@@ -71,6 +71,12 @@ module _ {B : Type 0} (b : List ℕ) (e at n i : ℕ) (f : Loop → B) (r : B) (
       let l : ListIs loopC b e at ls = is-list loopC b e at ls j in
       let m : length ls ≡ n = count-list loopC b e at ls l ∙ sym h in
       q ∙ sym (ap f (List·getD-eq-default ls noLoop {n = i} (omega (arith, m))))
+
+-- the children of the loop of a number
+pub below-says : {B : Type 0} (b : List ℕ) (e at n i : ℕ) (g : List ℕ → B) (r : B) → n ≡ countAt b at e → (q : ℕ) → i < n → (i < countAt b at e → q ≡ loopChildren b e (steps loopC b e i (skip (leC 4) b at e))) → Says (listC numC) b e q g r
+    → Says (listC loopC) b e at (λ ls. g (loopAt ls i .children)) r
+below-says b e at n i g r h q k p s = loop-says b e at n i (λ (v : Loop). g (v .children)) r h (steps loopC b e i (skip (leC 4) b at e)) k (λ o. refl)
+    (λ v l. says-at (listC numC) b e q _ g r (v .children) s (is-loop b e _ v l .children) (p (omega (arith, h, k))))
 
 -- the number that an option holds
 pub held-number : (b : List ℕ) (e at p m : ℕ) → p ≡ skip (leC 1) b at e → m ≡ countAt b p e → (o : Option ℕ) → Is (optC numC) b e at o → (x : ℕ) → o ≡ some x → m ≡ x

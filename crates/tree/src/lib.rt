@@ -182,7 +182,7 @@ pub fn loop_place(b: &[u8], at: usize, end: u32, i: usize) -> usize
     p
 }
 
-// Where the loops stand, as far as there is room.
+// Where the loops and their children stand, as far as there is room.
 pub fn fill_places(b: &[u8], at: usize, end: u32, places: &mut [usize])
     ensures { λ r. ⌜ Placed (now (b .entry)) end at (now (places .exit)) ⌝ }
 {
@@ -190,11 +190,13 @@ pub fn fill_places(b: &[u8], at: usize, end: u32, places: &mut [usize])
     let mut p = codec::le_at(b, 4, at, end);
     let mut k: usize = 0;
     while k < n {
-        if places.len() <= k {
+        if places.len() <= k + k + 1 {
             return;
         }
-        places[k] = p;
-        p = format::loop_at(b, p, end);
+        let children = children_at(b, p, end);
+        places[k + k] = p;
+        places[k + k + 1] = children;
+        p = codec::les_at(b, 4, children, end);
         k = k + 1;
     }
 }
@@ -204,10 +206,26 @@ pub fn place_of(b: &[u8], at: usize, end: u32, places: &[usize], i: usize) -> us
     requires { ⌜ Placed (now b) end at (now places) ⌝ }
     ensures { λ r. ⌜ (i < countAt (now (b .entry)) at end → r ≡ steps loopC (now (b .entry)) end i (skip (leC 4) (now (b .entry)) at end)) ⌝ }
 {
-    if i < places.len() {
-        return places[i];
+    if i < 32 {
+        if i + i + 1 < places.len() {
+            return places[i + i];
+        }
     }
     loop_place(b, at, end, i)
+}
+
+// Where the children of loop i stand.
+pub fn below(b: &[u8], at: usize, end: u32, places: &[usize], i: usize) -> usize
+    requires { ⌜ Placed (now b) end at (now places) ⌝ }
+    ensures { λ r. ⌜ (i < countAt (now (b .entry)) at end → r ≡ loopChildren (now (b .entry)) end (steps loopC (now (b .entry)) end i (skip (leC 4) (now (b .entry)) at end))) ⌝ }
+{
+    if i < 32 {
+        if i + i + 1 < places.len() {
+            return places[i + i + 1];
+        }
+    }
+    let p = loop_place(b, at, end, i);
+    children_at(b, p, end)
 }
 
 pub fn same_at(b: &[u8], at: usize, end: u32, i: usize) -> bool
@@ -275,8 +293,7 @@ pub fn is_child(b: &[u8], at: usize, end: u32, places: &[usize], i: usize, c: us
     if n <= c {
         return false;
     }
-    let p = place_of(b, at, end, places, c);
-    let children = children_at(b, p, end);
+    let children = below(b, at, end, places, c);
     member_at(b, children, end, i)
 }
 

@@ -1,6 +1,8 @@
 -- `loops::loops_repeat` meets its contract. Assumes nothing.
+use mathlib.Core.Path.{refl}
+use Rattle.format.specs.Words.{repeats}
 use Rattle.says.proofs.Walk.{says-as}
-use Rattle.loops.proofs.ByNumber.{Upto, any-each, upto-start, upto-again, upto-found, upto-none}
+use Rattle.loops.proofs.ByNumber.{Upto, any-each, below-test, upto-start, upto-again, upto-found, upto-none}
 use Rattle.loops.specs.Parts.{repeatsBelow}
 use Prim.Native.Nat.{_-_}
 use native.Mathlib.Omega.{arith}
@@ -18,13 +20,13 @@ loop-holds : tie.Need-loop-holds Inv-loop μ-loop
 loop-holds c = upto-start _ _ _ _ _ (c .count-at .ensures .0)
 
 returns : tie.Need-returns Inv-loop μ-loop
-returns c = says-as _ _ _ _ _ _ _ (upto-found _ _ _ _ _ (c .before .before .before .before .before .count-at .ensures .0) _ _ _ (c .before .before .before .before .loop .inv) (c .before .before .before .loop-test .taken) (c .before .before .place-of .ensures) (c .before .loop-repeats .ensures) (c .if1 .taken)) (any-each _ 0)
+returns c = says-as _ _ _ _ _ _ _ (upto-found _ _ _ _ _ (c .before .before .before .before .before .count-at .ensures .0) _ _ _ (c .before .before .before .before .loop .inv) (c .before .before .before .loop-test .taken) (λ i. refl) (below-test _ _ _ _ _ _ (c .before .before .before .before .before .count-at .ensures .0) (c .before .before .before .loop-test .taken) (c .before .before .below .ensures) repeats _ (c .before .repeats-at .ensures)) (c .if1 .taken)) (any-each _ 0)
 
 add-k : tie.Need-add-k Inv-loop μ-loop
 add-k c = omega (arith, c .before .before .before .loop-test .taken, c .before .before .before .before .before .count-at .ensures .1)
 
 loop-again : tie.Need-loop-again Inv-loop μ-loop
-loop-again c = upto-again _ _ _ _ _ (c .before .before .before .before .before .count-at .ensures .0) _ _ _ (c .before .before .before .before .loop .inv) (c .before .before .before .loop-test .taken) (c .before .before .place-of .ensures) (c .before .loop-repeats .ensures) (c .if1 .left)
+loop-again c = upto-again _ _ _ _ _ (c .before .before .before .before .before .count-at .ensures .0) _ _ _ (c .before .before .before .before .loop .inv) (c .before .before .before .loop-test .taken) (λ i. refl) (below-test _ _ _ _ _ _ (c .before .before .before .before .before .count-at .ensures .0) (c .before .before .before .loop-test .taken) (c .before .before .below .ensures) repeats _ (c .before .repeats-at .ensures)) (c .if1 .left)
 
 returns-2 : tie.Need-returns-2 Inv-loop μ-loop
 returns-2 c = says-as _ _ _ _ _ _ _ (upto-none _ _ _ _ _ (c .before .before .count-at .ensures .0) _ (c .before .loop .inv) (c .loop-test .left)) (any-each _ 0)
