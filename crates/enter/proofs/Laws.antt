@@ -5,8 +5,6 @@ use mathlib.Core.Bool.{Bool, true, false}
 use mathlib.Core.List.{List, [], _∷_}
 use mathlib.Core.Option.{Option, none, some}
 use native.Mathlib.Omega.{arith}
-use native.Mathlib.Decide.{decLt}
-use native.Mathlib.Numerals.{add-one}
 use lib.ListN.{length, getD}
 use lib.Dec.{ltb}
 use borrow.Author.Tests.{lt-ltb, le-ltb}
@@ -31,9 +29,8 @@ use Rattle.nest.specs.Found.{nestAt}
 use Rattle.nest.specs.Ready.{Ready, outlineAt}
 use Rattle.nest.specs.OfJob.{outlineOf}
 use Rattle.nest.proofs.Bridge.{rows-is, reference-is, table-parent-is}
-use Rattle.nest.proofs.NestLaws.{rowsBefore, before-none, before-next}
-use Rattle.nest.proofs.Sizes.{rows-past}
-use Rattle.nest.proofs.Placing.{repeats-is, before-all, table-length, table-next, room-for}
+use Rattle.nest.proofs.Placing.{repeats-is, room-for}
+use Rattle.nest.proofs.Stored.{before-is}
 use Rattle.walk.specs.Nested.{Nested}
 use Rattle.walk.proofs.NestedLaws.{lent-number}
 use Rattle.emit.specs.declared.state.Mark.{Mark}
@@ -44,30 +41,7 @@ use Rattle.emit.specs.Written.{wordsOf}
 use Rattle.emit.proofs.FindingLaws.{none-stored}
 use Rattle.enter.specs.Placed.{placed, placedAt}
 
--- a table of which a row is there is a table of data
-there : (o : Outline) (t r : ℕ) → r < rowCount o t → t < length (o .rowCounts)
-there o t r h = go (decLt t (length (o .rowCounts)))
-  where
-    go : Dec (t < length (o .rowCounts)) → t < length (o .rowCounts)
-    go (yes k) = k
-    go (no k) = let q : rowCount o t ≡ 0 = rows-past o t (omega arith) in absurd (omega arith)
-
 -- ---- the table above
-
--- the rows before a table, in data and in the outline
-before-is : (j : Job) (t : ℕ) → T.rowsBefore (j .tables) t ≡ rowsBefore (outlineOf j) t
-before-is j zero = before-all (j .tables) ∙ sym (before-none (outlineOf j))
-before-is j (suc t) =
-    omega (
-      arith,
-      ap (T.rowsBefore (j .tables)) (add-one t),
-      ap (rowsBefore (outlineOf j)) (add-one t),
-      table-next j t,
-      table-length j t,
-      rows-is j t,
-      before-next (outlineOf j) t,
-      before-is j t,
-    )
 
 module _ (o : Outline) (t r : ℕ) where
   above-record : repeated o t ≡ true → placed (getD (nestRecord o t r) 0 0) (getD (nestRecord o t r) 2 0) ≡ above o t r
@@ -105,8 +79,7 @@ module _ {b idx n : List ℕ} (N : Nested b idx n) (t r : ℕ) (h : r < rowCount
   pub above-repeat : (again : Bool) (base : ℕ) → again ≡ (tableOf (jobOf b) t) .segment → again ≡ true → base ≡ T.rowsBefore (jobOf b .tables) t → placedAt n base r ≡ above (outlineAt b) t r
   unfolding placedAt
   above-repeat again base e f q =
-      let s = there (outlineAt b) t r h in
-      rw (q ∙ before-is (jobOf b) t, lent-number N t r 0 s h (omega arith), lent-number N t r 2 s h (omega arith)) (above-record (outlineAt b) t r (sym (repeats-is (jobOf b) t again e) ∙ f))
+      rw (q ∙ before-is (jobOf b) t, lent-number N t r 0 h (omega arith), lent-number N t r 2 h (omega arith)) (above-record (outlineAt b) t r (sym (repeats-is (jobOf b) t again e) ∙ f))
 
 pub above-parent : (j : Job) (t r : ℕ) (again : Bool) (x : spec-number.Number) → again ≡ (tableOf j t) .segment → again ≡ false → numberOf x ≡ (tableOf j t) .parent → numberOf x ≡ above (outlineOf j) t r
 above-parent j t r again x e f q = q ∙ sym (table-parent-is j t) ∙ above-plain (outlineOf j) t r (sym (repeats-is j t again e) ∙ f)

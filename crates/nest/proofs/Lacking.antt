@@ -22,17 +22,16 @@ use Rattle.spec.specs.declared.ids.TableId.{TableId}
 use Rattle.nest.specs.declared.hang.Anchored.{Anchored}
 use Rattle.nest.specs.declared.hang.Anchored.the-variants as anchored
 use Rattle.nest.specs.declared.hang.Claimed.{Claimed}
-use Rattle.nest.specs.declared.hang.Place.{Place}
 use Rattle.nest.specs.Lists.{each, from, upTo}
 use Rattle.nest.specs.Outline.{Outline, tableOf, repeated}
 use Rattle.nest.specs.Nest.{anchors, claimIn, rowOf}
 use Rattle.nest.specs.Finding.{Finding, missing, mismatch, recordOf}
-use Rattle.nest.specs.NestFindings.{duplicates, contradictionAt, contradictions, missingAt, lastTable, rowFindings, tableFindings, nestFindings}
-use Rattle.nest.specs.Claims.{claimBy, rowPlaced, Hung}
+use Rattle.nest.specs.NestFindings.{duplicates, contradictionAt, contradictions, missingAt, lastTable, tableFindings, nestFindings}
+use Rattle.nest.specs.Claims.{claimBy}
 use Rattle.nest.specs.OfJob.{outlineOf}
 use Rattle.nest.specs.Ready.{words}
 use Rattle.nest.proofs.Scan.{each-at, each-past, each-append}
-use Rattle.nest.proofs.FindingLaws.{findings-all, contradictions-all, row-hangs, row-loose, agree-null, agree-above-null, agree-same, differ, missing-top, missing-parent, missing-claim, missing-unclaimed}
+use Rattle.nest.proofs.FindingLaws.{findings-all, contradictions-all, agree-null, agree-above-null, agree-same, differ, missing-top, missing-parent, missing-claim, missing-unclaimed}
 use Rattle.nest.proofs.Bridge.{table-parent-is, ancestors-is}
 use Rattle.nest.proofs.Ways.{refers, refers-not}
 use Rattle.nest.proofs.Placing.{claimed-none, claimed-is}
@@ -110,20 +109,9 @@ module _ (j : Job) (t r : ℕ) (again : repeated (outlineOf j) t ≡ true) (a : 
       let l : u .0 ≡ lastTable t (anchors (outlineOf j) t) = sym (ap (λ x. lastIs x (u .0)) q) ∙ ap (λ x. lastIs x (u .0)) e ∙ ap (λ x. lastIs (claimBy x (lastTable t (anchors (outlineOf j) t))) (u .0)) c in
       missing-unclaimed (outlineOf j) t r again c ∙ ap (λ n. missing t r n none ∷ []) (sym l)
 
--- ---- a row, by where it hangs
+-- ---- a row
 pub stored-as : (d d′ : List ℕ) (at n : ℕ) (fs gs : List Finding) → fs ≡ gs → Noted d at (words gs) n d′ → Noted d at (words fs) n d′
 stored-as d d′ at n fs gs e s = rw e s
-
-module _ (j : Job) (t r : ℕ) (p : Place) (h : Hung (outlineOf j) t r p) where
-  pub row-placed : 0 < p .above → rowFindings (outlineOf j) t r ≡ contradictions (outlineOf j) t r (rowOf (p .table .0) (p .above - 1))
-  row-placed k =
-      let q : p .above ≡ suc (p .above - 1) = omega arith in
-      row-hangs (outlineOf j) t r (rowOf (p .table .0) (p .above - 1)) (sym (h .row) ∙ ap (λ n. rowPlaced n (p .table .0)) q)
-
-  pub row-unplaced : p .above ≤ 0 → rowFindings (outlineOf j) t r ≡ missingAt (outlineOf j) t r
-  row-unplaced k =
-      let q : p .above ≡ 0 = omega arith in
-      row-loose (outlineOf j) t r (sym (h .row) ∙ ap (λ n. rowPlaced n (p .table .0)) q)
 
 -- ---- duplicate keys, then the rows
 pub findings-both : (o : Outline) (d d₁ d₂ : List ℕ) (at p q : ℕ) → length d ≤ wide

@@ -16,5 +16,6 @@ pub mod Ways
 pub mod Reports
 pub mod Claiming
 pub mod Placing
+pub mod Stored
 pub mod Lacking
 pub mod Rising

@@ -123,7 +123,7 @@ module _ (j : Job) (u v : ℕ) where
 
 -- ---- what is known of a table's keys
 module _ (j : Outline) (u : ℕ) (ks : List Keys) (k : Keys) (w : Keyed j ks) (e : k ≡ getD ks u None) where
-  known-are : KeysAre j u k
+  pub known-are : KeysAre j u k
   known-are = subst (KeysAre j u) (sym e) (w .of u)
 
   pub known-none : (v : ℕ) → k ≡ None → Nothing ≡ foundBy (firstRow j u v)

@@ -1,11 +1,14 @@
 -- A row that may be there, as an answer of code; and the rows that hang on a row, by nest's numbers.
-use Prim.Native.Nat.{ℕ, zero, suc, _+_, _*_}
+use Prim.Native.Nat.{ℕ, zero, suc, _+_, _*_, _≤_, _<_}
+use mathlib.Core.Path.{_≡_}
 use mathlib.Core.Bool.{Bool, _&&_}
 use mathlib.Core.List.{List}
 use mathlib.Core.Option.{Option, none, some}
-use lib.ListN.{getD}
+use lib.ListN.{length, getD}
 use lib.Dec.{eqb}
 use Rattle.spec.specs.declared.ids.RowId.{RowId}
+use Rattle.nest.specs.Outline.{Outline}
+use Rattle.nest.specs.Nest.{nestArray}
 use Rattle.nest.specs.declared.Found.{Found}
 use Rattle.nest.specs.declared.Found.the-variants.{Row, Nothing}
 
@@ -33,3 +36,8 @@ heldAt nest base p r = eqb (nestAt nest base r 0) (p + 1)
 -- whether a repeat row goes into the instance of loop l that row p opens
 unfoldable pub hookedAt : List ℕ → ℕ → ℕ → ℕ → ℕ → Bool
 hookedAt nest base l p r = heldAt nest base p r && eqb (nestAt nest base r 1) l
+
+-- a lent list that holds nest's numbers
+pub record ArrayIs (j : Outline) (n : List ℕ) : Type 0 where
+  pub room : 12288 ≤ length n
+  pub numbers : (i : ℕ) → i < length (nestArray j) → getD n i 0 ≡ getD (nestArray j) i 0

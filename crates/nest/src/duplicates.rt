@@ -5,10 +5,12 @@ ghost use Rattle.nest.specs.Lists.{each, upTo};
 ghost use Rattle.nest.specs.Outline.{rowCount};
 ghost use Rattle.nest.specs.Nest.{hasKeys};
 ghost use Rattle.nest.specs.NestFindings.{duplicateAt, duplicates};
+ghost use Rattle.nest.specs.Keys.{Keyed};
 ghost use Rattle.nest.specs.Ready.{Ready, outlineAt, words};
 ghost use mathlib.Core.Bool.{true};
 ghost use lib.ListN.{length};
 use crate::Found;
+use crate::keys::Keys;
 use crate::keys::first_with;
 use crate::keys::may_repeat;
 use spec::ids::RowId;
@@ -50,14 +52,15 @@ pub fn duplicate_at(
 pub fn table_duplicates(
     job: &[u8],
     index: &[u32],
+    keys: [Keys; 16],
     findings: &mut [u64],
     at: usize,
     t: TableId,
 ) -> usize
-    requires { ⌜ Ready (now job) (now index) ⌝ }
+    requires { ⌜ Ready (now job) (now index) × Keyed (outlineAt (now job)) keys ⌝ }
     ensures { λ n. ⌜ Noted (now (findings .entry)) at (words (duplicates (outlineAt (now (job .entry))) (t .0))) n (now (findings .exit)) ⌝ }
 {
-    let doubtful = may_repeat(job, index, t);
+    let doubtful = may_repeat(keys, t);
     let mut next = lent::more(at, 0);
     if doubtful {
         let n = tables::data::row_count(job, index, t);
@@ -72,15 +75,21 @@ pub fn table_duplicates(
 }
 
 // The duplicate keys of all tables of data, table by table.
-pub fn all_duplicates(job: &[u8], index: &[u32], findings: &mut [u64], at: usize) -> usize
-    requires { ⌜ Ready (now job) (now index) ⌝ }
+pub fn all_duplicates(
+    job: &[u8],
+    index: &[u32],
+    keys: [Keys; 16],
+    findings: &mut [u64],
+    at: usize,
+) -> usize
+    requires { ⌜ Ready (now job) (now index) × Keyed (outlineAt (now job)) keys ⌝ }
     ensures { λ n. ⌜ Noted (now (findings .entry)) at (words (each (duplicates (outlineAt (now (job .entry)))) (upTo 0 (length (outlineAt (now (job .entry)) .rowCounts))))) n (now (findings .exit)) ⌝ }
 {
     let count = tables::data::data_count(job, index);
     let mut next = lent::more(at, 0);
     let mut t: u32 = 0;
     while t < count {
-        next = table_duplicates(job, index, findings, next, TableId(t));
+        next = table_duplicates(job, index, keys, findings, next, TableId(t));
         t = t + 1;
     }
     next

@@ -4,7 +4,7 @@ ghost use mathlib.Core.Bool.{true};
 ghost use lib.Dec.{eqb};
 ghost use lib.ListN.{getD};
 ghost use Rattle.nest.specs.Lists.{keep, first, upTo, some-of};
-ghost use Rattle.nest.specs.Outline.{tableOf, rowCount};
+ghost use Rattle.nest.specs.Outline.{Outline, tableOf, rowCount};
 ghost use Rattle.nest.specs.Nest.{hasKeys, firstRow, referred};
 ghost use Rattle.nest.specs.Found.{foundBy};
 ghost use Rattle.nest.specs.Keys.{Rises, KeysAre, Keyed, MayRepeat};
@@ -190,11 +190,10 @@ pub fn referred(
 }
 
 // Whether two rows of t may have one key: they have keys, which don't rise.
-pub fn may_repeat(job: &[u8], index: &[u32], t: TableId) -> bool
-    requires { ⌜ Ready (now job) (now index) ⌝ }
-    ensures { λ r. ⌜ MayRepeat (outlineAt (now (job .entry))) (t .0) r ⌝ }
+pub fn may_repeat(keys: [Keys; 16], t: TableId) -> bool
+    ensures { λ r. ⌜ ((j : Outline) → Keyed j keys → MayRepeat j (t .0) r) ⌝ }
 {
-    let k = keys_of(job, index, t);
+    let k = known(keys, t);
     match k {
         Keys::None => false,
         Keys::Any => true,

@@ -5,12 +5,13 @@ ghost use mathlib.Core.List.{List, [], _∷_};
 ghost use lib.ListN.{length};
 ghost use lib.Seq.{sets};
 ghost use Rattle.nest.specs.Lists.{keep, first, upTo};
-ghost use Rattle.nest.specs.Found.{foundBy, rowAbove, heldAt, hookedAt};
+ghost use Rattle.nest.specs.Found.{foundBy, nestAt, rowAbove, heldAt, hookedAt};
 ghost use Rattle.lent.specs.Fit.{base, Noted};
 ghost use Rattle.nest.specs.Nest.{nestArray};
 ghost use Rattle.nest.specs.NestFindings.{nestFindings};
 ghost use Rattle.nest.specs.Ready.{Ready, outlineAt, words};
 use crate::duplicates::all_duplicates;
+use crate::keys::all_keys;
 use crate::report::all_findings;
 use crate::rows::nest_rows;
 use spec::ids::LoopId;
@@ -55,6 +56,15 @@ pub fn row_above(nest: &[u32], base: usize, r: RowId) -> Found
         return Found::Nothing;
     }
     Found::Row(RowId(p - 1))
+}
+
+// The table of that row.
+pub fn table_above(nest: &[u32], base: usize, r: RowId) -> TableId
+    requires { ⌜ (base + r .0) * 3 + 2 < length (now nest) ⌝ }
+    ensures { λ t. ⌜ t .0 ≡ nestAt (now (nest .entry)) base (r .0) 2 ⌝ }
+{
+    let i = (base + r.0 as usize) * 3 + 2;
+    TableId(nest[i])
 }
 
 // Whether row k of a table hangs on row p of its parent.
@@ -130,6 +140,7 @@ pub fn nest(job: &[u8], index: &[u32], nest: &mut [u32], findings: &mut [u64]) -
     ensures { λ n. ⌜ (now (nest .exit) ≡ sets (now (nest .entry)) 0 (nestArray (outlineAt (now (job .entry))))) × Noted (now (findings .entry)) base (words (nestFindings (outlineAt (now (job .entry))))) n (now (findings .exit)) ⌝ }
 {
     nest_rows(job, index, nest);
-    let next = all_duplicates(job, index, findings, 4611686018427387904);
-    all_findings(job, index, findings, next)
+    let keys = all_keys(job, index);
+    let next = all_duplicates(job, index, keys, findings, 4611686018427387904);
+    all_findings(job, index, nest, findings, next)
 }

@@ -1,20 +1,24 @@
 // What is found of a row: contradictions with the row that it hangs on, or that it hangs on none.
 ghost use mathlib.Core.Path.{_≡_};
 ghost use mathlib.Core.Bool.{true, false};
+ghost use Prim.Native.Nat.{_<_};
 ghost use Rattle.lent.specs.Fit.{Noted};
-ghost use Rattle.nest.specs.Outline.{repeated};
+ghost use Rattle.format.specs.Sections.{jobOf};
+ghost use Rattle.tables.specs.Parts.{rowsBefore};
+ghost use Rattle.nest.specs.Outline.{rowCount, repeated};
 ghost use Rattle.nest.specs.Nest.{rowOf};
 ghost use lib.ListN.{length};
 ghost use Rattle.nest.specs.Lists.{each, upTo};
 ghost use Rattle.nest.specs.NestFindings.{contradictionAt, contradictions, missingAt, rowFindings, tableFindings};
-ghost use Rattle.nest.specs.Keys.{Keyed, Deep};
+ghost use Rattle.nest.specs.Keys.{Deep};
+ghost use Rattle.nest.specs.Found.{ArrayIs};
 ghost use Rattle.nest.specs.Ready.{Ready, outlineAt, words};
+use crate::Found;
 use crate::hang::Anchored;
 use crate::hang::all_depths;
 use crate::hang::claim;
-use crate::hang::place_of;
-use crate::keys::Keys;
-use crate::keys::all_keys;
+use crate::row_above;
+use crate::table_above;
 use column::OptInt;
 use spec::ids::Number;
 use spec::ids::RowId;
@@ -205,64 +209,74 @@ pub fn missing(
     parent_missing(job, index, findings, at, t, r)
 }
 
-// The findings of row r of t.
+// The findings of row r of t, by nest's numbers; the rows of t start at `base`.
 pub fn row_findings(
     job: &[u8],
     index: &[u32],
+    nest: &[u32],
     findings: &mut [u64],
     at: usize,
-    keys: [Keys; 16],
     depths: [u8; 32],
     t: TableId,
+    base: usize,
     r: RowId,
 ) -> usize
-    requires { ⌜ Ready (now job) (now index) × Keyed (outlineAt (now job)) keys × Deep (outlineAt (now job)) depths ⌝ }
+    requires { ⌜ Ready (now job) (now index) × ArrayIs (outlineAt (now job)) (now nest) × Deep (outlineAt (now job)) depths × (base ≡ rowsBefore (jobOf (now job) .tables) (t .0)) × (r .0 < rowCount (outlineAt (now job)) (t .0)) ⌝ }
     ensures { λ n. ⌜ Noted (now (findings .entry)) at (words (rowFindings (outlineAt (now (job .entry))) (t .0) (r .0))) n (now (findings .exit)) ⌝ }
 {
-    let place = place_of(job, index, keys, depths, t, r);
-    let above = place.above;
-    let table = place.table;
-    if 0 < above {
-        return contradictions(job, index, findings, at, t, r, table, RowId(above - 1));
+    let above = row_above(nest, base, r);
+    match above {
+        Found::Row(p) => {
+            let table = table_above(nest, base, r);
+            return contradictions(job, index, findings, at, t, r, table, p);
+        }
+        Found::Nothing => {
+            return missing(job, index, findings, at, depths, t, r);
+        }
     }
-    missing(job, index, findings, at, depths, t, r)
 }
 
 // The findings of the rows of table t.
 pub fn table_findings(
     job: &[u8],
     index: &[u32],
+    nest: &[u32],
     findings: &mut [u64],
     at: usize,
-    keys: [Keys; 16],
     depths: [u8; 32],
     t: TableId,
 ) -> usize
-    requires { ⌜ Ready (now job) (now index) × Keyed (outlineAt (now job)) keys × Deep (outlineAt (now job)) depths ⌝ }
+    requires { ⌜ Ready (now job) (now index) × ArrayIs (outlineAt (now job)) (now nest) × Deep (outlineAt (now job)) depths ⌝ }
     ensures { λ n. ⌜ Noted (now (findings .entry)) at (words (tableFindings (outlineAt (now (job .entry))) (t .0))) n (now (findings .exit)) ⌝ }
 {
+    let base = tables::data::first_row(job, index, t) as usize;
     let n = tables::data::row_count(job, index, t);
     let mut next = lent::more(at, 0);
     let mut r: u32 = 0;
     while r < n {
-        next = row_findings(job, index, findings, next, keys, depths, t, RowId(r));
+        next = row_findings(job, index, nest, findings, next, depths, t, base, RowId(r));
         r = r + 1;
     }
     next
 }
 
 // The findings of the rows of the spec's tables, table by table.
-pub fn all_findings(job: &[u8], index: &[u32], findings: &mut [u64], at: usize) -> usize
-    requires { ⌜ Ready (now job) (now index) ⌝ }
+pub fn all_findings(
+    job: &[u8],
+    index: &[u32],
+    nest: &[u32],
+    findings: &mut [u64],
+    at: usize,
+) -> usize
+    requires { ⌜ Ready (now job) (now index) × ArrayIs (outlineAt (now job)) (now nest) ⌝ }
     ensures { λ n. ⌜ Noted (now (findings .entry)) at (words (each (tableFindings (outlineAt (now (job .entry)))) (upTo 0 (length (outlineAt (now (job .entry)) .tables))))) n (now (findings .exit)) ⌝ }
 {
-    let keys = all_keys(job, index);
     let depths = all_depths(job, index);
     let count = spec::tables::table_count(job, index);
     let mut next = lent::more(at, 0);
     let mut t: u32 = 0;
     while t < count {
-        next = table_findings(job, index, findings, next, keys, depths, TableId(t));
+        next = table_findings(job, index, nest, findings, next, depths, TableId(t));
         t = t + 1;
     }
     next

@@ -10,25 +10,24 @@ use lib.Dec.{eqb}
 use Rattle.nest.specs.Lists.{is}
 use Rattle.nest.specs.Outline.{Outline, tableParent, rowCount, repeated}
 use Rattle.nest.specs.Nest.{referred, hook, hooked, nestRecord, nestArray}
-use Rattle.nest.specs.Found.{nestAt, heldAt, hookedAt}
+use Rattle.nest.specs.Found.{nestAt, heldAt, hookedAt, ArrayIs}
 use Rattle.nest.specs.Ready.{Ready, outlineAt}
-use Rattle.nest.proofs.NestLaws.{rowsBefore, before-next, array-length}
-use Rattle.nest.proofs.Sizes.{rows-all}
-use Rattle.nest.proofs.ArrayLaws.{number-at, held-in-array, hooked-in-array}
+use Rattle.nest.proofs.NestLaws.{rowsBefore}
+use Rattle.nest.proofs.Stored.{place-in, number-in}
+use Rattle.nest.proofs.ArrayLaws.{held-in-array, hooked-in-array}
 use Rattle.walk.specs.Nested.{Nested, Sound}
 use Rattle.walk.specs.Instances.{Context, outside, inRow, at}
-
--- the numbers of a row stand in the array
-pub place-in : (j : Outline) (t r i : ℕ) → r < rowCount j t → i < 3 → (rowsBefore j t + r) * 3 + i < length (nestArray j)
-place-in j t r i h k = omega (arith, array-length j, before-next j t, rows-all j (t + 1))
 
 module _ {b idx n : List ℕ} (N : Nested b idx n) where
   abbrev o : Outline
   o = outlineAt b
 
+  pub array-held : ArrayIs o n
+  array-held = record { room = N .room; numbers = N .numbers }
+
   -- number i of row r
-  pub lent-number : (t r i : ℕ) → t < length (o .rowCounts) → r < rowCount o t → i < 3 → nestAt n (rowsBefore o t) r i ≡ getD (nestRecord o t r) i 0
-  lent-number t r i s h k = N .numbers ((rowsBefore o t + r) * 3 + i) (place-in o t r i h k) ∙ number-at o t s r i h k
+  pub lent-number : (t r i : ℕ) → r < rowCount o t → i < 3 → nestAt n (rowsBefore o t) r i ≡ getD (nestRecord o t r) i 0
+  lent-number = number-in o n array-held
 
   same-at : (t r i : ℕ) → r < rowCount o t → i < 3 → nestAt n (rowsBefore o t) r i ≡ nestAt (nestArray o) (rowsBefore o t) r i
   same-at t r i h k = N .numbers ((rowsBefore o t + r) * 3 + i) (place-in o t r i h k)

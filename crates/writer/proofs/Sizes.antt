@@ -19,6 +19,7 @@ use Rattle.nest.proofs.Sums.{sum-append, sum-each, sum-same}
 use Rattle.nest.proofs.NestLaws.{rowsBefore}
 use Rattle.nest.proofs.Placing.{rows-few}
 use Rattle.nest.proofs.Sizes.{findings-bound}
+use Rattle.nest.proofs.Stored.{rows-of-all}
 use Rattle.walk.specs.Tour.{Step, enters, stop, opener, rowSegment, fill, chunk, closer, writes, halts, chunksOf, rowSteps, chunkSteps, repeatSteps, tour, census, segmentsIn, stopsIn}
 use Rattle.walk.proofs.Own.{chunks-all}
 use Rattle.walk.proofs.Bounds.{repeat-few, Counted, tour-bound, segments-bound, stops-bound}
@@ -26,7 +27,6 @@ use Rattle.emit.specs.Fold as F
 use Rattle.emit.specs.Fold.{stopOut, rowOut, fillOut, chunkOut, stepOut, stepsOut}
 use Rattle.lossless.specs.NothingLost.{walkedOut}
 use Rattle.writer.specs.Result.{resultOf}
-use Rattle.writer.proofs.NestedLaws.{rows-of-all}
 use Rattle.writer.proofs.StepKinds.{opener-is, closer-is}
 use Rattle.writer.proofs.FewFindings.{texted, step-findings}
 use Rattle.writer.proofs.BytesSums.{sum-each-time, sum-both}

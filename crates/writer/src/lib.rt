@@ -10,7 +10,7 @@ ghost use Rattle.lent.specs.Fit.{Noted};
 ghost use Rattle.format.specs.Passed.{Passed};
 ghost use Rattle.format.specs.Sections.{jobOf};
 ghost use Rattle.nest.specs.NestFindings.{nestFindings};
-ghost use Rattle.nest.specs.Ready.{Ready, outlineAt, words};
+ghost use Rattle.nest.specs.Ready.{outlineAt, words};
 ghost use Rattle.walk.specs.Nested.{Nested};
 ghost use Rattle.walk.specs.Tour.{census};
 ghost use Rattle.writer.specs.Answer.{numberOf, valuesOf};
@@ -22,6 +22,7 @@ use emit::state::Mark;
 use emit::state::State;
 use index::fill_index;
 use nest::duplicates::all_duplicates;
+use nest::keys::all_keys;
 use nest::report::all_findings;
 use nest::rows::nest_rows;
 use refusal::Checked;
@@ -41,12 +42,13 @@ pub enum Answer {
 }
 
 // What nest finds: duplicate keys first, then row by row.
-fn nest_findings(job: &[u8], index: &[u32], window: &mut [u64], start: usize) -> usize
-    requires { ⌜ Ready (now job) (now index) ⌝ }
+fn nest_findings(job: &[u8], index: &[u32], nest: &[u32], window: &mut [u64], start: usize) -> usize
+    requires { ⌜ Nested (now job) (now index) (now nest) ⌝ }
     ensures { λ n. ⌜ Noted (now (window .entry)) start (words (nestFindings (outlineAt (now (job .entry))))) n (now (window .exit)) ⌝ }
 {
-    let next = all_duplicates(job, index, window, start);
-    all_findings(job, index, window, next)
+    let keys = all_keys(job, index);
+    let next = all_duplicates(job, index, keys, window, start);
+    all_findings(job, index, nest, window, next)
 }
 
 // Where the count of findings' numbers starts: place 2^62 is the window's first.
@@ -91,7 +93,7 @@ fn written(
     requires { ⌜ Nested (now job) (now index) (now nest) × (census (outlineAt (now job)) ≤ 65536) ⌝ }
     ensures { λ s. ⌜ Filled (resultOf (jobOf (now (job .entry)))) s start (now (document .entry)) (now (document .exit)) (now (segments .entry)) (now (segments .exit)) (now (window .entry)) (now (window .exit)) (now (stops .entry)) (now (stops .exit)) ⌝ }
 {
-    let n = nest_findings(job, index, window, start);
+    let n = nest_findings(job, index, nest, window, start);
     let s = first_state(control_number(job, index), n);
     run(job, index, nest, document, segments, window, stops, s)
 }

@@ -17,10 +17,10 @@ use Rattle.nest.proofs.duplicates.table_duplicates.Reads as table-dupli
 use Rattle.tables.proofs.data.data_count.Reads as data-count-reads
 
 abbrev Inv-loop : tie.InvT-loop
-Inv-loop job index findings₀ at count next₀ t₀ findings next t = Reported (duplicates (outlineOf (jobOf job))) (length (outlineOf (jobOf job) .rowCounts)) findings₀ at findings next t × (t ≤ count)
+Inv-loop job index keys findings₀ at count next₀ t₀ findings next t = Reported (duplicates (outlineOf (jobOf job))) (length (outlineOf (jobOf job) .rowCounts)) findings₀ at findings next t × (t ≤ count)
 
 abbrev μ-loop : tie.MeasureT-loop
-μ-loop job index findings₀ at count next₀ t₀ findings next t = count - t
+μ-loop job index keys findings₀ at count next₀ t₀ findings next t = count - t
 
 data-count-requires : tie.Need-data-count-requires Inv-loop μ-loop
 data-count-requires c κs = search needs

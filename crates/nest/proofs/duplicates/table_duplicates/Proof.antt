@@ -37,7 +37,7 @@ loop-holds : tie.Need-loop-holds Inv-loop μ-loop
 loop-holds c = (reported-none _ _ _ _ _ (c .before .before .more .ensures), omega arith)
 
 duplicate-at-requires : tie.Need-duplicate-at-requires Inv-loop μ-loop
-duplicate-at-requires c κs = (c .before .before .before .before .before .before .before .before .before .before .pre, c .before .before .before .before .before .before .may-repeat .ensures .keyed (c .before .before .before .before .if1 .taken))
+duplicate-at-requires c κs = (c .before .before .before .before .before .before .before .before .before .before .pre .0, c .before .before .before .before .before .before .may-repeat .ensures _ (c .before .before .before .before .before .before .before .before .before .before .pre .1) .keyed (c .before .before .before .before .if1 .taken))
 
 add-r : tie.Need-add-r Inv-loop μ-loop
 add-r c = search needs
@@ -55,7 +55,7 @@ returns : tie.Need-returns Inv-loop μ-loop
 returns c = reported-all _ _ _ _ _ _ _ _ _ (c .before .before .row-count .ensures ∙ sym (rows-is _ _)) (c .loop-test .left) (duplicates-all _ _) (c .before .loop .inv .0)
 
 returns-2 : tie.Need-returns-2 Inv-loop μ-loop
-returns-2 c = stored-nothing _ _ _ _ (c .before .before .may-repeat .ensures .single (c .if1 .left)) (c .before .more .ensures)
+returns-2 c = stored-nothing _ _ _ _ (c .before .before .may-repeat .ensures _ (c .before .before .before .before .before .before .pre .1) .single (c .if1 .left)) (c .before .more .ensures)
 
 pub table-duplicates-spec : {M : Type 1} → statement M
 table-duplicates-spec =

@@ -14,18 +14,14 @@ use Rattle.nest.proofs.report.all_findings.Reads as reads
 use Rattle.nest.proofs.report.all_findings.Lts as lts
 use Rattle.lent.proofs.more.Reads as more-reads
 use Rattle.nest.proofs.hang.all_depths.Reads as all-depths-reads
-use Rattle.nest.proofs.keys.all_keys.Reads as all-keys-reads
 use Rattle.nest.proofs.report.table_findings.Reads as table-findings-reads
 use Rattle.spec.proofs.tables.table_count.Reads as table-count-reads
 
 abbrev Inv-loop : tie.InvT-loop
-Inv-loop job index findings₀ at keys depths count next₀ t₀ findings next t = Reported (tableFindings (outlineOf (jobOf job))) (length (outlineOf (jobOf job) .tables)) findings₀ at findings next t × (t ≤ count)
+Inv-loop job index nest findings₀ at depths count next₀ t₀ findings next t = Reported (tableFindings (outlineOf (jobOf job))) (length (outlineOf (jobOf job) .tables)) findings₀ at findings next t × (t ≤ count)
 
 abbrev μ-loop : tie.MeasureT-loop
-μ-loop job index findings₀ at keys depths count next₀ t₀ findings next t = count - t
-
-all-keys-requires : tie.Need-all-keys-requires Inv-loop μ-loop
-all-keys-requires c κs = search needs
+μ-loop job index nest findings₀ at depths count next₀ t₀ findings next t = count - t
 
 all-depths-requires : tie.Need-all-depths-requires Inv-loop μ-loop
 all-depths-requires c κs = search needs
@@ -63,7 +59,6 @@ all-findings-spec =
     (tie.spec
     Inv-loop
     μ-loop
-    all-keys-requires
     all-depths-requires
     table-count-requires
     more-requires
