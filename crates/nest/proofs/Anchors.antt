@@ -139,21 +139,21 @@ module _ (j : Outline) where
   shallower-nil zero = refl
   shallower-nil (suc d) = shallower-nil d
 
-  sorted : (d : ℕ) (ls : List ℕ) → ((l : ℕ) → depthOf j l < d) → foldr (insert j) [] (each (λ l. anchorAt l (kindOf j l)) ls) ≡ shallower j ls d
+  sorted : (d : ℕ) (ls : List ℕ) → All (λ l. depthOf j l < d) ls → foldr (insert j) [] (each (λ l. anchorAt l (kindOf j l)) ls) ≡ shallower j ls d
   sorted d [] h = sym (shallower-nil d)
-  sorted d (l ∷ ls) h = go (rowTable (kindOf j l)) refl (sorted d ls h)
+  sorted d (l ∷ ls) h = go (rowTable (kindOf j l)) refl (sorted d ls (h .1))
     where
       go : (x : Option ℕ) → rowTable (kindOf j l) ≡ x → foldr (insert j) [] (each (λ l. anchorAt l (kindOf j l)) ls) ≡ shallower j ls d
           → foldr (insert j) [] (anchorAt l (kindOf j l) ++ each (λ l. anchorAt l (kindOf j l)) ls) ≡ shallower j (l ∷ ls) d
       go none e more = rw e (more ∙ sym (shallower-skip l d ls (λ n k. no-rows n l e)))
-      go (some u) e more = rw e (ap (insert j (record { loop = l; table = u })) more ∙ inserted l u d ls e (h l))
+      go (some u) e more = rw e (ap (insert j (record { loop = l; table = u })) more ∙ inserted l u d ls e (h .0))
 
 -- ---- the laws of the search: at depth d, at place i of the table's list
 
--- all of them
-pub left-all : (j : Outline) (t : ℕ) → anchors j t ≡ left j ((tableOf j t) .loops) (length (j .loops)) 0
+-- all of them, where none is deeper
+pub left-all : (j : Outline) (t d : ℕ) → All (λ l. depthOf j l < suc d) ((tableOf j t) .loops) → anchors j t ≡ left j ((tableOf j t) .loops) d 0
 unfolding anchors shallower
-left-all j t = sorted j (suc (length (j .loops))) ((tableOf j t) .loops) (λ l. omega (arith, depth-small j (length (j .loops)) l))
+left-all j t d h = sorted j (suc d) ((tableOf j t) .loops) h
 
 left-step : (j : Outline) (ls : List ℕ) (d i : ℕ) → i < length ls → left j ls d i ≡ anchorsAt j d (getD ls i 0) ++ each (anchorsAt j d) (drop (i + 1) ls) ++ shallower j ls d
 left-step j ls d i h = ap (λ r. each (anchorsAt j d) r ++ shallower j ls d) (drop-next ls i 0 h)

@@ -35,9 +35,10 @@ use Rattle.nest.specs.declared.hang.Anchored.{Anchored}
 use Rattle.nest.specs.declared.hang.Anchored.the-variants.{Is, Nothing}
 use Rattle.nest.specs.Outline.{Outline, rowTable, kindOf, tableOf}
 use Rattle.nest.specs.Nest.{Anchor, depthOf, anchors, claimIn, claimOn}
+use Rattle.nest.specs.Lists.{All}
 use Rattle.nest.specs.NestFindings.{lastTable}
 use Rattle.nest.specs.Claims.{claimBy, anchorTable}
-use Rattle.nest.specs.Keys.{Deep}
+use Rattle.nest.specs.Keys.{Deep, Within}
 use Rattle.nest.specs.OfJob.{outlineOf, kindIn}
 use Rattle.nest.proofs.Anchors.{depth-small, left, left-all, left-other, left-no-rows, left-anchor, left-down, left-end, claim-here, claim-next, claim-none}
 use Rattle.nest.proofs.Bridge.{kind-is, loops-is, loop-count-is, reference-is}
@@ -91,6 +92,21 @@ sounded-end j n ds w h = record { of = λ l k. w .done l (omega arith) }
 pub depth-fits : (j : Job) (l d : ℕ) → length (j .spec .loops) ≤ 32 → d ≡ depthOf (outlineOf j) l → d ≤ 32
 depth-fits j l d h e = omega (arith, depth-small (outlineOf j) (length (outlineOf j .loops)) l, loop-count-is j, h, e)
 
+-- ---- how deep the loops of a table stand: the first n
+
+all-at : (P : ℕ → Type 0) (xs : List ℕ) → ((k : ℕ) → k < length xs → P (getD xs k 0)) → All P xs
+all-at P [] h = tt
+all-at P (x ∷ xs) h = (h 0 (omega arith), all-at P xs (λ k l. h (suc k) (omega arith)))
+
+pub within-none : (j : Outline) (t d : ℕ) → Within j t 0 d
+within-none j t d = record { of = λ k h. absurd (omega arith) }
+
+pub within-next : (j : Job) (t k l n d e : ℕ) → Within (outlineOf j) t k d → l ≡ getD ((A.tableOf j t) .loops) k 0 → n ≡ depthOf (outlineOf j) l → d ≤ e → n ≤ e → Within (outlineOf j) t (k + 1) e
+within-next j t k l n d e w q z h g = record { of = below-more (λ p. depthOf (outlineOf j) (getD ((tableOf (outlineOf j) t) .loops) p 0) ≤ e) k (λ p m. omega (arith, w .of p m, h)) (rw (loops-is j t, ← q, ← z) g) }
+
+pub within-all : (j : Job) (t k n d : ℕ) → Within (outlineOf j) t k d → n ≡ length ((A.tableOf j t) .loops) → n ≤ k → Within (outlineOf j) t (length ((tableOf (outlineOf j) t) .loops)) d
+within-all j t k n d w c h = record { of = λ p m. let g : p < length ((A.tableOf j t) .loops) = rw (← loops-is j t) m in w .of p (omega (arith, g, c, h)) }
+
 -- ---- an anchor
 pub rows-kind : (k : Instances) (t : TableId) → k ≡ Rows t → some (t .0) ≡ rowTable (kindIn (instancesOf k))
 rows-kind k t q = rw q
@@ -108,10 +124,9 @@ pub record Trying (j : Job) (t r d i last : ℕ) : Type 0 where
   pub lasts : lastTable t (anchors (outlineOf j) t) ≡ lastTable last (left (outlineOf j) ((tableOf (outlineOf j) t) .loops) d i)
 
 module _ (j : Job) (t r : ℕ) where
-  pub trying-all : (d : ℕ) → d ≡ length (j .spec .loops) → Trying j t r d 0 t
-  trying-all d c =
-      let q : length (outlineOf j .loops) ≡ d = loop-count-is j ∙ sym c in
-      let a : anchors (outlineOf j) t ≡ left (outlineOf j) ((tableOf (outlineOf j) t) .loops) d 0 = rw (← q) (left-all (outlineOf j) t) in
+  pub trying-all : (d : ℕ) → Within (outlineOf j) t (length ((tableOf (outlineOf j) t) .loops)) d → Trying j t r d 0 t
+  trying-all d w =
+      let a : anchors (outlineOf j) t ≡ left (outlineOf j) ((tableOf (outlineOf j) t) .loops) d 0 = left-all (outlineOf j) t d (all-at (λ l. depthOf (outlineOf j) l < suc d) ((tableOf (outlineOf j) t) .loops) (λ k h. omega (arith, w .of k h))) in
       record { claims = ap (claimIn (outlineOf j) t r) a; lasts = ap (lastTable t) a }
 
   module _ (d i last n l : ℕ) (w : Trying j t r d i last) (c : n ≡ length ((A.tableOf j t) .loops)) (h : i < n) (e : l ≡ getD ((A.tableOf j t) .loops) i 0) where

@@ -1,5 +1,5 @@
 -- What is known of the keys of tables and of the depths of loops, told once for all rows.
-use Prim.Native.Nat.{ℕ, _<_}
+use Prim.Native.Nat.{ℕ, _≤_, _<_}
 use mathlib.Core.Path.{_≡_}
 use mathlib.Core.Bool.{Bool, true, false}
 use mathlib.Core.List.{List, []}
@@ -7,7 +7,7 @@ use mathlib.Core.Option.{none}
 use lib.ListN.{getD}
 use Rattle.nest.specs.declared.keys.Keys.{Keys}
 use Rattle.nest.specs.declared.keys.Keys.the-variants.{None, Any, Rising}
-use Rattle.nest.specs.Outline.{Outline, rowCount}
+use Rattle.nest.specs.Outline.{Outline, tableOf, rowCount}
 use Rattle.nest.specs.Nest.{hasKeys, firstRow, depthOf}
 use Rattle.nest.specs.NestFindings.{duplicates}
 
@@ -33,3 +33,7 @@ pub record MayRepeat (j : Outline) (t : ℕ) (r : Bool) : Type 0 where
 -- the depths of the first 32 loops
 pub record Deep (j : Outline) (ds : List ℕ) : Type 0 where
   pub of : (l : ℕ) → l < 32 → getD ds l 0 ≡ depthOf j l
+
+-- the first n loops of table t stand at depth d or above
+pub record Within (j : Outline) (t n d : ℕ) : Type 0 where
+  pub of : (k : ℕ) → k < n → depthOf j (getD ((tableOf j t) .loops) k 0) ≤ d

@@ -1,15 +1,16 @@
 // Where a row hangs: on a row of its table's parent, or a repeat row on a row of the anchor that it goes by.
 ghost use mathlib.Core.Path.{_≡_};
-ghost use Prim.Native.Nat.{_<_};
+ghost use Prim.Native.Nat.{_≤_, _<_};
+ghost use lib.ListN.{length, getD};
 ghost use Rattle.spec.specs.Answers.{numberOf};
 ghost use Rattle.plan.specs.Answers.{instancesOf};
 ghost use mathlib.Core.Bool.{true, false};
-ghost use Rattle.nest.specs.Outline.{rowTable, repeated};
+ghost use Rattle.nest.specs.Outline.{rowTable, tableOf, repeated};
 ghost use Rattle.nest.specs.Nest.{depthOf, claimIn, anchors};
 ghost use Rattle.nest.specs.NestFindings.{lastTable};
 ghost use Rattle.nest.specs.OfJob.{kindIn};
 ghost use Rattle.nest.specs.Claims.{claimBy, anchorTable, Hung};
-ghost use Rattle.nest.specs.Keys.{Keyed, Deep};
+ghost use Rattle.nest.specs.Keys.{Keyed, Deep, Within};
 ghost use Rattle.nest.specs.Ready.{Ready, outlineAt};
 use crate::Found;
 use crate::keys::Keys;
@@ -96,13 +97,46 @@ pub fn all_depths(job: &[u8], index: &[u32]) -> [u8; 32]
     depths
 }
 
+// The depth of loop l, by the list of all.
+pub fn depth_at(depths: [u8; 32], l: LoopId) -> u32
+    requires { ⌜ l .0 < 32 ⌝ }
+    ensures { λ d. ⌜ d ≡ getD depths (l .0) 0 ⌝ }
+{
+    let i = l.0 as usize;
+    depths[i] as u32
+}
+
+pub fn greater(a: u32, b: u32) -> u32
+    ensures { λ r. ⌜ (a ≤ r) × (b ≤ r) ⌝ }
+{
+    if a < b {
+        return b;
+    }
+    a
+}
+
+// A depth that no loop of table t is below.
+pub fn deepest(job: &[u8], index: &[u32], depths: [u8; 32], t: TableId) -> u32
+    requires { ⌜ Ready (now job) (now index) × Deep (outlineAt (now job)) depths ⌝ }
+    ensures { λ d. ⌜ Within (outlineAt (now (job .entry))) (t .0) (length ((tableOf (outlineAt (now (job .entry))) (t .0)) .loops)) d ⌝ }
+{
+    let n = spec::tables::table_loop_count(job, index, t);
+    let mut d: u32 = 0;
+    let mut i: u32 = 0;
+    while i < n {
+        let l = spec::tables::table_loop(job, index, t, i);
+        d = greater(d, depth_at(depths, l));
+        i = i + 1;
+    }
+    d
+}
+
 // The table whose rows loop l enters, if it stands at depth d.
 pub fn anchor(job: &[u8], index: &[u32], depths: [u8; 32], l: LoopId, d: u32) -> Number
     requires { ⌜ Ready (now job) (now index) × Deep (outlineAt (now job)) depths × (l .0 < 32) ⌝ }
     ensures { λ r. ⌜ numberOf r ≡ anchorTable (outlineAt (now (job .entry))) (l .0) d ⌝ }
 {
-    let i = l.0 as usize;
-    let n = depths[i] as u32;
+    let n = depth_at(depths, l);
     if n == d {
         return row_table(plan::planned::instances(job, index, l));
     }
@@ -115,7 +149,7 @@ pub fn claim(job: &[u8], index: &[u32], depths: [u8; 32], t: TableId, r: RowId) 
     ensures { λ c. ⌜ c ≡ claimBy (claimIn (outlineAt (now (job .entry))) (t .0) (r .0) (anchors (outlineAt (now (job .entry))) (t .0))) (lastTable (t .0) (anchors (outlineAt (now (job .entry))) (t .0))) ⌝ }
 {
     let n = spec::tables::table_loop_count(job, index, t);
-    let mut d = spec::loops::loop_count(job, index);
+    let mut d = deepest(job, index, depths, t);
     let mut i: u32 = 0;
     let mut last = t.0;
     loop {

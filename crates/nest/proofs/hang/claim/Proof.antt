@@ -11,7 +11,7 @@ use Rattle.nest.proofs.hang.claim.Tie as tie
 use Rattle.nest.proofs.hang.claim.Reads as reads
 use Rattle.nest.proofs.hang.claim.Lts as lts
 use Rattle.nest.proofs.hang.anchor.Reads as anchor-reads
-use Rattle.spec.proofs.loops.loop_count.Reads as loop-count-reads
+use Rattle.nest.proofs.hang.deepest.Reads as deepest-reads
 use Rattle.spec.proofs.tables.table_loop.Reads as table-loop-reads
 use Rattle.spec.proofs.tables.table_loop_count.Reads as table-loop-count-reads
 use Rattle.tables.proofs.data.reference.Reads as reference-reads
@@ -25,11 +25,11 @@ abbrev μ-loop : tie.MeasureT-loop
 table-loop-count-requires : tie.Need-table-loop-count-requires Inv-loop μ-loop
 table-loop-count-requires c κs = search needs
 
-loop-count-requires : tie.Need-loop-count-requires Inv-loop μ-loop
-loop-count-requires c κs = search needs
+deepest-requires : tie.Need-deepest-requires Inv-loop μ-loop
+deepest-requires c κs = search needs
 
 loop-holds : tie.Need-loop-holds Inv-loop μ-loop
-loop-holds c = trying-all _ _ _ _ (c .loop-count .ensures)
+loop-holds c = trying-all _ _ _ _ (c .deepest .ensures)
 
 table-loop-requires : tie.Need-table-loop-requires Inv-loop μ-loop
 table-loop-requires c κs = search needs
@@ -89,7 +89,7 @@ claim-spec =
     Inv-loop
     μ-loop
     table-loop-count-requires
-    loop-count-requires
+    deepest-requires
     loop-holds
     table-loop-requires
     anchor-requires
