@@ -51,10 +51,10 @@ pub did-nothing : (s : State) {d g f p : List ℕ} → Small s → Did (quiet (s
 unfolding tracedWords stopWords
 did-nothing s h = record {
   state = refl;
-  document = record { counted = unmoved (s .bytes) (h .bytes); stored = refl };
-  segments = record { counted = unmoved (s .segments) (h .segments); stored = refl };
-  findings = none-stored (unmoved (s .findings) (h .findings));
-  stops = record { counted = unmoved (s .stops) (h .stops); stored = refl };
+  document = record { counted = unmoved (s .counts .bytes) (h .bytes); stored = refl };
+  segments = record { counted = unmoved (s .counts .segments) (h .segments); stored = refl };
+  findings = none-stored (unmoved (s .counts .findings) (h .findings));
+  stops = record { counted = unmoved (s .counts .stops) (h .stops); stored = refl };
 }
 
 -- the lists keep their lengths, and the counts stay within the cap

@@ -3,13 +3,14 @@ use Prim.Native.Nat.{ℕ, suc, _≤_}
 use mathlib.Core.Path.{_≡_}
 use mathlib.Core.List.{List, [], _∷_, map}
 use mathlib.Core.Option.{Option, none, some}
-use lib.ListN.{length, getD, set}
+use lib.ListN.{length}
 use Rattle.lent.specs.Fit.{cap, wide, more, Stored, Noted}
 use Rattle.segment.specs.Parts.{pick}
 use Rattle.nest.specs.Lists.{each}
 use Rattle.format.specs.Job.{Job}
 use Rattle.walk.specs.Tour.{Stop, Step, segmentsIn}
 use Rattle.emit.specs.declared.state.Mark.{Mark}
+use Rattle.emit.specs.declared.state.Counts.{Counts}
 use Rattle.emit.specs.declared.state.State.{State}
 use Rattle.emit.specs.declared.state.Taken.{Taken}
 use Rattle.emit.specs.declared.state.From.{From}
@@ -23,7 +24,10 @@ abbrev pub markOf : Mark → Option ℕ
 markOf m = pick (m .seen) (some (m .row)) none
 
 unfoldable pub stateOf : State → F.State
-stateOf s = record { high = map markOf (s .high); counter = s .counter; entries = s .entries; begun = s .begun }
+stateOf s = record { high = map markOf (s .high); counter = s .counter; entries = s .counts .entries; begun = s .counts .begun }
+
+abbrev pub stateWith : List Mark → List ℕ → Counts → State
+stateWith h c s = record { high = h; counter = c; counts = s }
 
 -- ---- as numbers
 
@@ -50,10 +54,14 @@ stopWords = each stopWord
 -- from the state s to the state r the document went from d to d′, the segments from g to g′, the findings from f to f′, the stops from p to p′
 pub record Did (o : F.Out) (s r : State) (d d′ g g′ f f′ p p′ : List ℕ) : Type 0 where
   pub state : stateOf r ≡ o .state
-  pub document : Stored d (s .bytes) (o .bytes) (r .bytes) d′
-  pub segments : Stored g (s .segments) (tracedWords (o .segments)) (r .segments) g′
-  pub findings : Noted f (s .findings) (wordsOf (o .findings)) (r .findings) f′
-  pub stops : Stored p (s .stops) (stopWords (o .stops)) (r .stops) p′
+  pub document : Stored d (s .counts .bytes) (o .bytes) (r .counts .bytes) d′
+  pub segments : Stored g (s .counts .segments) (tracedWords (o .segments)) (r .counts .segments) g′
+  pub findings : Noted f (s .counts .findings) (wordsOf (o .findings)) (r .counts .findings) f′
+  pub stops : Stored p (s .counts .stops) (stopWords (o .stops)) (r .counts .stops) p′
+
+-- the same of code that moves the counts alone: whatever the rest of the state is, it stays
+abbrev pub DidCounts : (F.State → F.Out) → (s r : Counts) (d d′ g g′ f f′ p p′ : List ℕ) → Type 0
+DidCounts o s r d d′ g g′ f f′ p p′ = (high : List Mark) (counter : List ℕ) → Did (o (stateOf (stateWith high counter s))) (stateWith high counter s) (stateWith high counter r) d d′ g g′ f f′ p p′
 
 -- the lists are no longer than the cap, as no slice is
 pub record Fit (d g f p : List ℕ) : Type 0 where
@@ -63,44 +71,30 @@ pub record Fit (d g f p : List ℕ) : Type 0 where
   pub stops : length p ≤ cap
 
 -- the counts are within the cap
-pub record Small (s : State) : Type 0 where
+pub record Within (s : Counts) : Type 0 where
   pub bytes : s .bytes ≤ cap
   pub segments : s .segments ≤ cap
   pub findings : s .findings ≤ cap
   pub stops : s .stops ≤ cap
 
--- ---- what moves the state on
+abbrev pub Small : State → Type 0
+Small s = Within (s .counts)
 
--- the highest row of a table goes up to r
-abbrev pub entered : F.State → ℕ → ℕ → F.State
-entered s t r = record { high = set (s .high) t (F.higher (getD (s .high) t none) r); counter = s .counter; entries = s .entries; begun = s .begun }
+-- ---- what moves the state on
 
 -- the state is that, and the counts are as they were
 pub record Moved (f : F.State) (s r : State) : Type 0 where
   pub state : stateOf r ≡ f
-  pub bytes : r .bytes ≡ s .bytes
-  pub segments : r .segments ≡ s .segments
-  pub findings : r .findings ≡ s .findings
-  pub stops : r .stops ≡ s .stops
-
--- a row is entered and listed as a stop
-pub record Stopped (l t r : ℕ) (s n : State) (p p′ : List ℕ) : Type 0 where
-  pub state : stateOf n ≡ entered (stateOf s) t r
-  pub bytes : n .bytes ≡ s .bytes
-  pub segments : n .segments ≡ s .segments
-  pub findings : n .findings ≡ s .findings
-  pub stops : Stored p (s .stops) (stopWords (record { loop = l; table = t; row = r } ∷ [])) (n .stops) p′
+  pub counts : r .counts ≡ s .counts
 
 abbrev pub rowIn : From → Option (ℕ × ℕ)
 rowIn Envelope = none
 rowIn (Row t r) = some (t .0, r .0)
 
--- so many trace entries more, and the segment is finished; b bytes and f numbers of findings stand then
-abbrev pub finished : F.State → ℕ → F.State
-finished s entries = record { high = s .high; counter = s .counter; entries = more (s .entries) entries; begun = more (s .entries) entries }
-
-pub record Finished (from : From) (entries b f : ℕ) (s n : State) (g g′ : List ℕ) : Type 0 where
-  pub state : stateOf n ≡ finished (stateOf s) entries
+-- e trace entries more, and the segment is finished; b bytes and f numbers of findings stand then
+pub record Finished (from : From) (e b f : ℕ) (s n : Counts) (g g′ : List ℕ) : Type 0 where
+  pub entries : n .entries ≡ more (s .entries) e
+  pub begun : n .begun ≡ more (s .entries) e
   pub bytes : n .bytes ≡ b
   pub segments : Stored g (s .segments) (tracedWords (record { entry = s .begun; row = rowIn from } ∷ [])) (n .segments) g′
   pub findings : n .findings ≡ f

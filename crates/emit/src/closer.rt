@@ -1,8 +1,8 @@
 // A segment of plain texts, and the closer of a loop.
 use crate::envelope;
 use crate::state;
+use crate::state::Counts;
 use crate::state::From;
-use crate::state::State;
 use segment::Pen;
 use segment::Separators;
 use segment::Value;
@@ -18,7 +18,7 @@ ghost use Rattle.segment.specs.Calls.{Group, Row};
 ghost use Rattle.format.specs.Spec.{Control};
 ghost use Rattle.format.specs.Job.{Job};
 ghost use Rattle.emit.specs.Fold.{separatorsOf, segmentOut};
-ghost use Rattle.emit.specs.Did.{stateOf, Did, Small};
+ghost use Rattle.emit.specs.Did.{DidCounts, Within};
 ghost use Rattle.emit.specs.Puts.{partAt};
 ghost use Rattle.emit.specs.Envelope.{closerPut};
 
@@ -171,7 +171,7 @@ pub fn write_closer(
     doc: &mut [u8],
     segments: &mut [u64],
     job: &[u8],
-    state: State,
+    state: Counts,
     s: Separators,
     start: usize,
     len: usize,
@@ -179,10 +179,10 @@ pub fn write_closer(
     control: Value,
     count: usize,
     counted: u64,
-) -> State
-    ensures { λ n. ⌜ ((j : Job) (k : Control) (f p : List ℕ) → separatorsOf j ≡ s → k .closer ≡ closer → k .count ≡ count → Small state
-        → Did (segmentOut j (stretch (now (job .entry)) start len) ((closerPut k (valueText (now (job .entry)) control) counted) .parts) ((closerPut k (valueText (now (job .entry)) control) counted) .findings)
-        ((closerPut k (valueText (now (job .entry)) control) counted) .entries) none (stateOf state)) state n (now (doc .entry)) (now (doc .exit)) (now (segments .entry)) (now (segments .exit)) f f p p) ⌝ }
+) -> Counts
+    ensures { λ n. ⌜ ((j : Job) (k : Control) (f p : List ℕ) → separatorsOf j ≡ s → k .closer ≡ closer → k .count ≡ count → Within state
+        → DidCounts (segmentOut j (stretch (now (job .entry)) start len) ((closerPut k (valueText (now (job .entry)) control) counted) .parts) ((closerPut k (valueText (now (job .entry)) control) counted) .findings)
+        ((closerPut k (valueText (now (job .entry)) control) counted) .entries) none) state n (now (doc .entry)) (now (doc .exit)) (now (segments .entry)) (now (segments .exit)) f f p p) ⌝ }
 {
     let at = put_closer(
         doc,

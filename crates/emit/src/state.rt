@@ -4,14 +4,13 @@ use spec::ids::RowId;
 use spec::ids::TableId;
 ghost use mathlib.Core.Path.{_≡_};
 ghost use mathlib.Core.List.{[], _∷_};
-ghost use mathlib.Core.Option.{none};
 ghost use Prim.Native.Nat.{_+_, _%_, _^_, _<_};
 ghost use lib.ListN.{getD, take};
 ghost use Rattle.lent.specs.Fit.{more, Noted};
 ghost use Rattle.nest.specs.Finding.{outOfOrder};
 ghost use Rattle.emit.specs.Fold.{higher, counterUp, taken};
 ghost use Rattle.emit.specs.Written.{wordsOf};
-ghost use Rattle.emit.specs.Did.{markOf, stateOf, entered, rowIn, tracedWord, Moved, Stopped, Finished};
+ghost use Rattle.emit.specs.Did.{markOf, stateOf, rowIn, tracedWord, Moved, Finished};
 
 // A table's highest row entered, if one was.
 pub struct Mark {
@@ -19,17 +18,22 @@ pub struct Mark {
     pub row: u32,
 }
 
-// The highest row of each table, the next control number of each loop, the trace entries so far and those before the segment that is
-// not finished yet; then how many bytes of the document and numbers of the other lists there are, stored or not.
-pub struct State {
-    pub high: [Mark; 16],
-    pub counter: [u64; 32],
+// The trace entries so far and those before the segment that is not finished yet; then how many bytes of the document and numbers of the
+// other lists there are, stored or not.
+pub struct Counts {
     pub entries: usize,
     pub begun: usize,
     pub bytes: usize,
     pub segments: usize,
     pub findings: usize,
     pub stops: usize,
+}
+
+// The highest row of each table, the next control number of each loop, and the counts.
+pub struct State {
+    pub high: [Mark; 16],
+    pub counter: [u64; 32],
+    pub counts: Counts,
 }
 
 // The state behind some steps, and how many segments they wrote.
@@ -46,16 +50,8 @@ pub enum From {
 
 // ---- rows
 
-// The highest row of a table.
-pub fn highest(s: State, t: TableId) -> Mark
-    requires { ⌜ t .0 < 16 ⌝ }
-    ensures { λ m. ⌜ markOf m ≡ getD ((stateOf s) .high) (t .0) none ⌝ }
-{
-    let i = t.0 as usize;
-    s.high[i]
-}
-
-fn raised(m: Mark, r: RowId) -> Mark
+// A table's highest row when row r is entered.
+pub fn raised(m: Mark, r: RowId) -> Mark
     ensures { λ n. ⌜ markOf n ≡ higher (markOf m) (r .0) ⌝ }
 {
     if m.seen {
@@ -67,18 +63,6 @@ fn raised(m: Mark, r: RowId) -> Mark
         seen: true,
         row: r.0,
     }
-}
-
-// A row of a table is entered.
-fn enter_row(s: State, t: TableId, r: RowId) -> State
-    requires { ⌜ t .0 < 16 ⌝ }
-    ensures { λ n. ⌜ Moved (entered (stateOf s) (t .0) (r .0)) s n ⌝ }
-{
-    let i = t.0 as usize;
-    let m = raised(s.high[i], r);
-    let mut n = s;
-    n.high[i] = m;
-    n
 }
 
 // A row is lower than the highest yet entered.
@@ -108,18 +92,6 @@ pub fn note_order(
     lent::note_words(findings, at, words, 10)
 }
 
-// A stop: the row is entered, and listed.
-pub fn stop(stops: &mut [u64], s: State, l: LoopId, t: TableId, r: RowId) -> State
-    requires { ⌜ t .0 < 16 ⌝ }
-    ensures { λ n. ⌜ Stopped (l .0) (t .0) (r .0) s n (now (stops .entry)) (now (stops .exit)) ⌝ }
-{
-    let words = [l.0 as u64, t.0 as u64, r.0 as u64, 0, 0, 0, 0, 0, 0, 0];
-    let at = lent::put_words(stops, s.stops, words, 3);
-    let mut n = enter_row(s, t, r);
-    n.stops = at;
-    n
-}
-
 // ---- segments
 
 fn trace_words(entry: usize, from: From) -> [u64; 10]
@@ -145,12 +117,12 @@ fn trace_words(entry: usize, from: From) -> [u64; 10]
 // A segment is finished, with so many trace entries more; the document then has `bytes` bytes, the findings `findings` numbers.
 pub fn finish_segment(
     segments: &mut [u64],
-    s: State,
+    s: Counts,
     from: From,
     entries: usize,
     bytes: usize,
     findings: usize,
-) -> State
+) -> Counts
     ensures { λ n. ⌜ Finished from entries bytes findings s n (now (segments .entry)) (now (segments .exit)) ⌝ }
 {
     let words = trace_words(s.begun, from);

@@ -34,9 +34,8 @@ use Rattle.nest.proofs.Stored.{before-is}
 use Rattle.walk.specs.Nested.{Nested}
 use Rattle.walk.proofs.NestedLaws.{lent-number}
 use Rattle.emit.specs.declared.state.Mark.{Mark}
-use Rattle.emit.specs.declared.state.State.{State}
 use Rattle.emit.specs.Fold.{above, orderFindings}
-use Rattle.emit.specs.Did.{markOf, stateOf}
+use Rattle.emit.specs.Did.{markOf}
 use Rattle.emit.specs.Written.{wordsOf}
 use Rattle.emit.proofs.FindingLaws.{none-stored}
 use Rattle.enter.specs.Placed.{placed, placedAt}
@@ -95,13 +94,13 @@ module _ (j : Job) (t u r : ℕ) (x : OptInt) (e : intIs x ≡ referenceOf (data
 
 -- ---- the findings on a row's order
 
-module _ (o : Outline) (t r : ℕ) (high : Option ℕ) (m : Mark) (e : markOf m ≡ high) where
-  pub order-unseen : m .seen ≡ false → orderFindings o t r high ≡ []
-  order-unseen h = rw (← e, h)
+module _ (o : Outline) (t r : ℕ) (m : Mark) where
+  pub order-unseen : m .seen ≡ false → orderFindings o t r (markOf m) ≡ []
+  order-unseen h = rw h
 
-  pub order-not-lower : m .seen ≡ true → m .row ≤ r → orderFindings o t r high ≡ []
-  order-not-lower h k = rw (← e, h, le-ltb r (m .row) k)
+  pub order-not-lower : m .seen ≡ true → m .row ≤ r → orderFindings o t r (markOf m) ≡ []
+  order-not-lower h k = rw (h, le-ltb r (m .row) k)
 
   pub order-lower : m .seen ≡ true → r < m .row → (x : Option ℕ) → x ≡ above o t r
-      → orderFindings o t r high ≡ on x (λ u. outOfOrder t r u (on (o .reference t u r) (λ v. v) 0) (m .row) ∷ []) []
-  order-lower h k x q = rw (← e, h, lt-ltb r (m .row) k, q)
+      → orderFindings o t r (markOf m) ≡ on x (λ u. outOfOrder t r u (on (o .reference t u r) (λ v. v) 0) (m .row) ∷ []) []
+  order-lower h k x q = rw (h, lt-ltb r (m .row) k, q)

@@ -1,6 +1,7 @@
 // A row is entered: a finding where it is lower than the highest of its table yet entered, and a stop.
 use column::OptInt;
 use emit::state;
+use emit::state::Mark;
 use emit::state::State;
 use spec::ids::LoopId;
 use spec::ids::Number;
@@ -8,9 +9,8 @@ use spec::ids::RowId;
 use spec::ids::TableId;
 ghost use mathlib.Core.Path.{_≡_};
 ghost use mathlib.Core.List.{List, [], _∷_};
-ghost use mathlib.Core.Option.{none};
 ghost use Prim.Native.Nat.{ℕ, _+_, _*_, _<_};
-ghost use lib.ListN.{length, getD};
+ghost use lib.ListN.{length};
 ghost use Rattle.lent.specs.Fit.{Noted};
 ghost use Rattle.spec.specs.Answers.{numberOf};
 ghost use Rattle.nest.specs.Lists.{on};
@@ -20,7 +20,7 @@ ghost use Rattle.nest.specs.Ready.{Ready, outlineAt};
 ghost use Rattle.walk.specs.Nested.{Nested};
 ghost use Rattle.emit.specs.Fold.{above, orderFindings, stopOut};
 ghost use Rattle.emit.specs.Written.{wordsOf};
-ghost use Rattle.emit.specs.Did.{stateOf, Did, Small};
+ghost use Rattle.emit.specs.Did.{markOf, stateOf, Did, Small};
 ghost use Rattle.enter.specs.Placed.{placedAt};
 
 // The table that placed a repeat row.
@@ -86,28 +86,28 @@ fn note_lower(
     }
 }
 
-// The findings on a row's order.
+// The findings on a row's order, where m is the highest row of its table.
 fn note_order(
     job: &[u8],
     index: &[u32],
     nest: &[u32],
     findings: &mut [u64],
-    s: State,
+    at: usize,
+    m: Mark,
     t: TableId,
     r: RowId,
 ) -> usize
     requires { ⌜ Nested (now job) (now index) (now nest) × (t .0 < 16) × (r .0 < rowCount (outlineAt (now job)) (t .0)) ⌝ }
-    ensures { λ n. ⌜ Noted (now (findings .entry)) (s .findings) (wordsOf (orderFindings (outlineAt (now (job .entry))) (t .0) (r .0) (getD ((stateOf s) .high) (t .0) none))) n (now (findings .exit)) ⌝ }
+    ensures { λ n. ⌜ Noted (now (findings .entry)) at (wordsOf (orderFindings (outlineAt (now (job .entry))) (t .0) (r .0) (markOf m))) n (now (findings .exit)) ⌝ }
 {
-    let m = state::highest(s, t);
     if m.seen {
         if r.0 < m.row {
             let table = table_above(job, index, nest, t, r);
-            return note_lower(job, index, findings, s.findings, t, r, table, m.row);
+            return note_lower(job, index, findings, at, t, r, table, m.row);
         }
-        return lent::more(s.findings, 0);
+        return lent::more(at, 0);
     }
-    lent::more(s.findings, 0)
+    lent::more(at, 0)
 }
 
 // A row of a table is entered by loop l.
@@ -125,8 +125,15 @@ pub fn enter(
     requires { ⌜ Nested (now job) (now index) (now nest) × Small s × (t .0 < 16) × (r .0 < rowCount (outlineAt (now job)) (t .0)) ⌝ }
     ensures { λ n. ⌜ ((d g : List ℕ) → Did (stopOut (outlineAt (now (job .entry))) (l .0) (t .0) (r .0) (stateOf s)) s n d d g g (now (findings .entry)) (now (findings .exit)) (now (stops .entry)) (now (stops .exit))) ⌝ }
 {
-    let at = note_order(job, index, nest, findings, s, t, r);
-    let mut noted = s;
-    noted.findings = at;
-    state::stop(stops, noted, l, t, r)
+    let i = t.0 as usize;
+    let m = s.high[i];
+    let noted = note_order(job, index, nest, findings, s.counts.findings, m, t, r);
+    let words = [l.0 as u64, t.0 as u64, r.0 as u64, 0, 0, 0, 0, 0, 0, 0];
+    let at = lent::put_words(stops, s.counts.stops, words, 3);
+    let high = state::raised(m, r);
+    let mut n = s;
+    n.high[i] = high;
+    n.counts.findings = noted;
+    n.counts.stops = at;
+    n
 }

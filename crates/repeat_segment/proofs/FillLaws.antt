@@ -22,11 +22,11 @@ use Rattle.plan.specs.declared.answers.ValueSource.the-variants.{Column, Group,
 use Rattle.plan.specs.Answers.{elementOf}
 use Rattle.plan.specs.Elements.{Elements}
 use Rattle.nest.specs.Ready.{Ready}
-use Rattle.emit.specs.declared.state.State.{State}
+use Rattle.emit.specs.declared.state.Counts.{Counts}
 use Rattle.emit.specs.Puts.{Put, andPut, nothing, putCell, putText, chunkPut}
 use Rattle.emit.specs.Written.{wordsOf}
 use Rattle.emit.specs.Fold.{fillOut}
-use Rattle.emit.specs.Did.{stateOf, tracedWords, stopWords, Did, Small}
+use Rattle.emit.specs.Did.{stateOf, tracedWords, stopWords, DidCounts, Within}
 use Rattle.emit.proofs.NameLaws.{name-short, holds-length}
 use Rattle.emit.proofs.FindingLaws.{none-stored, stored-findings}
 use Rattle.repeat_segment.specs.declared.planned.Planned.{Planned}
@@ -92,13 +92,13 @@ still m h = omega arith
 
 -- ---- the elements one by one
 
-pub record FillSoFar (b : List ℕ) (s : Planned) (k r : ℕ) (state : State) (f₀ f : List ℕ) (at i found count : ℕ) : Type 0 where
+pub record FillSoFar (b : List ℕ) (s : Planned) (k r : ℕ) (state : Counts) (f₀ f : List ℕ) (at i found count : ℕ) : Type 0 where
   pub along : Along b s at i
   pub stored : Noted f₀ (state .findings) (wordsOf ((rowPuts b s k r (take i (plansOf b s))) .findings)) found f
   pub entries : count ≡ more (state .entries) ((rowPuts b s k r (take i (plansOf b s))) .entries)
 
-module _ (b : List ℕ) (s : Planned) (o : Of b s) (k r : ℕ) (state : State) where
-  pub fill-start : {f : List ℕ} (entries : ℕ) → Small state → entries ≡ more (state .entries) 0 → FillSoFar b s k r state f f (s .first) 0 (state .findings) entries
+module _ (b : List ℕ) (s : Planned) (o : Of b s) (k r : ℕ) (state : Counts) where
+  pub fill-start : {f : List ℕ} (entries : ℕ) → Within state → entries ≡ more (state .entries) 0 → FillSoFar b s k r state f f (s .first) 0 (state .findings) entries
   unfolding rowPuts chunkPut
   fill-start entries h e = record { along = along-first b s o; stored = none-stored (still (state .findings) (h .findings)); entries = e }
 
@@ -114,23 +114,23 @@ module _ (b : List ℕ) (s : Planned) (o : Of b s) (k r : ℕ) (state : State) w
       }
 
   pub fill-end : {f₀ f : List ℕ} {at i found entries : ℕ} → s .count ≤ i → FillSoFar b s k r state f₀ f at i found entries
-      → Filled (rowPuts b s k r (plansOf b s)) state (record { high = state .high; counter = state .counter; entries = entries; begun = state .begun; bytes = state .bytes; segments = state .segments; findings = found; stops = state .stops }) f₀ f
+      → Filled (rowPuts b s k r (plansOf b s)) state (record { entries = entries; begun = state .begun; bytes = state .bytes; segments = state .segments; findings = found; stops = state .stops }) f₀ f
   fill-end {i = i} h w =
       let e = take-end b s o i h in
-      record { high = refl; counter = refl; entries = rw e at (w .entries); begun = refl; bytes = refl; segments = refl; findings = rw e at (w .stored); stops = refl }
+      record { entries = rw e at (w .entries); begun = refl; bytes = refl; segments = refl; findings = rw e at (w .stored); stops = refl }
 
 -- ---- the whole row
 
 unmoved : {m n : ℕ} {d : List ℕ} → m ≤ cap → n ≡ m → Stored d m [] n d
 unmoved h e = record { counted = omega arith; stored = refl }
 
-pub did-fill : {n : State} {f f′ : List ℕ} (b : List ℕ) (s : Planned) (l : LoopId) (i : ℕ) (t : TableId) (k r : ℕ) (state : State) → Of b s → s .l ≡ l → s .i ≡ i → s .table ≡ t → Small state
-    → Filled (rowPuts b s k r (plansOf b s)) state n f f′ → (d g p : List ℕ) → Did (fillOut (jobOf b) (l .0) i (t .0) k r (stateOf state)) state n d d g g f f′ p p
+pub did-fill : {n : Counts} {f f′ : List ℕ} (b : List ℕ) (s : Planned) (l : LoopId) (i : ℕ) (t : TableId) (k r : ℕ) (state : Counts) → Of b s → s .l ≡ l → s .i ≡ i → s .table ≡ t → Within state
+    → Filled (rowPuts b s k r (plansOf b s)) state n f f′ → (d g p : List ℕ) → DidCounts (fillOut (jobOf b) (l .0) i (t .0) k r) state n d d g g f f′ p p
 unfolding fillOut stateOf tracedWords stopWords rowPuts
-did-fill {n} b s l i t k r state o el ei et h w d g p =
+did-fill {n} b s l i t k r state o el ei et h w d g p high counter =
     rw (← el, ← ei, ← et, ← o .step)
     record {
-      state = rw (w .high, w .counter, w .entries, w .begun) refl;
+      state = rw (w .entries, w .begun) refl;
       document = unmoved (h .bytes) (w .bytes);
       segments = unmoved (h .segments) (w .segments);
       findings = w .findings;

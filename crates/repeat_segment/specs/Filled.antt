@@ -1,15 +1,13 @@
--- What a row of a chunk leaves in the state: findings and trace entries; no bytes, no segment.
+-- What a row of a chunk leaves in the counts: findings and trace entries; no bytes, no segment.
 use Prim.Native.Nat.{ℕ}
 use mathlib.Core.Path.{_≡_}
 use mathlib.Core.List.{List}
 use Rattle.lent.specs.Fit.{more, Noted}
-use Rattle.emit.specs.declared.state.State.{State}
+use Rattle.emit.specs.declared.state.Counts.{Counts}
 use Rattle.emit.specs.Puts.{Put}
 use Rattle.emit.specs.Written.{wordsOf}
 
-pub record Filled (p : Put) (s n : State) (f f′ : List ℕ) : Type 0 where
-  pub high : n .high ≡ s .high
-  pub counter : n .counter ≡ s .counter
+pub record Filled (p : Put) (s n : Counts) (f f′ : List ℕ) : Type 0 where
   pub entries : n .entries ≡ more (s .entries) (p .entries)
   pub begun : n .begun ≡ s .begun
   pub bytes : n .bytes ≡ s .bytes

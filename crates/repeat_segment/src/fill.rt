@@ -6,7 +6,7 @@ use emit::findings;
 use emit::findings::Delimiters;
 use emit::findings::Spot;
 use emit::signs;
-use emit::state::State;
+use emit::state::Counts;
 use plan::answers::ElementPlan;
 use plan::answers::ValueSource;
 use plan::read;
@@ -24,7 +24,7 @@ ghost use Rattle.nest.specs.Ready.{Ready};
 ghost use Rattle.nest.specs.Finding.{cell};
 ghost use Rattle.emit.specs.Puts.{placeOf, putCell};
 ghost use Rattle.emit.specs.Written.{wordsOf, spotOf, tried};
-ghost use Rattle.emit.specs.Did.{Small};
+ghost use Rattle.emit.specs.Did.{Within};
 ghost use Rattle.repeat_segment.specs.Planned.{Of, idOf, plansOf};
 ghost use Rattle.repeat_segment.specs.Places.{elementPut, rowPuts};
 ghost use Rattle.repeat_segment.specs.Filled.{Filled};
@@ -125,13 +125,13 @@ pub fn fill_elements(
     job: &[u8],
     index: &[u32],
     findings: &mut [u64],
-    state: State,
+    state: Counts,
     s: Planned,
     d: Delimiters,
     k: u32,
     r: RowId,
-) -> State
-    requires { ⌜ Ready (now job) (now index) × Of (now job) s × (tried d ≡ separators (jobOf (now job) .envelope)) × (k < 256) × Small state ⌝ }
+) -> Counts
+    requires { ⌜ Ready (now job) (now index) × Of (now job) s × (tried d ≡ separators (jobOf (now job) .envelope)) × (k < 256) × Within state ⌝ }
     ensures { λ n. ⌜ Filled (rowPuts (now (job .entry)) s k (r .0) (plansOf (now (job .entry)) s)) state n (now (findings .entry)) (now (findings .exit)) ⌝ }
 {
     let mut at = s.first;

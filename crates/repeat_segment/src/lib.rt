@@ -9,8 +9,8 @@ mod scan;
 
 use emit::signs;
 use emit::state;
+use emit::state::Counts;
 use emit::state::From;
-use emit::state::State;
 use spec::ids::LoopId;
 use spec::ids::RowId;
 use spec::ids::TableId;
@@ -21,22 +21,22 @@ ghost use lib.ListN.{length, take};
 ghost use Rattle.format.specs.Sections.{jobOf};
 ghost use Rattle.nest.specs.Ready.{Ready};
 ghost use Rattle.emit.specs.Fold.{fillOut, chunkOut, firstRow};
-ghost use Rattle.emit.specs.Did.{stateOf, rowIn, Did, Small};
+ghost use Rattle.emit.specs.Did.{rowIn, DidCounts, Within};
 
 // Row number k of a chunk: the findings on its cells, a trace entry for each.
 pub fn fill_row(
     job: &[u8],
     index: &[u32],
     findings: &mut [u64],
-    s: State,
+    s: Counts,
     l: LoopId,
     i: u32,
     t: TableId,
     k: u32,
     r: RowId,
-) -> State
-    requires { ⌜ Ready (now job) (now index) × Small s × (l .0 < 32) × (k < 256) ⌝ }
-    ensures { λ n. ⌜ ((d g p : List ℕ) → Did (fillOut (jobOf (now (job .entry))) (l .0) i (t .0) k (r .0) (stateOf s)) s n d d g g (now (findings .entry)) (now (findings .exit)) p p) ⌝ }
+) -> Counts
+    requires { ⌜ Ready (now job) (now index) × Within s × (l .0 < 32) × (k < 256) ⌝ }
+    ensures { λ n. ⌜ ((d g p : List ℕ) → DidCounts (fillOut (jobOf (now (job .entry))) (l .0) i (t .0) k (r .0)) s n d d g g (now (findings .entry)) (now (findings .exit)) p p) ⌝ }
 {
     let segment = planned::planned_segment(job, index, l, i, t);
     let delimiters = signs::delimiters_of(job, index);
@@ -62,13 +62,13 @@ pub fn write_chunk(
     count: usize,
     doc: &mut [u8],
     segments: &mut [u64],
-    s: State,
+    s: Counts,
     l: LoopId,
     i: u32,
     t: TableId,
-) -> State
-    requires { ⌜ Ready (now job) (now index) × Small s × (l .0 < 32) × (count ≤ length (now rows)) × (count ≤ 256) ⌝ }
-    ensures { λ n. ⌜ ((f p : List ℕ) → Did (chunkOut (jobOf (now (job .entry))) (l .0) i (t .0) (take count (now (rows .entry))) (stateOf s)) s n
+) -> Counts
+    requires { ⌜ Ready (now job) (now index) × Within s × (l .0 < 32) × (count ≤ length (now rows)) × (count ≤ 256) ⌝ }
+    ensures { λ n. ⌜ ((f p : List ℕ) → DidCounts (chunkOut (jobOf (now (job .entry))) (l .0) i (t .0) (take count (now (rows .entry)))) s n
         (now (doc .entry)) (now (doc .exit)) (now (segments .entry)) (now (segments .exit)) f f p p) ⌝ }
 {
     let segment = planned::planned_segment(job, index, l, i, t);

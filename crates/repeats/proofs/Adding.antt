@@ -12,10 +12,11 @@ use Rattle.format.specs.Job.{Job}
 use Rattle.nest.specs.OfJob.{outlineOf}
 use Rattle.spec.specs.declared.ids.RowId.{RowId}
 use Rattle.walk.specs.Tour.{stop, fill, chunk, segmentsIn}
+use Rattle.emit.specs.declared.state.Counts.{Counts}
 use Rattle.emit.specs.declared.state.State.{State}
 use Rattle.emit.specs.declared.state.Taken.{Taken}
 use Rattle.emit.specs.Fold.{stopOut, fillOut, chunkOut, stepsOut}
-use Rattle.emit.specs.Did.{stateOf, Did, Fit}
+use Rattle.emit.specs.Did.{stateOf, stateWith, Did, DidCounts, Fit}
 use Rattle.emit.proofs.DidLaws.{did-fit}
 use Rattle.emit.proofs.TookLaws.{did-steps, did-step, step-stop, step-fill, step-chunk}
 use Rattle.repeats.specs.declared.Chunk.{Chunk}
@@ -23,19 +24,19 @@ use Rattle.repeats.specs.Going.{rowAdds, headThen, rowsThen, countThen}
 use Rattle.repeats.specs.Added.{Added}
 
 -- a row is entered, and gives its cells
-pub row-added : {s m n : State} {f f₁ f₂ p p₁ : List ℕ} (j : Job) (l i t k r : ℕ) → length f ≤ wide → length p ≤ cap
+pub row-added : {s m : State} {n : Counts} {f f₁ f₂ p p₁ : List ℕ} (j : Job) (l i t k r : ℕ) → length f ≤ wide → length p ≤ cap
     → ((d g : List ℕ) → Did (stopOut (outlineOf j) l t r (stateOf s)) s m d d g g f f₁ p p₁)
-    → ((d g q : List ℕ) → Did (fillOut j l i t k r (stateOf m)) m n d d g g f₁ f₂ q q)
-    → (d g : List ℕ) → length d ≤ cap → length g ≤ cap → Did (stepsOut j (stop l t r ∷ fill l i t k r ∷ []) (stateOf s)) s n d d g g f f₂ p p₁
+    → ((d g q : List ℕ) → DidCounts (fillOut j l i t k r) (m .counts) n d d g g f₁ f₂ q q)
+    → (d g : List ℕ) → length d ≤ cap → length g ≤ cap → Did (stepsOut j (stop l t r ∷ fill l i t k r ∷ []) (stateOf s)) s (stateWith (m .high) (m .counter) n) d d g g f f₂ p p₁
 row-added {s} {m} {f₁ = f₁} {p₁ = p₁} j l i t k r hf hp x y d g hd hg =
     did-steps {r = m} {d₁ = d} {g₁ = g} {f₁ = f₁} {p₁ = p₁} j (stop l t r ∷ []) (fill l i t k r ∷ []) (record { document = hd; segments = hg; findings = hf; stops = hp })
     (did-step j (stop l t r) (rw (step-stop j l t r (stateOf s)) (x d g)))
-    (did-step j (fill l i t k r) (rw (step-fill j l i t k r (stateOf m)) (y d g p₁)))
+    (did-step j (fill l i t k r) (rw (step-fill j l i t k r (stateOf m)) (y d g p₁ (m .high) (m .counter))))
 
 -- the segment of a chunk
-pub chunk-closed : {s n : State} {d d₁ g g₁ f p : List ℕ} (j : Job) (l i t : ℕ) (rs : List ℕ) → Did (chunkOut j l i t rs (stateOf s)) s n d d₁ g g₁ f f p p
-    → Did (stepsOut j (chunk l i t rs ∷ []) (stateOf s)) s n d d₁ g g₁ f f p p
-chunk-closed {s} j l i t rs x = did-step j (chunk l i t rs) (rw (step-chunk j l i t rs (stateOf s)) x)
+pub chunk-closed : {n : Counts} {d d₁ g g₁ f p : List ℕ} (j : Job) (l i t : ℕ) (rs : List ℕ) (s : State) → DidCounts (chunkOut j l i t rs) (s .counts) n d d₁ g g₁ f f p p
+    → Did (stepsOut j (chunk l i t rs ∷ []) (stateOf s)) s (stateWith (s .high) (s .counter) n) d d₁ g g₁ f f p p
+chunk-closed j l i t rs s x = did-step j (chunk l i t rs) (rw (step-chunk j l i t rs (stateOf s)) (x (s .high) (s .counter)))
 
 -- a row that joins the chunk
 pub row-joins : (j : Job) (l i t r : ℕ) (c : Chunk) (m : State) {a a₁ d g f f₁ p p₁ : List ℕ} → c .count < length a → a₁ ≡ set a (c .count) r

@@ -111,8 +111,9 @@ fn add_row(
 {
     let at = k as usize;
     rows[at] = r.0;
-    let entered = enter::enter(job, index, nest, findings, stops, s, l, t, r);
-    fill_row(job, index, findings, entered, l, i, t, k, r)
+    let mut n = enter::enter(job, index, nest, findings, stops, s, l, t, r);
+    n.counts = fill_row(job, index, findings, n.counts, l, i, t, k, r);
+    n
 }
 
 // The chunk is written.
@@ -131,9 +132,9 @@ fn close(
     ensures { λ n. ⌜ ((f p : List ℕ) → Did (stepsOut (jobOf (now (job .entry))) (chunk (l .0) i (t .0) (take (c .count) (now (rows .entry))) ∷ []) (stateOf (c .state))) (c .state) (n .state)
         (now (doc .entry)) (now (doc .exit)) (now (segments .entry)) (now (segments .exit)) f f p p) × (n .written ≡ c .written + 1) ⌝ }
 {
-    let state = c.state;
+    let mut n = c.state;
     let count = c.count as usize;
-    let n = write_chunk(job, index, rows, count, doc, segments, state, l, i, t);
+    n.counts = write_chunk(job, index, rows, count, doc, segments, n.counts, l, i, t);
     let written = c.written + 1;
     Taken {
         state: n,

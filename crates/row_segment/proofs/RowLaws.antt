@@ -16,10 +16,10 @@ use Rattle.segment.specs.Calls.{Group, next, finish, Row, group, close, stays}
 use Rattle.segment.proofs.Runs.{run-stored}
 use Rattle.format.specs.Sections.{jobOf}
 use Rattle.spec.specs.Answers.{stretchOf}
-use Rattle.emit.specs.declared.state.State.{State}
+use Rattle.emit.specs.declared.state.Counts.{Counts}
 use Rattle.emit.specs.declared.state.From.the-variants as From
 use Rattle.emit.specs.Fold.{separatorsOf, rowOut}
-use Rattle.emit.specs.Did.{stateOf, Did, Small, Finished}
+use Rattle.emit.specs.Did.{DidCounts, Within, Finished}
 use Rattle.emit.proofs.StepLaws.{did-segment}
 use Rattle.row_segment.specs.declared.parts.Line.{Line}
 use Rattle.row_segment.specs.declared.parts.Look.{Look}
@@ -113,9 +113,9 @@ line-joined {idx} {at = at} {from = from} {t = t} b x n r w h k q l v e (z, u) (
       all-noted b idx x w n l from t e k all,
     )
 
-pub did-line : {s n : State} {d d′ g g′ f f′ p : List ℕ} {k : ℕ} (b : List ℕ) (x : Line) (y : Tally) → Small s → Totals b x (s .findings) y f f′
+pub did-line : {s n : Counts} {d d′ g g′ f f′ p : List ℕ} {k : ℕ} (b : List ℕ) (x : Line) (y : Tally) → Within s → Totals b x (s .findings) y f f′
     → Stored d (s .bytes) (joined (separatorsOf (jobOf b)) (idOf b x) ((puts b x 0) .parts)) k d′ → Finished (From.Row (x .t) (x .r)) (y .entries) k (y .findings) s n g g′
-    → Did (rowOut (jobOf b) (x .l .0) (x .i) (x .t .0) (x .r .0) (stateOf s)) s n d d′ g g′ f f′ p p
+    → DidCounts (rowOut (jobOf b) (x .l .0) (x .i) (x .t .0) (x .r .0)) s n d d′ g g′ f f′ p p
 unfolding rowOut puts
 did-line b x y h u v w =
     did-segment (jobOf b) (idOf b x) ((puts b x 0) .parts) ((puts b x 0) .findings) ((puts b x 0) .entries) (From.Row (x .t) (x .r)) h v (u .findings) (rw (u .entries) at w)

@@ -5,8 +5,8 @@ mod parts;
 
 use crate::parts::Line;
 use emit::state;
+use emit::state::Counts;
 use emit::state::From;
-use emit::state::State;
 use spec::ids::LoopId;
 use spec::ids::RowId;
 use spec::ids::TableId;
@@ -15,7 +15,7 @@ ghost use Prim.Native.Nat.{ℕ, _<_};
 ghost use Rattle.format.specs.Sections.{jobOf};
 ghost use Rattle.nest.specs.Ready.{Ready};
 ghost use Rattle.emit.specs.Fold.{rowOut};
-ghost use Rattle.emit.specs.Did.{stateOf, Did, Small};
+ghost use Rattle.emit.specs.Did.{DidCounts, Within};
 ghost use Rattle.row_segment.specs.Stream.{Lined};
 
 // The row segment of a line, written and traced.
@@ -25,11 +25,11 @@ fn put_line(
     doc: &mut [u8],
     segments: &mut [u64],
     findings: &mut [u64],
-    s: State,
+    s: Counts,
     x: Line,
-) -> State
-    requires { ⌜ Lined (now job) (now index) x × Small s ⌝ }
-    ensures { λ n. ⌜ ((p : List ℕ) → Did (rowOut (jobOf (now (job .entry))) (x .l .0) (x .i) (x .t .0) (x .r .0) (stateOf s)) s n
+) -> Counts
+    requires { ⌜ Lined (now job) (now index) x × Within s ⌝ }
+    ensures { λ n. ⌜ ((p : List ℕ) → DidCounts (rowOut (jobOf (now (job .entry))) (x .l .0) (x .i) (x .t .0) (x .r .0)) s n
         (now (doc .entry)) (now (doc .exit)) (now (segments .entry)) (now (segments .exit)) (now (findings .entry)) (now (findings .exit)) p p) ⌝ }
 {
     let g = join::join_line(job, index, doc, findings, s.bytes, s.findings, x);
@@ -53,14 +53,14 @@ pub fn write_row(
     doc: &mut [u8],
     segments: &mut [u64],
     findings: &mut [u64],
-    s: State,
+    s: Counts,
     l: LoopId,
     i: u32,
     t: TableId,
     r: RowId,
-) -> State
-    requires { ⌜ Ready (now job) (now index) × Small s × (l .0 < 32) ⌝ }
-    ensures { λ n. ⌜ ((p : List ℕ) → Did (rowOut (jobOf (now (job .entry))) (l .0) i (t .0) (r .0) (stateOf s)) s n
+) -> Counts
+    requires { ⌜ Ready (now job) (now index) × Within s × (l .0 < 32) ⌝ }
+    ensures { λ n. ⌜ ((p : List ℕ) → DidCounts (rowOut (jobOf (now (job .entry))) (l .0) i (t .0) (r .0)) s n
         (now (doc .entry)) (now (doc .exit)) (now (segments .entry)) (now (segments .exit)) (now (findings .entry)) (now (findings .exit)) p p) ⌝ }
 {
     let x = parts::line_of(job, index, l, i, t, r);

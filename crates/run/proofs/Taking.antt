@@ -38,10 +38,11 @@ use Rattle.walk.specs.Contexts.{contextBy}
 use Rattle.walk.specs.Nested.{Nested, Sound}
 use Rattle.walk.specs.Tour.{Step, opener, rowSegment, stop, closer, segmentsIn, ownRow, stopAt, dueRow, repeatSteps, fromSource, segmentSteps, opened, closeSteps}
 use Rattle.walk.proofs.TourLaws.{segment-unplanned}
+use Rattle.emit.specs.declared.state.Counts.{Counts}
 use Rattle.emit.specs.declared.state.State.{State}
 use Rattle.emit.specs.declared.state.Taken.{Taken}
 use Rattle.emit.specs.Fold.{stepsOut, stopOut, openerOut, rowOut, closerOut}
-use Rattle.emit.specs.Did.{stateOf, Did, Small, Took}
+use Rattle.emit.specs.Did.{stateOf, stateWith, Did, DidCounts, Small, Took}
 use Rattle.emit.proofs.DidLaws.{did-nothing}
 use Rattle.emit.proofs.TookLaws.{steps-none, step-stop, step-opener, step-row, step-closer, did-step, took-none, took-one}
 use Rattle.run.specs.declared.own.Owner.{Owner}
@@ -143,11 +144,11 @@ module _ (j : Job) (l : ℕ) (s : State) where
     abbrev due : List Step
     due = cond (hasOccurrence (outlineOf j) l i && dueRow (outlineOf j) l i t r) (rowSegment l i t r ∷ []) []
 
-    pub takes-due : {n : State} {d d′ g g′ f f′ : List ℕ} (b : Bool) → b ≡ dueRow (outlineOf j) l i t r → a ≡ true → b ≡ true
-        → ((p : List ℕ) → Did (rowOut j l i t r (stateOf s)) s n d d′ g g′ f f′ p p)
-        → (p : List ℕ) → Took j due s (record { state = n; written = 1 }) d d′ g g′ f f′ p p
+    pub takes-due : {n : Counts} {d d′ g g′ f f′ : List ℕ} (b : Bool) → b ≡ dueRow (outlineOf j) l i t r → a ≡ true → b ≡ true
+        → ((p : List ℕ) → DidCounts (rowOut j l i t r) (s .counts) n d d′ g g′ f f′ p p)
+        → (p : List ℕ) → Took j due s (record { state = stateWith (s .high) (s .counter) n; written = 1 }) d d′ g g′ f f′ p p
     unfolding segmentsIn
-    takes-due b eb qa qb x p = rw (← ea, ← eb) (rw (qa, qb) (took-one j (rowSegment l i t r) 1 refl (rw (step-row j l i t r (stateOf s)) (x p))))
+    takes-due b eb qa qb x p = rw (← ea, ← eb) (rw (qa, qb) (took-one j (rowSegment l i t r) 1 refl (rw (step-row j l i t r (stateOf s)) (x p (s .high) (s .counter)))))
 
     pub leaves-due : {d g f : List ℕ} (b : Bool) → b ≡ dueRow (outlineOf j) l i t r → a ≡ true → b ≡ false → Small s
         → (p : List ℕ) → Took j due s (record { state = s; written = 0 }) d d g g f f p p

@@ -84,7 +84,8 @@ fn due_item(
     if named {
         let due = due::due_row(job, index, l, i, t, r);
         if due {
-            let n = row_segment::write_row(job, index, doc, segments, findings, s, l, i, t, r);
+            let mut n = s;
+            n.counts = row_segment::write_row(job, index, doc, segments, findings, s.counts, l, i, t, r);
             return Taken {
                 state: n,
                 written: 1,

@@ -72,16 +72,17 @@ fn open_loop(
 {
     let number = state::number_of(s, l);
     let w = frame_of(job, index, l, opener, number);
-    let put = put_opener(job, index, doc, findings, w, s.bytes, s.findings);
-    let taken = state::take_number(s, l);
-    state::finish_segment(
+    let put = put_opener(job, index, doc, findings, w, s.counts.bytes, s.counts.findings);
+    let mut n = state::take_number(s, l);
+    n.counts = state::finish_segment(
         segments,
-        taken,
+        s.counts,
         From::Envelope,
         put.entries,
         put.bytes,
         put.findings,
-    )
+    );
+    n
 }
 
 // The trigger of loop l, with the loop's next control number.
@@ -156,11 +157,12 @@ fn close_loop(
             let control = repeated(job, index, s, l, c.opener, opened);
             let n = counted(c.children, children, count);
             let sep = signs::separators_of(job, index);
-            return closer::write_closer(
+            let mut u = s;
+            u.counts = closer::write_closer(
                 doc,
                 segments,
                 job,
-                s,
+                s.counts,
                 sep,
                 id.start,
                 id.len,
@@ -169,6 +171,7 @@ fn close_loop(
                 c.count as usize,
                 n,
             );
+            return u;
         }
     }
 }

@@ -71,14 +71,14 @@ tenth : (n m : ℕ) → n ≡ m * 10 → n / 10 ≡ m
 tenth n m e = omega arith
 
 -- the walk's count goes on from where it started
-pub started : {r : Result} {s : State} {start : ℕ} {d d₁ g g₁ f f₁ p p₁ : List ℕ} (from : ℕ) → start ≡ startOf from → Filled r s start d d₁ g g₁ f f₁ p p₁ → start ≤ s .findings
+pub started : {r : Result} {s : State} {start : ℕ} {d d₁ g g₁ f f₁ p p₁ : List ℕ} (from : ℕ) → start ≡ startOf from → Filled r s start d d₁ g g₁ f f₁ p p₁ → start ≤ s .counts .findings
 started from e w = omega (arith, w .findings .counted)
 
 -- only the whole places were lent; the rest of each list comes behind them
 pub wrote-filled : {b d d′ g g₁ f f₁ p p₁ : List ℕ} {s : State} {start room : ℕ} (from : ℕ) (a : Answer) → Bytes b → Passed b → census (outlineOf (jobOf b)) ≤ 65536 → start ≡ startOf from
     → Filled (resultOf (jobOf b)) s start d d′ (take (threes g * 3) g) g₁ (take (tens f * 10) f) f₁ (take (threes p * 3) p) p₁
-    → (numberOf a ≡ pick (ltb (length d) (s .bytes) || (ltb (threes g) (s .segments / 3) || (ltb room ((s .findings - start) / 10) || ltb (threes p) (s .stops / 3)))) 7 0)
-    × (valuesOf a ≡ s .bytes ∷ s .segments / 3 ∷ (s .findings - start) / 10 ∷ s .stops / 3 ∷ [])
+    → (numberOf a ≡ pick (ltb (length d) (s .counts .bytes) || (ltb (threes g) (s .counts .segments / 3) || (ltb room ((s .counts .findings - start) / 10) || ltb (threes p) (s .counts .stops / 3)))) 7 0)
+    × (valuesOf a ≡ s .counts .bytes ∷ s .counts .segments / 3 ∷ (s .counts .findings - start) / 10 ∷ s .counts .stops / 3 ∷ [])
     → WroteFrom b d d′ g (g₁ ++ drop (threes g * 3) g) f (f₁ ++ drop (tens f * 10) f) p (p₁ ++ drop (threes p * 3) p) from room a
 unfolding tracedWords wordsOf stopWords
 wrote-filled {b} {d} {g = g} {f = f} {f₁ = f₁} {p = p} {s = s} {start = start} from a bs ok few e w ans =
@@ -88,10 +88,10 @@ wrote-filled {b} {d} {g = g} {f = f} {f₁ = f₁} {p = p} {s = s} {start = star
     let lf : length (each recordOf (r .findings)) ≡ length (r .findings) * 10 = each-length recordOf 10 record-length (r .findings) in
     let lp : length (each stopWord (r .stops)) ≡ length (r .stops) * 3 = each-length stopWord 3 stop-wide (r .stops) in
     let low : start ≤ base = rw e (omega arith) in
-    let cd : s .bytes ≡ length (r .bytes) = all-counted (z .bytes) (w .document) in
-    let cg : s .segments / 3 ≡ length (r .segments) = third _ _ (all-counted (rw lg (z .segments)) (w .segments) ∙ lg) in
-    let cf : (s .findings - start) / 10 ≡ length (r .findings) = tenth _ _ (all-noted low (rw lf (z .findings)) (w .findings) ∙ lf) in
-    let cp : s .stops / 3 ≡ length (r .stops) = third _ _ (all-counted (rw lp (z .stops)) (w .stops) ∙ lp) in
+    let cd : s .counts .bytes ≡ length (r .bytes) = all-counted (z .bytes) (w .document) in
+    let cg : s .counts .segments / 3 ≡ length (r .segments) = third _ _ (all-counted (rw lg (z .segments)) (w .segments) ∙ lg) in
+    let cf : (s .counts .findings - start) / 10 ≡ length (r .findings) = tenth _ _ (all-noted low (rw lf (z .findings)) (w .findings) ∙ lf) in
+    let cp : s .counts .stops / 3 ≡ length (r .stops) = third _ _ (all-counted (rw lp (z .stops)) (w .stops) ∙ lp) in
     let in-window : f₁ ≡ placed base (take (tens f * 10) f) start (each recordOf (r .findings)) = w .findings .stored in
     let wf : f₁ ≡ sets (take (tens f * 10) f) 0 (each recordOf (drop from (r .findings))) =
     in-window ∙ ap (λ (n : ℕ). placed base (take (tens f * 10) f) n (each recordOf (r .findings))) e ∙ windowed recordOf record-length (take (tens f * 10) f) from (r .findings) (z .findings) in

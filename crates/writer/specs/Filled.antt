@@ -14,12 +14,7 @@ abbrev pub firstState : ℕ → ℕ → State
 firstState control n = record {
   high = replicate 16 (record { seen = false; row = 0 });
   counter = replicate 32 control;
-  entries = 0;
-  begun = 0;
-  bytes = 0;
-  segments = 0;
-  findings = n;
-  stops = 0;
+  counts = record { entries = 0; begun = 0; bytes = 0; segments = 0; findings = n; stops = 0 };
 }
 
 -- where the count of findings' numbers starts, so that the window begins with finding number `from`
@@ -27,7 +22,7 @@ abbrev pub startOf : ℕ → ℕ
 startOf from = base - from * 10
 
 pub record Filled (r : Result) (s : State) (start : ℕ) (d d′ g g′ f f′ p p′ : List ℕ) : Type 0 where
-  pub document : Stored d 0 (r .bytes) (s .bytes) d′
-  pub segments : Stored g 0 (tracedWords (r .segments)) (s .segments) g′
-  pub findings : Noted f start (wordsOf (r .findings)) (s .findings) f′
-  pub stops : Stored p 0 (stopWords (r .stops)) (s .stops) p′
+  pub document : Stored d 0 (r .bytes) (s .counts .bytes) d′
+  pub segments : Stored g 0 (tracedWords (r .segments)) (s .counts .segments) g′
+  pub findings : Noted f start (wordsOf (r .findings)) (s .counts .findings) f′
+  pub stops : Stored p 0 (stopWords (r .stops)) (s .counts .stops) p′

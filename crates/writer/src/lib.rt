@@ -18,6 +18,7 @@ ghost use Rattle.writer.specs.Result.{resultOf};
 ghost use Rattle.writer.specs.Wrote.{windowFrom, WroteFrom};
 ghost use Rattle.writer.specs.Filled.{firstState, startOf, Filled};
 use census::census;
+use emit::state::Counts;
 use emit::state::Mark;
 use emit::state::State;
 use index::fill_index;
@@ -70,12 +71,14 @@ fn first_state(control: u64, findings: usize) -> State
             row: 0,
         }; 16],
         counter: [control; 32],
-        entries: 0,
-        begun: 0,
-        bytes: 0,
-        segments: 0,
-        findings: findings,
-        stops: 0,
+        counts: Counts {
+            entries: 0,
+            begun: 0,
+            bytes: 0,
+            segments: 0,
+            findings: findings,
+            stops: 0,
+        },
     }
 }
 
@@ -100,13 +103,13 @@ fn written(
 
 // The answer by the counts and by how many items each list has room for.
 fn answer_of(s: State, start: usize, d: usize, g: usize, f: usize, p: usize) -> Answer
-    requires { ⌜ start ≤ s .findings ⌝ }
-    ensures { λ a. ⌜ (numberOf a ≡ pick (ltb d (s .bytes) || (ltb g (s .segments / 3) || (ltb f ((s .findings - start) / 10) || ltb p (s .stops / 3)))) 7 0) × (valuesOf a ≡ s .bytes ∷ s .segments / 3 ∷ (s .findings - start) / 10 ∷ s .stops / 3 ∷ []) ⌝ }
+    requires { ⌜ start ≤ s .counts .findings ⌝ }
+    ensures { λ a. ⌜ (numberOf a ≡ pick (ltb d (s .counts .bytes) || (ltb g (s .counts .segments / 3) || (ltb f ((s .counts .findings - start) / 10) || ltb p (s .counts .stops / 3)))) 7 0) × (valuesOf a ≡ s .counts .bytes ∷ s .counts .segments / 3 ∷ (s .counts .findings - start) / 10 ∷ s .counts .stops / 3 ∷ []) ⌝ }
 {
-    let bytes = s.bytes;
-    let segments = s.segments / 3;
-    let findings = (s.findings - start) / 10;
-    let stops = s.stops / 3;
+    let bytes = s.counts.bytes;
+    let segments = s.counts.segments / 3;
+    let findings = (s.counts.findings - start) / 10;
+    let stops = s.counts.stops / 3;
     if d < bytes {
         return Answer::Room(bytes, segments, findings, stops);
     }

@@ -6,13 +6,9 @@ use Rattle.enter.proofs.note_order.Statement.{statement}
 use Rattle.enter.proofs.note_order.Tie as tie
 use Rattle.enter.proofs.note_order.Reads as reads
 use Rattle.enter.proofs.note_order.Lts as lts
-use Rattle.emit.proofs.state.highest.Reads as highest-reads
 use Rattle.enter.proofs.note_lower.Reads as note-lower-reads
 use Rattle.enter.proofs.table_above.Reads as table-above-reads
 use Rattle.lent.proofs.more.Reads as more-reads
-
-highest-requires : tie.Need-highest-requires
-highest-requires c κs = search needs
 
 table-above-requires : tie.Need-table-above-requires
 table-above-requires c κs = search needs
@@ -24,25 +20,24 @@ same-length : tie.Need-same-length
 same-length c = search needs
 
 returns : tie.Need-returns
-returns c = rw (order-lower _ _ _ _ (c .before .before .before .before .before .before .before .before .before .highest .result) (c .before .before .before .before .before .before .before .before .before .highest .ensures) (c .before .before .before .before .before .before .before .before .if1 .taken) (c .before .before .before .before .before .if2 .taken) _ (c .before .before .before .before .table-above .ensures)) (c .before .before .note-lower .ensures)
+returns c = rw (order-lower _ _ _ _ (c .before .before .before .before .before .before .before .before .if1 .taken) (c .before .before .before .before .before .if2 .taken) _ (c .before .before .before .before .table-above .ensures)) (c .before .before .note-lower .ensures)
 
 more-requires : tie.Need-more-requires
 more-requires c κs = search needs
 
 returns-2 : tie.Need-returns-2
-returns-2 c = rw (order-not-lower _ _ _ _ (c .before .before .before .before .before .highest .result) (c .before .before .before .before .before .highest .ensures) (c .before .before .before .before .if1 .taken) (c .before .if2 .left)) (none-stored (c .more .ensures))
+returns-2 c = rw (order-not-lower _ _ _ _ (c .before .before .before .before .if1 .taken) (c .before .if2 .left)) (none-stored (c .more .ensures))
 
 more-requires-2 : tie.Need-more-requires-2
 more-requires-2 c κs = search needs
 
 returns-3 : tie.Need-returns-3
-returns-3 c = rw (order-unseen _ _ _ _ (c .before .before .highest .result) (c .before .before .highest .ensures) (c .before .if1 .left)) (none-stored (c .more2 .ensures))
+returns-3 c = rw (order-unseen _ _ _ (c .before .before .before .before .before .before .args .m) (c .before .if1 .left)) (none-stored (c .more2 .ensures))
 
 pub note-order-spec : {M : Type 1} → statement M
 note-order-spec =
     tie.close
     (tie.spec
-    highest-requires
     table-above-requires
     note-lower-requires
     same-length

@@ -20,7 +20,7 @@ same-length-2 : tie.Need-same-length-2
 same-length-2 c = search needs
 
 returns : tie.Need-returns
-returns c = ((λ f p. chunk-closed _ _ _ _ _ (c .before .before .before .before .before .write-chunk .ensures f p)), refl)
+returns c = ((λ f p. chunk-closed _ _ _ _ _ _ (c .before .before .before .before .before .write-chunk .ensures f p)), refl)
 
 pub close-spec : {M : Type 1} → statement M
 close-spec =

@@ -55,7 +55,7 @@ same-length-2 c = search needs
 
 returns-2 : tie.Need-returns-2
 unfolding stretchOf
-returns-2 c = λ f p. let a = c .before .before .before .before .before .before .before .before .before .before .before .before .before .before .before .before .before .before .before .before .args in let b = now (a .job) in rw (close-is (jobOf b) (a .l .0) (a .opened) (a .children) (a .count) (stateOf (a .s)) (ruleOf (a .c)) (stretchOf b (c .before .before .before .before .before .before .before .before .before .before .before .before .before .end .given .0 .0)) (valueText b (c .before .before .before .before .before .before .before .before .before .before .before .repeated .result)) (c .before .before .before .before .before .before .before .before .before .before .counted .result) (c .before .before .before .before .before .before .before .before .before .before .before .before .before .before .before .before .before .before .before .before .pre .3) (text-there _ _ _ (c .before .before .before .before .before .before .before .before .before .before .before .before .before .before .before .loop-end .ensures .bytes) _ (c .before .before .before .before .before .before .before .before .before .before .before .before .before .end .given .1)) (c .before .before .before .before .before .before .before .before .before .before .before .repeated .ensures (ruleOf (a .c)) refl) (c .before .before .before .before .before .before .before .before .before .before .counted .ensures)) (c .before .before .before .before .write-closer .ensures (jobOf b) (ruleOf (a .c)) f p (sym (c .before .before .before .before .before .before .before .before .before .separators-of .ensures)) refl refl (c .before .before .before .before .before .before .before .before .before .before .before .before .before .before .before .before .before .before .before .before .pre .1))
+returns-2 c = λ f p. let a = c .before .before .before .before .before .before .before .before .before .before .before .before .before .before .before .before .before .before .before .before .args in let b = now (a .job) in rw (close-is (jobOf b) (a .l .0) (a .opened) (a .children) (a .count) (stateOf (a .s)) (ruleOf (a .c)) (stretchOf b (c .before .before .before .before .before .before .before .before .before .before .before .before .before .end .given .0 .0)) (valueText b (c .before .before .before .before .before .before .before .before .before .before .before .repeated .result)) (c .before .before .before .before .before .before .before .before .before .before .counted .result) (c .before .before .before .before .before .before .before .before .before .before .before .before .before .before .before .before .before .before .before .before .pre .3) (text-there _ _ _ (c .before .before .before .before .before .before .before .before .before .before .before .before .before .before .before .loop-end .ensures .bytes) _ (c .before .before .before .before .before .before .before .before .before .before .before .before .before .end .given .1)) (c .before .before .before .before .before .before .before .before .before .before .before .repeated .ensures (ruleOf (a .c)) refl) (c .before .before .before .before .before .before .before .before .before .before .counted .ensures)) (c .before .before .before .before .write-closer .ensures (jobOf b) (ruleOf (a .c)) f p (sym (c .before .before .before .before .before .before .before .before .before .separators-of .ensures)) refl refl (c .before .before .before .before .before .before .before .before .before .before .before .before .before .before .before .before .before .before .before .before .pre .1) (a .s .high) (a .s .counter))
 
 pub close-loop-spec : {M : Type 1} → statement M
 close-loop-spec =
