@@ -1,6 +1,6 @@
 // Where a row hangs: on a row of its table's parent, or a repeat row on a row of the anchor that it goes by.
 ghost use mathlib.Core.Path.{_≡_};
-ghost use Prim.Native.Nat.{_≤_, _<_};
+ghost use Prim.Native.Nat.{_<_, max};
 ghost use lib.ListN.{length, getD};
 ghost use Rattle.spec.specs.Answers.{numberOf};
 ghost use Rattle.plan.specs.Answers.{instancesOf};
@@ -106,8 +106,8 @@ pub fn depth_at(depths: [u8; 32], l: LoopId) -> u32
     depths[i] as u32
 }
 
-pub fn greater(a: u32, b: u32) -> u32
-    ensures { λ r. ⌜ (a ≤ r) × (b ≤ r) ⌝ }
+fn greater(a: u32, b: u32) -> u32
+    ensures { λ r. ⌜ r ≡ max a b ⌝ }
 {
     if a < b {
         return b;

@@ -29,13 +29,13 @@ use Rattle.nest.specs.declared.Found.{Found}
 use Rattle.nest.specs.declared.Found.the-variants as found
 use Rattle.nest.specs.Nest.{Row, rowOf}
 use Rattle.nest.specs.OfJob.{outlineOf, kindIn, sourceIn}
-use Rattle.nest.specs.Ready.{outlineAt}
+use Rattle.nest.specs.Ready.{Ready, outlineAt}
 use Rattle.nest.proofs.Bridge.{kind-is, planned-is}
 use Rattle.nest.proofs.Placing.{rows-few}
 use Rattle.walk.specs.declared.Context.{Context as Kept}
 use Rattle.walk.specs.Instances.{Context}
 use Rattle.walk.specs.Contexts.{contextBy}
-use Rattle.walk.specs.Nested.{Nested, Sound}
+use Rattle.walk.specs.Nested.{Sound}
 use Rattle.walk.specs.Tour.{Step, opener, rowSegment, stop, closer, segmentsIn, ownRow, stopAt, dueRow, repeatSteps, fromSource, segmentSteps, opened, closeSteps}
 use Rattle.walk.proofs.TourLaws.{segment-unplanned}
 use Rattle.emit.specs.declared.state.Counts.{Counts}
@@ -47,7 +47,9 @@ use Rattle.emit.proofs.DidLaws.{did-nothing}
 use Rattle.emit.proofs.TookLaws.{steps-none, step-stop, step-opener, step-row, step-closer, did-step, took-none, took-one}
 use Rattle.run.specs.declared.own.Owner.{Owner}
 use Rattle.run.specs.declared.own.Owner.the-variants as owner
-use Rattle.run.specs.Went.{ownerBy}
+use Rattle.run.specs.declared.segments.Due.{Due}
+use Rattle.run.specs.declared.segments.Due.the-variants as due
+use Rattle.run.specs.Went.{ownerBy, Gives}
 use Rattle.run.proofs.Reading.{source-is, table-small}
 
 -- ---- the row of a table
@@ -112,80 +114,71 @@ own-row-there o k c t r h e = go (rowTable k) e
     go none q = absurd (let z : _≡_ {A = ℕ} 0 1 = cc in omega arith)
     go (some u) q = held u (c .row u) refl q
 
-pub own-known : {b idx n : List ℕ} (l : ℕ) (c : Kept) (x : Owner) (t : TableId) (r : RowId) → Nested b idx n → Sound (outlineAt b) (contextBy c)
+pub own-known : {b idx : List ℕ} (l : ℕ) (c : Kept) (x : Owner) (t : TableId) (r : RowId) → Ready b idx → Sound (outlineAt b) (contextBy c)
     → ownerBy x ≡ ownRow (kindOf (outlineAt b) l) (contextBy c) → x ≡ owner.Row t r → (t .0 < 16) × (r .0 < rowCount (outlineAt b) (t .0))
-own-known {b} l c x t r N h e q =
+own-known {b} l c x t r R h e q =
     let y : ownRow (kindOf (outlineAt b) l) (contextBy c) ≡ some (record { table = t .0; row = r .0 }) = sym e ∙ ap ownerBy q in
     let z = own-row-there (outlineAt b) (kindOf (outlineAt b) l) (contextBy c) (t .0) (r .0) h y in
-    (table-small b (N .ready .passed) (t .0) (r .0) z, z)
+    (table-small b (R .passed) (t .0) (r .0) z, z)
 
 -- a table has at most 4,096 rows
-pub row-few : {b idx n : List ℕ} (t r : ℕ) → Nested b idx n → r < rowCount (outlineAt b) t → r < 4096
-row-few {b} t r N h = omega (arith, rows-few (jobOf b) t (few (jobOf b) (N .ready .passed .limits) .rows), h)
+row-few : {b idx : List ℕ} (t r : ℕ) → Ready b idx → r < rowCount (outlineAt b) t → r < 4096
+row-few {b} t r R h = omega (arith, rows-few (jobOf b) t (few (jobOf b) (R .passed .limits) .rows), h)
 
--- ---- a planned segment, by its source
+-- ---- what a planned segment gives, by its source
 
-module _ (j : Job) (l : ℕ) (s : State) where
+gives-nothing : (o : Outline) (l i : ℕ) (xs : List Step) → xs ≡ [] → Gives o l i xs due.Nothing
+gives-nothing o l i xs e = record { steps = e; few = omega arith }
+
+module _ (o : Outline) (l i : ℕ) where
   -- the trigger of a loop with `control`
-  module _ (t : Bool) (e : t ≡ (loopOf (outlineOf j) l) .controlled) where
-    abbrev trigger : List Step
-    trigger = cond ((loopOf (outlineOf j) l) .controlled) (opener l ∷ []) []
+  module _ (a : Bool) (e : a ≡ (loopOf o l) .controlled) where
+    pub gives-opener : a ≡ true → Gives o l i (cond ((loopOf o l) .controlled) (opener l ∷ []) []) due.Opener
+    gives-opener q = record { steps = rw (← e) (rw q refl); few = omega arith }
 
-    pub takes-opener : {n : State} {d d′ g g′ f f′ : List ℕ} → t ≡ true → ((p : List ℕ) → Did (openerOut j l (stateOf s)) s n d d′ g g′ f f′ p p)
-        → (p : List ℕ) → Took j trigger s (record { state = n; written = 1 }) d d′ g g′ f f′ p p
-    unfolding segmentsIn
-    takes-opener q x p = rw (← e) (rw q (took-one j (opener l) 1 refl (rw (step-opener j l (stateOf s)) (x p))))
-
-    pub leaves-opener : {d g f : List ℕ} → t ≡ false → Small s → (p : List ℕ) → Took j trigger s (record { state = s; written = 0 }) d d g g f f p p
-    leaves-opener q h p = rw (← e) (rw q (took-none j s h))
+    pub gives-no-opener : a ≡ false → Gives o l i (cond ((loopOf o l) .controlled) (opener l ∷ []) []) due.Nothing
+    gives-no-opener q = gives-nothing o l i _ (rw (← e) (rw q refl))
 
   -- the segment of a row
-  module _ (i t r : ℕ) (a : Bool) (ea : a ≡ hasOccurrence (outlineOf j) l i) where
-    abbrev due : List Step
-    due = cond (hasOccurrence (outlineOf j) l i && dueRow (outlineOf j) l i t r) (rowSegment l i t r ∷ []) []
+  module _ (t : TableId) (r : RowId) (a : Bool) (ea : a ≡ hasOccurrence o l i) where
+    abbrev row : List Step
+    row = cond (hasOccurrence o l i && dueRow o l i (t .0) (r .0)) (rowSegment l i (t .0) (r .0) ∷ []) []
 
-    pub takes-due : {n : Counts} {d d′ g g′ f f′ : List ℕ} (b : Bool) → b ≡ dueRow (outlineOf j) l i t r → a ≡ true → b ≡ true
-        → ((p : List ℕ) → DidCounts (rowOut j l i t r) (s .counts) n d d′ g g′ f f′ p p)
-        → (p : List ℕ) → Took j due s (record { state = stateWith (s .high) (s .counter) n; written = 1 }) d d′ g g′ f f′ p p
-    unfolding segmentsIn
-    takes-due b eb qa qb x p = rw (← ea, ← eb) (rw (qa, qb) (took-one j (rowSegment l i t r) 1 refl (rw (step-row j l i t r (stateOf s)) (x p (s .high) (s .counter)))))
+    pub gives-row : (b : Bool) → b ≡ dueRow o l i (t .0) (r .0) → a ≡ true → b ≡ true → Gives o l i row (due.Row t r)
+    gives-row b eb qa qb = record { steps = rw (← ea, ← eb) (rw (qa, qb) refl); few = omega arith }
 
-    pub leaves-due : {d g f : List ℕ} (b : Bool) → b ≡ dueRow (outlineOf j) l i t r → a ≡ true → b ≡ false → Small s
-        → (p : List ℕ) → Took j due s (record { state = s; written = 0 }) d d g g f f p p
-    leaves-due b eb qa qb h p = rw (← ea, ← eb) (rw (qa, qb) (took-none j s h))
+    pub gives-no-row : (b : Bool) → b ≡ dueRow o l i (t .0) (r .0) → a ≡ true → b ≡ false → Gives o l i row due.Nothing
+    gives-no-row b eb qa qb = gives-nothing o l i _ (rw (← ea, ← eb) (rw (qa, qb) refl))
 
-    pub nameless-due : {d g f : List ℕ} → a ≡ false → Small s → (p : List ℕ) → Took j due s (record { state = s; written = 0 }) d d g g f f p p
-    nameless-due qa h p = rw (← ea) (rw qa (took-none j s h))
+    pub row-nameless : a ≡ false → Gives o l i row due.Nothing
+    row-nameless qa = gives-nothing o l i _ (rw (← ea) (rw qa refl))
 
-  module _ (i t : ℕ) (c : Context) (x : Found) (e : x ≡ foundBy (c .row t)) where
-    pub takes-row : {n : Taken} {d d′ g g′ f f′ : List ℕ} (r : RowId) → x ≡ found.Row r
-        → ((p : List ℕ) → Took j (cond (hasOccurrence (outlineOf j) l i && dueRow (outlineOf j) l i t (r .0)) (rowSegment l i t (r .0) ∷ []) []) s n d d′ g g′ f f′ p p)
-        → (p : List ℕ) → Took j (fromSource (outlineOf j) l i c (O.ofRow t)) s n d d′ g g′ f f′ p p
-    takes-row r q y p = rw (there (c .row t) x r e q) (y p)
+  module _ (t : TableId) (c : Context) (x : Found) (e : x ≡ foundBy (c .row (t .0))) where
+    pub row-there : (r : RowId) (d : Due) → x ≡ found.Row r
+        → Gives o l i (cond (hasOccurrence o l i && dueRow o l i (t .0) (r .0)) (rowSegment l i (t .0) (r .0) ∷ []) []) d → Gives o l i (fromSource o l i c (O.ofRow (t .0))) d
+    row-there r d q y = rw (there (c .row (t .0)) x r e q) y
 
-    pub leaves-row : {d g f : List ℕ} → x ≡ found.Nothing → Small s → (p : List ℕ) → Took j (fromSource (outlineOf j) l i c (O.ofRow t)) s (record { state = s; written = 0 }) d d g g f f p p
-    leaves-row q h p = rw (not-there (c .row t) x e q) (took-none j s h)
+    pub row-gone : x ≡ found.Nothing → Gives o l i (fromSource o l i c (O.ofRow (t .0))) due.Nothing
+    row-gone q = gives-nothing o l i _ (rw (not-there (c .row (t .0)) x e q) refl)
 
--- the repeat segments of an instance that a row opened
-module _ (j : Job) (l i t : ℕ) (c : Context) (a : Bool) (ea : a ≡ hasOccurrence (outlineOf j) l i) where
-  module _ (x : Owner) (e : ownerBy x ≡ ownRow (kindOf (outlineOf j) l) c) where
-    repeat-is : (u : TableId) (r : RowId) → a ≡ true → x ≡ owner.Row u r → fromSource (outlineOf j) l i c (O.ofRepeat t) ≡ repeatSteps (outlineOf j) l i t (r .0)
-    repeat-is u r qa q = rw (← ea, ← e) (rw (qa, q) refl)
+  -- the repeat segments of an instance that a row opened
+  module _ (t : TableId) (c : Context) (a : Bool) (ea : a ≡ hasOccurrence o l i) where
+    module _ (x : Owner) (e : ownerBy x ≡ ownRow (kindOf o l) c) where
+      gives-repeat : (u : TableId) (p : RowId) → a ≡ true → x ≡ owner.Row u p → p .0 < 4096 → Gives o l i (fromSource o l i c (O.ofRepeat (t .0))) (due.Repeat t p)
+      gives-repeat u p qa q h = record { steps = rw (← ea, ← e) (rw (qa, q) refl); few = h }
 
-    pub repeat-room : (u : TableId) (r : RowId) → a ≡ true → x ≡ owner.Row u r → segmentsIn (fromSource (outlineOf j) l i c (O.ofRepeat t)) < cap → segmentsIn (repeatSteps (outlineOf j) l i t (r .0)) < cap
-    repeat-room u r qa q h = rw (repeat-is u r qa q) at h
+      pub ownerless : a ≡ true → x ≡ owner.Nothing → Gives o l i (fromSource o l i c (O.ofRepeat (t .0))) due.Nothing
+      ownerless qa q = gives-nothing o l i _ (rw (← ea, ← e) (rw (qa, q) refl))
 
-    pub takes-repeat : {s : State} {n : Taken} {d d′ g g′ f f′ p p′ : List ℕ} (u : TableId) (r : RowId) → a ≡ true → x ≡ owner.Row u r
-        → Took j (repeatSteps (outlineOf j) l i t (r .0)) s n d d′ g g′ f f′ p p′ → Took j (fromSource (outlineOf j) l i c (O.ofRepeat t)) s n d d′ g g′ f f′ p p′
-    takes-repeat u r qa q y = rw (repeat-is u r qa q) y
+    pub repeat-nameless : a ≡ false → Gives o l i (fromSource o l i c (O.ofRepeat (t .0))) due.Nothing
+    repeat-nameless qa = gives-nothing o l i _ (rw (← ea) (rw qa refl))
 
-    pub ownerless : {s : State} {d g f p : List ℕ} → a ≡ true → x ≡ owner.Nothing → Small s → Took j (fromSource (outlineOf j) l i c (O.ofRepeat t)) s (record { state = s; written = 0 }) d d g g f f p p
-    ownerless {s = s} qa q h = rw (← ea, ← e) (rw (qa, q) (took-none j s h))
+pub repeat-there : {b idx : List ℕ} (l i : ℕ) (t : TableId) (c : Kept) (a : Bool) (x : Owner) (u : TableId) (p : RowId) → Ready b idx → Sound (outlineAt b) (contextBy c)
+    → a ≡ hasOccurrence (outlineAt b) l i → ownerBy x ≡ ownRow (kindOf (outlineAt b) l) (contextBy c) → a ≡ true → x ≡ owner.Row u p
+    → Gives (outlineAt b) l i (fromSource (outlineAt b) l i (contextBy c) (O.ofRepeat (t .0))) (due.Repeat t p)
+repeat-there {b} l i t c a x u p R h ea e qa q = gives-repeat (outlineAt b) l i t (contextBy c) a ea x e u p qa q (row-few (u .0) (p .0) R (own-known l c x u p R h e q .1))
 
-  pub nameless-repeat : {s : State} {d g f p : List ℕ} → a ≡ false → Small s → Took j (fromSource (outlineOf j) l i c (O.ofRepeat t)) s (record { state = s; written = 0 }) d d g g f f p p
-  nameless-repeat {s = s} qa h = rw (← ea) (rw qa (took-none j s h))
-
--- a planned segment is that of its source
+-- a planned segment gives what its source does
 module _ (j : Job) (l i : ℕ) (c : Context) (n : ℕ) (e : n ≡ length ((A.planOf j l) .segments)) where
   module _ (x y : Source) (h : i < n) (q : sourceOf x ≡ (A.plannedOf j l i) .source) (z : x ≡ y) where
     by-source : segmentSteps (outlineOf j) l c i ≡ fromSource (outlineOf j) l i c (sourceIn (sourceOf y))
@@ -194,15 +187,44 @@ module _ (j : Job) (l i : ℕ) (c : Context) (n : ℕ) (e : n ≡ length ((A.pla
         let b : i < planned (outlineOf j) l = omega (arith, planned-is j l, e, h) in
         rw (lt-ltb i (planned (outlineOf j) l) b, source-is j l i, ← q, z) refl
 
-    pub source-room : segmentsIn (segmentSteps (outlineOf j) l c i) < cap → segmentsIn (fromSource (outlineOf j) l i c (sourceIn (sourceOf y))) < cap
-    source-room b = rw by-source at b
+    pub gives-source : (d : Due) → Gives (outlineOf j) l i (fromSource (outlineOf j) l i c (sourceIn (sourceOf y))) d → Gives (outlineOf j) l i (segmentSteps (outlineOf j) l c i) d
+    gives-source d w = rw by-source w
 
-    pub takes-source : {s : State} {r : Taken} {d d′ g g′ f f′ p p′ : List ℕ}
-        → Took j (fromSource (outlineOf j) l i c (sourceIn (sourceOf y))) s r d d′ g g′ f f′ p p′ → Took j (segmentSteps (outlineOf j) l c i) s r d d′ g g′ f f′ p p′
-    takes-source b = rw by-source b
+  pub unplanned : n ≤ i → Gives (outlineOf j) l i (segmentSteps (outlineOf j) l c i) due.Nothing
+  unplanned h = gives-nothing (outlineOf j) l i _ (segment-unplanned (outlineOf j) l c i (omega (arith, planned-is j l, e, h)))
 
-  pub unplanned : {s : State} {d g f p : List ℕ} → n ≤ i → Small s → Took j (segmentSteps (outlineOf j) l c i) s (record { state = s; written = 0 }) d d g g f f p p
-  unplanned {s = s} h y = rw (segment-unplanned (outlineOf j) l c i (omega (arith, planned-is j l, e, h))) (took-none j s y)
+-- ---- what is due is taken
+
+opener-one : (l : ℕ) → 1 ≡ segmentsIn (opener l ∷ [])
+unfolding segmentsIn
+opener-one l = refl
+
+row-one : (l i t r : ℕ) → 1 ≡ segmentsIn (rowSegment l i t r ∷ [])
+unfolding segmentsIn
+row-one l i t r = refl
+
+module _ (j : Job) {l i : ℕ} {xs : List Step} {x : Due} (w : Gives (outlineOf j) l i xs x) where
+  pub takes-nothing : {s : State} {d g f p : List ℕ} → x ≡ due.Nothing → Small s → Took j xs s (record { state = s; written = 0 }) d d g g f f p p
+  takes-nothing {s = s} q h = rw (w .steps, q) (took-none j s h)
+
+  pub takes-opener : {s n : State} {d d′ g g′ f f′ : List ℕ} → x ≡ due.Opener → ((p : List ℕ) → Did (openerOut j l (stateOf s)) s n d d′ g g′ f f′ p p)
+      → (p : List ℕ) → Took j xs s (record { state = n; written = 1 }) d d′ g g′ f f′ p p
+  takes-opener {s = s} q y p = rw (w .steps, q) (took-one j (opener l) 1 (opener-one l) (rw (step-opener j l (stateOf s)) (y p)))
+
+  pub takes-row : {n : Counts} {d d′ g g′ f f′ : List ℕ} (s : State) (t : TableId) (r : RowId) → x ≡ due.Row t r → ((p : List ℕ) → DidCounts (rowOut j l i (t .0) (r .0)) (s .counts) n d d′ g g′ f f′ p p)
+      → (p : List ℕ) → Took j xs s (record { state = stateWith (s .high) (s .counter) n; written = 1 }) d d′ g g′ f f′ p p
+  takes-row s t r q y p = rw (w .steps, q) (took-one j (rowSegment l i (t .0) (r .0)) 1 (row-one l i (t .0) (r .0)) (rw (step-row j l i (t .0) (r .0) (stateOf s)) (y p (s .high) (s .counter))))
+
+  module _ (t : TableId) (p : RowId) (q : x ≡ due.Repeat t p) where
+    pub repeat-few : p .0 < 4096
+    repeat-few = rw q at (w .few)
+
+    pub repeat-room : segmentsIn xs < cap → segmentsIn (repeatSteps (outlineOf j) l i (t .0) (p .0)) < cap
+    repeat-room h = rw (w .steps, q) at h
+
+    pub takes-repeat : {s : State} {n : Taken} {d d′ g g′ f f′ v v′ : List ℕ}
+        → Took j (repeatSteps (outlineOf j) l i (t .0) (p .0)) s n d d′ g g′ f f′ v v′ → Took j xs s n d d′ g g′ f f′ v v′
+    takes-repeat y = rw (w .steps, q) y
 
 -- ---- the closer
 

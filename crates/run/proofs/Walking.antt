@@ -121,18 +121,12 @@ module _ (o : Outline) (h l : ℕ) (c : Context) (x : asked.Item) where
   abbrev steps : List Step
   steps = itemSteps (visits o h) o l c (itemIn (itemOf x))
 
-  pub segment-within : (i : ℕ) → x ≡ item.Segment i → segmentsIn steps < cap → segmentsIn (segmentSteps o l c i) < cap
-  segment-within i e r = rw e at r
-
-  pub loop-within : (k : LoopId) → x ≡ item.Loop k → segmentsIn steps < cap → segmentsIn (visits o h (k .0) c) < cap
-  loop-within k e r = rw e at r
-
   module _ {j : Job} {s : State} {d d₁ g g₁ f f₁ p p₁ : List ℕ} where
-    pub segment-went : {r : Taken} (i : ℕ) → x ≡ item.Segment i → Took j (segmentSteps o l c i) s r d d₁ g g₁ f f₁ p p₁
+    segment-went : {r : Taken} (i : ℕ) → x ≡ item.Segment i → Took j (segmentSteps o l c i) s r d d₁ g g₁ f f₁ p p₁
         → Went j steps (itemCount (instances o h) c (itemIn (itemOf x))) s (record { taken = r; instances = 0 }) d d₁ g g₁ f f₁ p p₁
     segment-went i e t = rw e (record { took = t; instances = refl })
 
-    pub loop-went : {r : Visited} (k : LoopId) → x ≡ item.Loop k → Went j (visits o h (k .0) c) (length (instances o h (k .0) c)) s r d d₁ g g₁ f f₁ p p₁
+    loop-went : {r : Visited} (k : LoopId) → x ≡ item.Loop k → Went j (visits o h (k .0) c) (length (instances o h (k .0) c)) s r d d₁ g g₁ f f₁ p p₁
         → Went j steps (itemCount (instances o h) c (itemIn (itemOf x))) s r d d₁ g g₁ f f₁ p p₁
     loop-went k e t = rw e t
 
@@ -172,18 +166,45 @@ module _ (j : Job) (h l : ℕ) (c : Context) where
           let z : getD (orderOf (outlineOf j) l) k noItem ≡ itemIn (itemOf x) = order-item j l k ∙ ap itemIn (sym y) in
           rw (each-at one (orderOf (outlineOf j) l) k noItem q, z, children-item inner (outlineOf j) l c k (itemIn (itemOf x)) q z) at a
 
-      pub item-within : segmentsIn (each one (orderOf (outlineOf j) l)) < cap → segmentsIn (one (itemIn (itemOf x))) < cap
+      item-within : segmentsIn (each one (orderOf (outlineOf j) l)) < cap → segmentsIn (one (itemIn (itemOf x))) < cap
       item-within r = omega (arith, along-room (one (itemIn (itemOf x))) _ _ split r)
 
       module _ {v : Visited} {d₂ g₂ f₂ p₂ : List ℕ} (u : Went j (one (itemIn (itemOf x))) (itemCount inner c (itemIn (itemOf x))) t v d₁ d₂ g₁ g₂ f₁ f₂ p₁ p₂) where
-        pub written-within : segmentsIn (each one (orderOf (outlineOf j) l)) < cap → w + v .taken .written < cap
+        written-within : segmentsIn (each one (orderOf (outlineOf j) l)) < cap → w + v .taken .written < cap
         written-within r = omega (arith, along-room (one (itemIn (itemOf x))) _ _ split r, u .took .written)
 
-        pub count-within : n + v .instances ≤ children inner (outlineOf j) l c
-        count-within = omega (arith, split .instances, u .instances)
-
-        pub items-next : Fit d g f p → ItemsTo (k + 1) s (v .taken .state) (w + v .taken .written) (n + v .instances) d d₂ g g₂ f f₂ p p₂
+        items-next : Fit d g f p → ItemsTo (k + 1) s (v .taken .state) (w + v .taken .written) (n + v .instances) d d₂ g g₂ f f₂ p p₂
         items-next fit = rw (u .instances) (along-next (one (itemIn (itemOf x))) _ (itemCount inner c (itemIn (itemOf x))) _ fit split (u .took))
+
+      -- a planned segment
+      module _ (i : ℕ) (z : x ≡ item.Segment i) where
+        pub segment-within : segmentsIn (each one (orderOf (outlineOf j) l)) < cap → segmentsIn (segmentSteps (outlineOf j) l c i) < cap
+        segment-within r = rw z at (item-within r)
+
+        module _ {r : Taken} {d₂ g₂ f₂ p₂ : List ℕ} (u : Took j (segmentSteps (outlineOf j) l c i) t r d₁ d₂ g₁ g₂ f₁ f₂ p₁ p₂) where
+          pub segment-written : segmentsIn (each one (orderOf (outlineOf j) l)) < cap → w + r .written < cap
+          segment-written = written-within (segment-went (outlineOf j) h l c x i z u)
+
+          pub segment-next : Fit d g f p → ItemsTo (k + 1) s (r .state) (w + r .written) n d d₂ g g₂ f f₂ p p₂
+          segment-next fit = let q : n + 0 ≡ n = omega arith in rw q at (items-next (segment-went (outlineOf j) h l c x i z u) fit)
+
+        pub segment-passed : Took j (segmentSteps (outlineOf j) l c i) t (record { state = t; written = 0 }) d₁ d₁ g₁ g₁ f₁ f₁ p₁ p₁ → Fit d g f p → ItemsTo (k + 1) s t w n d d₁ g g₁ f f₁ p p₁
+        segment-passed u fit = let q : w + 0 ≡ w = omega arith in rw q at (segment-next u fit)
+
+      -- a child loop
+      module _ (m : LoopId) (z : x ≡ item.Loop m) where
+        pub loop-within : segmentsIn (each one (orderOf (outlineOf j) l)) < cap → segmentsIn (visits (outlineOf j) h (m .0) c) < cap
+        loop-within r = rw z at (item-within r)
+
+        module _ {v : Visited} {d₂ g₂ f₂ p₂ : List ℕ} (u : Went j (visits (outlineOf j) h (m .0) c) (length (inner (m .0) c)) t v d₁ d₂ g₁ g₂ f₁ f₂ p₁ p₂) where
+          pub loop-written : segmentsIn (each one (orderOf (outlineOf j) l)) < cap → w + v .taken .written < cap
+          loop-written = written-within (loop-went (outlineOf j) h l c x m z u)
+
+          pub loop-count : n + v .instances ≤ children inner (outlineOf j) l c
+          loop-count = omega (arith, split .instances, loop-went (outlineOf j) h l c x m z u .instances)
+
+          pub loop-next : Fit d g f p → ItemsTo (k + 1) s (v .taken .state) (w + v .taken .written) (n + v .instances) d d₂ g g₂ f f₂ p p₂
+          loop-next = items-next (loop-went (outlineOf j) h l c x m z u)
 
 -- ---- the instances of a loop
 

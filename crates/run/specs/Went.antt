@@ -1,23 +1,25 @@
 -- What the walk asks for and what it did (write/emit.rs, `run` and `instance`).
 use Prim.Native.Nat.{ℕ, _<_}
 use mathlib.Core.Path.{_≡_}
-use mathlib.Core.List.{List}
+use mathlib.Core.List.{List, [], _∷_}
 use mathlib.Core.Option.{Option, none, some}
 use lib.ListN.{length}
 use Rattle.format.specs.Job.{Job}
-use Rattle.nest.specs.Outline.{Item, segment, loop}
+use Rattle.nest.specs.Outline.{Outline, Item, segment, loop}
 use Rattle.nest.specs.Nest.{Row}
 use Rattle.nest.specs.Ready.{outlineAt}
 use Rattle.walk.specs.declared.Context.{Context as Kept}
 use Rattle.walk.specs.Instances.{Context}
 use Rattle.walk.specs.Contexts.{contextBy}
 use Rattle.walk.specs.Nested.{Nested, Sound}
-use Rattle.walk.specs.Tour.{Step}
+use Rattle.walk.specs.Tour.{Step, opener, rowSegment, repeatSteps}
 use Rattle.emit.specs.declared.state.State.{State}
 use Rattle.emit.specs.Did.{Small, Took}
 use Rattle.run.specs.declared.Visited.{Visited}
 use Rattle.run.specs.declared.own.Owner.{Owner}
 use Rattle.run.specs.declared.own.Owner.the-variants as owner
+use Rattle.run.specs.declared.segments.Due.{Due}
+use Rattle.run.specs.declared.segments.Due.the-variants as due
 
 -- a job that passed with its index and nest's array, a state whose counts are within the cap, a context whose rows are there, and a loop of the job
 pub record Walks (b idx n : List ℕ) (s : State) (l : ℕ) (c : Kept) : Type 0 where
@@ -45,3 +47,22 @@ itemCount inner c (loop k) = length (inner k c)
 abbrev pub ownerBy : Owner → Option Row
 ownerBy owner.Nothing = none
 ownerBy (owner.Row t r) = some (record { table = t .0; row = r .0 })
+
+-- the steps of what planned segment i gives
+abbrev pub dueSteps : Outline → ℕ → ℕ → Due → List Step
+dueSteps o l i due.Nothing = []
+dueSteps o l i due.Opener = opener l ∷ []
+dueSteps o l i (due.Row t r) = rowSegment l i (t .0) (r .0) ∷ []
+dueSteps o l i (due.Repeat t p) = repeatSteps o l i (t .0) (p .0)
+
+-- the row below which repeat segments stand
+abbrev pub rowAbove : Due → ℕ
+rowAbove due.Nothing = 0
+rowAbove due.Opener = 0
+rowAbove (due.Row t r) = 0
+rowAbove (due.Repeat t p) = p .0
+
+-- these steps are what is due; a table has at most 4,096 rows
+pub record Gives (o : Outline) (l i : ℕ) (xs : List Step) (x : Due) : Type 0 where
+  pub steps : xs ≡ dueSteps o l i x
+  pub few : rowAbove x < 4096

@@ -1,23 +1,25 @@
 // The walk that writes: every instance of a loop that the rows give, its segments and child loops in the order of the layout, and its closer.
 use crate::closing::close;
 use crate::own::enter_own;
-use crate::segments::segment_item;
+use crate::segments::Due;
+use crate::segments::segment_due;
 use emit::state::State;
 use emit::state::Taken;
 use instances::instances;
 use instances::next_instance;
 use plan::answers::Item;
+use repeats::write_repeats;
+use row_segment::write_row;
 use spec::ids::LoopId;
+use trigger::write_opener;
 use walk::Context;
 ghost use mathlib.Core.Path.{_≡_};
 ghost use Prim.Native.Nat.{_<_};
 ghost use lib.ListN.{length};
 ghost use Rattle.format.specs.Sections.{jobOf};
 ghost use Rattle.lent.specs.Fit.{cap};
-ghost use Rattle.plan.specs.Answers.{itemOf};
 ghost use Rattle.nest.specs.Lists.{each};
 ghost use Rattle.nest.specs.Outline.{orderOf};
-ghost use Rattle.nest.specs.OfJob.{itemIn};
 ghost use Rattle.nest.specs.Ready.{outlineAt};
 ghost use Rattle.walk.specs.Contexts.{contextBy};
 ghost use Rattle.walk.specs.Instances as I;
@@ -25,7 +27,7 @@ ghost use Rattle.walk.specs.Nested.{Nested};
 ghost use Rattle.walk.specs.Tour as T;
 ghost use Rattle.emit.specs.Fold.{stepsOut};
 ghost use Rattle.emit.specs.Did.{stateOf, Did, Small, Took};
-ghost use Rattle.run.specs.Went.{Walks, Went, itemLoop, itemCount};
+ghost use Rattle.run.specs.Went.{Walks, Went};
 
 mod closing;
 mod own;
@@ -178,72 +180,73 @@ fn items(
     let mut k: u32 = 0;
     while k < count {
         let it = plan::layout::item(job, index, l, k);
-        let v = item(
-            job,
-            index,
-            nest,
-            doc,
-            segments,
-            findings,
-            stops,
-            t,
-            l,
-            c,
-            height,
-            it,
-        );
-        let w = v.taken;
-        t = w.state;
-        written += w.written;
-        n += v.instances;
         k += 1;
-    }
-    tally(t, written, n)
-}
-
-// One item: a planned segment, or the instances of a child loop.
-fn item(
-    job: &[u8],
-    index: &[u32],
-    nest: &[u32],
-    doc: &mut [u8],
-    segments: &mut [u64],
-    findings: &mut [u64],
-    stops: &mut [u64],
-    s: State,
-    l: LoopId,
-    c: Context,
-    height: u32,
-    it: Item,
-) -> Visited
-    requires { ⌜ Walks (now job) (now index) (now nest) s (l .0) c × (itemLoop (itemIn (itemOf it)) < 32)
-        × (T.segmentsIn (T.itemSteps (T.visits (outlineAt (now job)) height) (outlineAt (now job)) (l .0) (contextBy c) (itemIn (itemOf it))) < cap) ⌝ }
-    ensures { λ r. ⌜ Went (jobOf (now (job .entry))) (T.itemSteps (T.visits (outlineAt (now (job .entry))) height) (outlineAt (now (job .entry))) (l .0) (contextBy c) (itemIn (itemOf it)))
-        (itemCount (I.instances (outlineAt (now (job .entry))) height) (contextBy c) (itemIn (itemOf it))) s r
-        (now (doc .entry)) (now (doc .exit)) (now (segments .entry)) (now (segments .exit)) (now (findings .entry)) (now (findings .exit)) (now (stops .entry)) (now (stops .exit)) ⌝ }
-{
-    match it {
-        Item::Segment(i) => {
-            let t = segment_item(job, index, nest, doc, segments, findings, stops, s, l, c, i);
-            Visited {
-                taken: t,
-                instances: 0,
+        match it {
+            Item::Segment(i) => {
+                let due = segment_due(job, index, l, i, c);
+                match due {
+                    Due::Nothing => {}
+                    Due::Opener => {
+                        t = write_opener(job, index, doc, segments, findings, t, l);
+                        written += 1;
+                    }
+                    Due::Row(u, r) => {
+                        t.counts = write_row(
+                            job,
+                            index,
+                            doc,
+                            segments,
+                            findings,
+                            t.counts,
+                            l,
+                            i,
+                            u,
+                            r,
+                        );
+                        written += 1;
+                    }
+                    Due::Repeat(u, p) => {
+                        let w = write_repeats(
+                            job,
+                            index,
+                            nest,
+                            doc,
+                            segments,
+                            findings,
+                            stops,
+                            t,
+                            l,
+                            i,
+                            u,
+                            p,
+                        );
+                        t = w.state;
+                        written += w.written;
+                    }
+                }
+            }
+            Item::Loop(m) => {
+                let v = visits(
+                    job,
+                    index,
+                    nest,
+                    doc,
+                    segments,
+                    findings,
+                    stops,
+                    t,
+                    m,
+                    c,
+                    height,
+                );
+                let w = v.taken;
+                t = w.state;
+                written += w.written;
+                n += v.instances;
             }
         }
-        Item::Loop(k) => visits(
-            job,
-            index,
-            nest,
-            doc,
-            segments,
-            findings,
-            stops,
-            s,
-            k,
-            c,
-            height,
-        ),
     }
+    tally(t, written, n)
 }
 
 // Every instance of the spec's top-level loops.

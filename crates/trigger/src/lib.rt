@@ -72,7 +72,15 @@ fn open_loop(
 {
     let number = state::number_of(s, l);
     let w = frame_of(job, index, l, opener, number);
-    let put = put_opener(job, index, doc, findings, w, s.counts.bytes, s.counts.findings);
+    let put = put_opener(
+        job,
+        index,
+        doc,
+        findings,
+        w,
+        s.counts.bytes,
+        s.counts.findings,
+    );
     let mut n = state::take_number(s, l);
     n.counts = state::finish_segment(
         segments,

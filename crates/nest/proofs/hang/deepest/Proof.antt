@@ -1,3 +1,4 @@
+-- `nest::hang::deepest` meets its contract. Assumes nothing.
 use Rattle.nest.proofs.Claiming.{loop-small, within-none, within-next, within-all}
 use Rattle.nest.specs.Keys.{Within}
 use Rattle.nest.specs.OfJob.{outlineOf}
@@ -8,12 +9,6 @@ use mathlib.Core.Path.{_∙_}
 use borrow.Author.Needs.{needs}
 use Rattle.nest.proofs.hang.deepest.Statement.{statement}
 use Rattle.nest.proofs.hang.deepest.Tie as tie
-use Rattle.nest.proofs.hang.deepest.Reads as reads
-use Rattle.nest.proofs.hang.deepest.Lts as lts
-use Rattle.nest.proofs.hang.depth_at.Reads as depth-at-reads
-use Rattle.nest.proofs.hang.greater.Reads as greater-reads
-use Rattle.spec.proofs.tables.table_loop.Reads as table-loop-reads
-use Rattle.spec.proofs.tables.table_loop_count.Reads as table-loop-count-reads
 
 abbrev Inv-loop : tie.InvT-loop
 Inv-loop job index depths t n d₀ i₀ d i = Within (outlineOf (jobOf job)) (t .0) i d × (i ≤ n)
@@ -45,7 +40,7 @@ loop-less c = search needs
 loop-again : tie.Need-loop-again Inv-loop μ-loop
 loop-again c =
     let small = loop-small _ (c .before .before .before .before .before .before .before .before .pre .0 .passed) _ _ _ _ (c .before .before .before .before .before .table-loop-count .ensures) (c .before .before .before .loop-test .taken) (c .before .before .table-loop .ensures) in
-    (within-next _ _ _ _ _ _ _ (c .before .before .before .before .loop .inv .0) (c .before .before .table-loop .ensures) (c .before .depth-at .ensures ∙ c .before .before .before .before .before .before .before .before .pre .1 .of _ small) (c .greater .ensures .0) (c .greater .ensures .1), omega arith)
+    (within-next _ _ _ _ _ _ _ (c .before .before .before .before .loop .inv .0) (c .before .before .table-loop .ensures) (c .before .depth-at .ensures ∙ c .before .before .before .before .before .before .before .before .pre .1 .of _ small) (omega (arith, c .greater .ensures)) (omega (arith, c .greater .ensures)), omega arith)
 
 returns : tie.Need-returns Inv-loop μ-loop
 returns c = within-all _ _ _ _ _ (c .before .loop .inv .0) (c .before .before .table-loop-count .ensures) (c .loop-test .left)

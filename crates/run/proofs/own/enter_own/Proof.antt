@@ -11,7 +11,7 @@ enum-known-own c = search needs
 
 enter-requires : tie.Need-enter-requires
 enter-requires c κs =
-    let k = own-known _ _ _ _ _ (c .before .before .before .before .before .before .before .before .before .before .before .pre .nested) (c .before .before .before .before .before .before .before .before .before .before .before .pre .sound) (c .before .before .before .before .before .own-row .ensures) (c .before .before .before .own .given .1) in
+    let k = own-known _ _ _ _ _ (c .before .before .before .before .before .before .before .before .before .before .before .pre .nested .ready) (c .before .before .before .before .before .before .before .before .before .before .before .pre .sound) (c .before .before .before .before .before .own-row .ensures) (c .before .before .before .own .given .1) in
     (c .before .before .before .before .before .before .before .before .before .before .before .pre .nested, c .before .before .before .before .before .before .before .before .before .before .before .pre .small, k .0, k .1)
 
 enum-told : tie.Need-enum-told
