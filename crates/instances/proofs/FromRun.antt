@@ -70,6 +70,19 @@ module _ (o : Outline) (cur : Cursor) where
     unfolding fromRun
     from-nowhere z = rw (later, sym e ∙ q, found-none ((contextBy (cur .context)) .row (cur .table .0)) f h z)
 
+  -- what holds of the cursor wherever it stands still does
+  pub from-run-keeps : (P : Cursor → Type 0) → P cur → ((seen k : ℕ) → P (moved cur seen k)) → P (fromRun o cur)
+  unfolding fromRun
+  from-run-keeps P p q = go (eqb (startOf cur) 0 || is (tableParent o (cur .table .0)) (cur .table .0))
+    where
+      found : (x : Option ℕ) → P (on x (moved cur (startOf cur)) cur)
+      found none = p
+      found (some r) = q (startOf cur) r
+
+      go : (b : Bool) → P (cond b cur (on ((contextBy (cur .context)) .row (cur .table .0)) (moved cur (startOf cur)) cur))
+      go true = p
+      go false = found ((contextBy (cur .context)) .row (cur .table .0))
+
 -- ---- a part of those that pass, looked for from the row where it starts
 
 keep-parts : (p : ℕ → Bool) (m n b : ℕ) → keep p (from b (n + m)) ≡ keep p (from b m) ++ keep p (from (b + m) n)

@@ -52,7 +52,8 @@ use Rattle.instances.specs.declared.Cursor.{Cursor}
 use Rattle.instances.specs.Cursor.{passes, leftAt, left, piecesAt, runs, coming, Going, rowless, rowsFrom, fromRun, aboveIn, isImplied, shownIn, Lists, OfLoop}
 use Rattle.instances.proofs.RowsLeft.{passes-all, passes-held}
 use Rattle.instances.proofs.Cursors.{coming-none, coming-one, coming-rows, coming-runs, going-rowless}
-use Rattle.instances.proofs.FromRun.{from-run-same}
+use Rattle.instances.specs.Stretch.{Same}
+use Rattle.instances.proofs.FromRun.{from-run-same, from-run-keeps}
 
 -- ---- whether a table is plain
 
@@ -237,6 +238,16 @@ module _ {b idx n : List ℕ} (N : Nested b idx n) (kind : ℕ) (l : LoopId) (t 
 
         runs-are : runs o n (it above) ≡ piecesOf (o .sameGroup (l .0)) (rowsIn o (t .0) (contextBy c))
         runs-are = ap (piecesAt (o .sameGroup (l .0)) (0 - startBy c (t .0))) all-left ∙ from-start (rowsIn o (t .0) (contextBy c))
+
+  pub lists-same : (cur r : Cursor) → Lists o n kind (l .0) (t .0) (contextBy c) cur → Same o n cur r → Lists o n kind (l .0) (t .0) (contextBy c) r
+  lists-same cur r w same = record { each-row = λ z. same .coming ∙ w .each-row z; each-run = λ z. same .coming ∙ w .each-run z; going = same .going }
+
+  -- a cursor of the table's rows starts where they do
+  pub rows-base : (above : ℕ) (all r : Cursor) → all ≡ it above → r ≡ fromRun o all → r .base ≡ T.rowsBefore (jobOf b .tables) (r .table .0)
+  rows-base above all r q₀ q₁ = subst starts (sym (q₁ ∙ ap (fromRun o) q₀)) (from-run-keeps o (it above) starts refl (λ seen k. refl))
+    where
+      starts : Cursor → Type 0
+      starts d = d .base ≡ T.rowsBefore (jobOf b .tables) (d .table .0)
 
   lists-empty : (r : Cursor) → Sound o (contextBy c) → l .0 < 32 → r ≡ rowless 0 l c → rowsIn o (t .0) (contextBy c) ≡ [] → Lists o n kind (l .0) (t .0) (contextBy c) r
   lists-empty r s h q e =

@@ -16,6 +16,7 @@ ghost use Rattle.walk.specs.Contexts.{contextBy};
 ghost use Rattle.instances.specs.Cursor.{rowless, rowsFrom, fromRun, aboveIn, isImplied, shownIn, Lists, OfLoop};
 use crate::Cursor;
 use crate::rows::moved;
+use crate::stretch::narrowed;
 use due::shown;
 use nest::Found;
 use plan::answers::Instances;
@@ -197,7 +198,8 @@ fn listed(
         match above {
             Number::Is(a) => {
                 let all = all_rows(job, index, kind, l, t, c, a);
-                return from_run(job, index, all);
+                let run = from_run(job, index, all);
+                return narrowed(job, index, nest, run);
             }
             Number::None => {
                 return no_instance(l, c);

@@ -22,6 +22,7 @@ use walk::Context;
 mod kinds;
 mod pieces;
 mod rows;
+mod stretch;
 
 // The instances still to come of loop l in a context. Kind 0: none; 1: one, in the context itself; 2: one in each row that is left of the table;
 // 3: one in each run of those. Left are the rows from `next` on, below `rows`, that hang on the row `above` less one, or all where it is 0, as far as

@@ -19,3 +19,4 @@ pub mod Placing
 pub mod Stored
 pub mod Lacking
 pub mod Rising
+pub mod RisingRows

@@ -81,6 +81,19 @@ keep-alike p q k n e = go (n - k) k (omega arith)
     go zero a h = refl
     go (suc m) a h = ap₂ (λ b r. cond b (a ∷ r) r) (e a (omega arith)) (go m (suc a) (omega arith))
 
+-- numbers that don't pass, before and behind
+pub keep-skip : (p : ℕ → Bool) (n m a : ℕ) → a + m ≤ n → ((r : ℕ) → a ≤ r → r < a + m → p r ≡ false) → keep p (upTo a n) ≡ keep p (upTo (a + m) n)
+keep-skip p n zero a h f = let z : a ≡ a + 0 = omega arith in ap (λ k. keep p (upTo k n)) z
+keep-skip p n (suc m) a h f =
+    let z : a + 1 + m ≡ a + suc m = omega arith in
+    keep-no p a n (omega arith) (f a (omega arith) (omega arith)) ∙ keep-skip p n m (a + 1) (omega arith) (λ r q s. f r (omega arith) (omega arith)) ∙ ap (λ k. keep p (upTo k n)) z
+
+pub keep-cut : (p : ℕ → Bool) (a k m : ℕ) → a ≤ k → ((r : ℕ) → k ≤ r → r < k + m → p r ≡ false) → keep p (upTo a (k + m)) ≡ keep p (upTo a k)
+keep-cut p a k zero h f = let z : k + 0 ≡ k = omega arith in ap (λ b. keep p (upTo a b)) z
+keep-cut p a k (suc m) h f =
+    let z : k + suc m ≡ k + m + 1 = omega arith in
+    ap (λ b. keep p (upTo a b)) z ∙ keep-same p a (k + m) (omega arith) (f (k + m) (omega arith) (omega arith)) ∙ keep-cut p a k m h (λ r q s. f r q (omega arith))
+
 -- the first that passes
 pub first-here : (p : ℕ → Bool) (k n : ℕ) → k < n → p k ≡ true → first (keep p (upTo k n)) ≡ some k
 first-here p k n h e = ap first (keep-yes p k n h e)

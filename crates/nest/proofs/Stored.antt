@@ -93,7 +93,7 @@ module _ (j : Job) (n : List ℕ) (w : ArrayIs (outlineOf j) n) (t r base : ℕ)
   pub numbers-within : rowsOfAll (j .tables) ≤ 4096 → (base + r) * 3 + 2 < length n
   numbers-within few = omega (arith, room-for j t r ((A.dataOf j t) .rows) base few e refl (rw (← rows-is j t) h), w .room)
 
-  number-of : (i : ℕ) → i < 3 → nestAt n base r i ≡ getD (nestRecord (outlineOf j) t r) i 0
+  pub number-of : (i : ℕ) → i < 3 → nestAt n base r i ≡ getD (nestRecord (outlineOf j) t r) i 0
   number-of i k = rw (e ∙ before-is j t) (number-in (outlineOf j) n w t r i h k)
 
   abbrev Above : Option Row → Type 0

@@ -8,3 +8,4 @@ pub mod OfJob
 pub mod Ready
 pub mod Claims
 pub mod Keys
+pub mod Rising

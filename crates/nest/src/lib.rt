@@ -21,6 +21,7 @@ use spec::ids::TableId;
 pub mod duplicates;
 pub mod hang;
 pub mod keys;
+pub mod order;
 pub mod report;
 pub mod rows;
 

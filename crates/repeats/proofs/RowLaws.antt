@@ -1,6 +1,6 @@
 -- The rows of a repeat table that go into an instance, as code finds them one after the other.
 use Prim.Native.Nat.{ℕ, zero, suc, _+_, _-_, _≤_, _<_, max}
-use mathlib.Core.Path.{_≡_, refl, sym, ap, _∙_}
+use mathlib.Core.Path.{_≡_, refl, sym, ap, ap₂, subst, _∙_}
 use mathlib.Core.Bool.{Bool, true, false, cond}
 use mathlib.Core.List.{List, [], _∷_}
 use mathlib.Core.Option.{none, some, Option·none-ne-some}
@@ -8,7 +8,7 @@ use native.Mathlib.Omega.{arith}
 use native.Mathlib.Decide.{decLt}
 use native.Mathlib.Numerals.{add-one}
 use lib.ListN.{length, getD, List·getD-eq-default}
-use borrow.Author.Tests.{ltb-false}
+use borrow.Author.Tests.{ltb-false, ne-eqb}
 use Rattle.codec.specs.Limits.{anyOf, none-of, none-in}
 use Rattle.format.specs.Job.{Job}
 use Rattle.format.specs.Sections.{jobOf}
@@ -22,10 +22,11 @@ use Rattle.nest.specs.declared.Found.the-variants.{Row, Nothing}
 use Rattle.nest.specs.Lists.{keep, first, from, upTo}
 use Rattle.nest.specs.Outline.{Outline, rowCount, repeated}
 use Rattle.nest.specs.Nest.{hooked, repeatRows}
-use Rattle.nest.specs.Found.{foundBy, hookedAt}
+use Rattle.nest.specs.Found.{foundBy, nestAt, heldAt, hookedAt}
+use Rattle.nest.specs.Rising.{Climbs, Parted}
 use Rattle.nest.specs.Ready.{Ready, outlineAt}
 use Rattle.nest.specs.OfJob.{outlineOf}
-use Rattle.nest.proofs.Scan.{keep-alike, keep-none, upTo-all}
+use Rattle.nest.proofs.Scan.{keep-alike, keep-none, keep-skip, keep-cut, upTo-all}
 use Rattle.nest.proofs.Bridge.{rows-is, data-count-is}
 use Rattle.nest.proofs.NestLaws.{rowsBefore, before-none, before-next, hook-plain}
 use Rattle.nest.proofs.Sizes.{rows-past}
@@ -33,10 +34,10 @@ use Rattle.nest.proofs.Reports.{found-row, found-none}
 use Rattle.nest.proofs.Placing.{repeats-is, before-all, table-length, table-next, rows-room}
 use Rattle.walk.specs.Nested.{Nested}
 use Rattle.walk.proofs.RowLaws.{repeat-all}
-use Rattle.walk.proofs.NestedLaws.{lent-hooked}
+use Rattle.walk.proofs.NestedLaws.{lent-hooked, lent-climbs}
 use Rattle.due.proofs.Bridge.{capacity-is}
 use Rattle.repeats.specs.declared.Table.{Table}
-use Rattle.repeats.specs.Added.{TableIs}
+use Rattle.repeats.specs.Added.{TableIs, PartIs}
 
 -- ---- the first of the rows from k on, and those behind it
 
@@ -110,13 +111,42 @@ there o t r h = go (decLt t (length (o .rowCounts)))
 pub table-small : {b idx : List ℕ} → Ready b idx → (t r : ℕ) → r < rowCount (outlineAt b) t → t < 16
 table-small {b} R t r h = omega (arith, there (outlineAt b) t r h, data-count-is (jobOf b), R .tables .few)
 
-pub rows-hooked : {b idx n : List ℕ} → Nested b idx n → (l p : ℕ) (w : Table) → TableIs b w → repeated (outlineAt b) (w .t .0) ≡ true
-    → repeatRows (outlineAt b) (w .t .0) l p ≡ keep (hookedAt n (w .base) l p) (upTo 0 (w .rows))
-rows-hooked {b} {idx} {n} N l p w W e =
-    let o = outlineAt b in
-    let base : w .base ≡ rowsBefore o (w .t .0) = W .base ∙ before-is (jobOf b) (w .t .0) in
-    repeat-all o (w .t .0) l p
-    ∙ sym (rw (base, W .rows) (keep-alike _ _ 0 (rowCount o (w .t .0)) (λ r h. lent-hooked N (w .t .0) r l p (there o (w .t .0) r h) h e)))
+module _ {b idx n : List ℕ} (N : Nested b idx n) (t p : ℕ) (w : Table) (e : w .t .0 ≡ t) (W : TableIs b w) (q : w .rows ≡ rowCount (outlineAt b) t) (again : repeated (outlineAt b) t ≡ true) where
+  abbrev o : Outline
+  o = outlineAt b
+
+  base-is : w .base ≡ rowsBefore o t
+  base-is = W .base ∙ before-is (jobOf b) (w .t .0) ∙ ap (rowsBefore o) e
+
+  rows-hooked : (l : ℕ) → repeatRows o t l p ≡ keep (hookedAt n (w .base) l p) (upTo 0 (w .rows))
+  rows-hooked l = repeat-all o t l p ∙ sym (rw (base-is, q) (keep-alike _ _ 0 (rowCount o t) (λ r h. lent-hooked N t r l p (there o t r h) h again)))
+
+  -- all rows
+  pub part-all : (l : ℕ) → PartIs b n t l p (record { table = w; from = 0 })
+  part-all l = record { is = W; table = e; same = rows-hooked l }
+
+  -- those that hang on row p, where the rows climb
+  pub part-climbs : getD n (12288 + t) 0 ≡ 1 → Climbs n (w .base) (w .rows)
+  part-climbs f = subst (λ (x : ℕ). Climbs n x (w .rows)) (sym base-is) (lent-climbs N t (w .rows) f (omega (arith, q)))
+
+  module _ (low high : ℕ) (first : Parted n (w .base) 0 (w .rows) (p + 1) low) (second : Parted n (w .base) low (w .rows) (p + 2) high) where
+    not-hooked : (l r : ℕ) → (nestAt n (w .base) r 0 ≡ p + 1 → ⊥) → hookedAt n (w .base) l p r ≡ false
+    unfolding hookedAt heldAt
+    not-hooked l r d = rw (ne-eqb (nestAt n (w .base) r 0) (p + 1) d)
+
+    pub part-narrow : (l : ℕ) → PartIs b n t l p (record { table = record { t = w .t; base = w .base; rows = high; room = w .room }; from = low })
+    part-narrow l =
+        let a : 0 + low ≡ low = omega arith in
+        let z : high + (w .rows - high) ≡ w .rows = omega (arith, second .within) in
+        record {
+          is = record { base = W .base; rows = omega (arith, W .rows, second .within); within = omega (arith, W .within, second .within); room = W .room; few = W .few };
+          table = e;
+          same =
+              rows-hooked l
+              ∙ keep-skip (hookedAt n (w .base) l p) (w .rows) low 0 (omega (arith, first .within)) (λ r x y. not-hooked l r (λ v. absurd (omega (arith, v, first .below r x (omega (arith, y))))))
+              ∙ ap₂ (λ x y. keep (hookedAt n (w .base) l p) (upTo x y)) a (sym z)
+              ∙ keep-cut (hookedAt n (w .base) l p) low high (w .rows - high) (second .after) (λ r x y. not-hooked l r (λ v. absurd (omega (arith, v, second .rest r x (omega (arith, y, z))))));
+        }
 
 -- a table without repeat segments has no such rows
 pub rows-plain : (j : Job) (t l p : ℕ) (x : Bool) → x ≡ (A.tableOf j t) .segment → x ≡ false → repeatRows (outlineOf j) t l p ≡ []
@@ -154,7 +184,7 @@ table-is {b} R w e h c =
     let q : w .rows ≡ (A.dataOf (jobOf b) (w .t .0)) .rows = h in
     record {
       base = e;
-      rows = q ∙ sym (rows-is (jobOf b) (w .t .0));
+      rows = omega (arith, q, rows-is (jobOf b) (w .t .0));
       within = omega (arith, e, h, rows-room (jobOf b .tables) (w .t .0), R .tables .few-rows);
       room = c .0;
       few = c .1;

@@ -13,7 +13,6 @@ use Rattle.lent.proofs.Laws.{stored-length}
 use Rattle.format.specs.Job.{Job}
 use Rattle.format.specs.Sections.{jobOf}
 use Rattle.nest.specs.Lists.{keep, upTo}
-use Rattle.nest.specs.Outline.{repeated}
 use Rattle.nest.specs.Nest.{repeatRows}
 use Rattle.nest.specs.Found.{hookedAt}
 use Rattle.nest.specs.Ready.{outlineAt}
@@ -27,11 +26,12 @@ use Rattle.emit.specs.Did.{stateOf, Did, Fit, Small, Took}
 use Rattle.emit.proofs.DidLaws.{did-nothing, did-small}
 use Rattle.emit.proofs.TookLaws.{steps-none, did-steps, took-none}
 use Rattle.repeats.specs.declared.Table.{Table}
+use Rattle.repeats.specs.declared.Part.{Part}
 use Rattle.repeats.specs.declared.Chunk.{Chunk}
 use Rattle.repeats.specs.Going.{rowAdds, countThen, going}
-use Rattle.repeats.specs.Added.{TableIs, Holds, Added, left}
+use Rattle.repeats.specs.Added.{TableIs, PartIs, Holds, Added, left}
 use Rattle.repeats.proofs.GoingLaws.{going-next, going-end, repeat-rows, repeat-none}
-use Rattle.repeats.proofs.RowLaws.{Next, rows-hooked}
+use Rattle.repeats.proofs.RowLaws.{Next}
 
 -- since the chunk c₀ and row k₀ the lists went from a₀, d₀ and so on to a, d
 pub record SoFar (b n : List ℕ) (l i : ℕ) (w : Table) (p : ℕ) (c₀ c : Chunk) (k₀ k : ℕ) (a₀ a d₀ d g₀ g f₀ f p₀ p₁ : List ℕ) : Type 0 where
@@ -143,18 +143,18 @@ pub took-nothing : (b n idx : List ℕ) (N : Nested b idx n) (l i t p : ℕ) (s 
     → Took (jobOf b) (repeatSteps (outlineAt b) l i t p) s (record { state = s; written = 0 }) d d g g f f q q
 took-nothing b n idx N l i t p s h e = rw (repeat-none (outlineAt b) l i t p e) (took-none (jobOf b) s h)
 
-module _ {b idx n : List ℕ} (N : Nested b idx n) (l i t p : ℕ) (w : Table) (W : TableIs b w) (e : w .t .0 ≡ t) (again : repeated (outlineAt b) t ≡ true) where
-  rows-are : repeatRows (outlineAt b) t l p ≡ keep (hookedAt n (w .base) l p) (upTo 0 (w .rows))
-  rows-are = rw (← e) (rows-hooked N l p w W (rw e again))
+module _ {b n : List ℕ} (l i t p : ℕ) (part : Part) (P : PartIs b n t l p part) where
+  abbrev w : Table
+  w = part .table
 
-  pub hooked-none : keep (hookedAt n (w .base) l p) (upTo 0 (w .rows)) ≡ [] → repeatRows (outlineAt b) t l p ≡ []
-  hooked-none q = rows-are ∙ q
+  pub hooked-none : keep (hookedAt n (w .base) l p) (upTo (part .from) (w .rows)) ≡ [] → repeatRows (outlineAt b) t l p ≡ []
+  hooked-none q = P .same ∙ q
 
-  pub hooked-first : (r : ℕ) → Next (hookedAt n (w .base) l p) 0 (w .rows) r
+  pub hooked-first : (r : ℕ) → Next (hookedAt n (w .base) l p) (part .from) (w .rows) r
       → repeatSteps (outlineAt b) l i t p ≡ (stop l (w .t .0) r ∷ fill l i (w .t .0) 0 r ∷ []) ++ going (outlineAt b .sameChunk l i) (w .room) l i (w .t .0) r (r ∷ []) 1 (keep (hookedAt n (w .base) l p) (upTo (r + 1) (w .rows)))
-  hooked-first r x = rw e (repeat-rows (outlineAt b) l i t p (w .room) r _ (rw (← e) (W .room)) (rows-are ∙ x .rest))
+  hooked-first r x = rw (P .table) (repeat-rows (outlineAt b) l i t p (w .room) r _ (rw (← (P .table)) (P .is .room)) (P .same ∙ x .rest))
 
-  pub hooked-few : (r : ℕ) → Next (hookedAt n (w .base) l p) 0 (w .rows) r → segmentsIn (repeatSteps (outlineAt b) l i t p) < cap
+  pub hooked-few : (r : ℕ) → Next (hookedAt n (w .base) l p) (part .from) (w .rows) r → segmentsIn (repeatSteps (outlineAt b) l i t p) < cap
       → segmentsIn (going (outlineAt b .sameChunk l i) (w .room) l i (w .t .0) r (r ∷ []) 1 (keep (hookedAt n (w .base) l p) (upTo (r + 1) (w .rows)))) < cap
   hooked-few r x h =
       omega (
@@ -164,7 +164,7 @@ module _ {b idx n : List ℕ} (N : Nested b idx n) (l i t p : ℕ) (w : Table) (
         segments-append (stop l (w .t .0) r ∷ fill l i (w .t .0) 0 r ∷ []) (going (outlineAt b .sameChunk l i) (w .room) l i (w .t .0) r (r ∷ []) 1 (keep (hookedAt n (w .base) l p) (upTo (r + 1) (w .rows)))),
       )
 
-  pub took-hooked : (r : ℕ) {s : State} {u : Taken} {d d₁ g g₁ f f₁ q q₁ : List ℕ} → Next (hookedAt n (w .base) l p) 0 (w .rows) r
+  pub took-hooked : (r : ℕ) {s : State} {u : Taken} {d d₁ g g₁ f f₁ q q₁ : List ℕ} → Next (hookedAt n (w .base) l p) (part .from) (w .rows) r
       → Took (jobOf b) ((stop l (w .t .0) r ∷ fill l i (w .t .0) 0 r ∷ []) ++ going (outlineAt b .sameChunk l i) (w .room) l i (w .t .0) r (r ∷ []) 1 (keep (hookedAt n (w .base) l p) (upTo (r + 1) (w .rows)))) s u d d₁ g g₁ f f₁ q q₁
       → Took (jobOf b) (repeatSteps (outlineAt b) l i t p) s u d d₁ g g₁ f f₁ q q₁
   took-hooked r x h = rw (hooked-first r x) h

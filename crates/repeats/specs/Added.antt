@@ -10,21 +10,29 @@ use Rattle.tables.specs.Parts.{rowsBefore}
 use Rattle.nest.specs.Lists.{keep, upTo}
 use Rattle.nest.specs.Found.{hookedAt}
 use Rattle.nest.specs.Outline.{rowCount}
+use Rattle.nest.specs.Nest.{repeatRows}
 use Rattle.nest.specs.Ready.{outlineAt}
 use Rattle.walk.specs.Tour.{Step, segmentsIn}
 use Rattle.emit.specs.Fold.{stepsOut}
 use Rattle.emit.specs.Did.{stateOf, Did}
 use Rattle.repeats.specs.declared.Table.{Table}
+use Rattle.repeats.specs.declared.Part.{Part}
 use Rattle.repeats.specs.declared.Chunk.{Chunk}
 use Rattle.repeats.specs.Going.{going, rowAdds, headThen, rowsThen, countThen}
 
--- where the rows of a table stand among all, how many it has, and how many go into a segment
+-- where the rows of a table stand among all, that no more are gone through than it has, and how many go into a segment
 pub record TableIs (b : List ℕ) (w : Table) : Type 0 where
   pub base : w .base ≡ rowsBefore (jobOf b .tables) (w .t .0)
-  pub rows : w .rows ≡ rowCount (outlineAt b) (w .t .0)
+  pub rows : w .rows ≤ rowCount (outlineAt b) (w .t .0)
   pub within : w .base + w .rows ≤ 4096
   pub room : w .room ≡ max 1 (outlineAt b .capacity (w .t .0))
   pub few : w .room < 256
+
+-- a part of table t that has all rows that go into the instance of loop l that row p opens
+pub record PartIs (b n : List ℕ) (t l p : ℕ) (r : Part) : Type 0 where
+  pub is : TableIs b (r .table)
+  pub table : r .table .t .0 ≡ t
+  pub same : repeatRows (outlineAt b) t l p ≡ keep (hookedAt n (r .table .base) l p) (upTo (r .from) (r .table .rows))
 
 -- a chunk has a row, no more than go into it, and its rows stand in a list that has room for them
 pub record Holds (w : Table) (c : Chunk) (rows : List ℕ) : Type 0 where

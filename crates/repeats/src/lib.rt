@@ -16,22 +16,29 @@ ghost use Rattle.walk.specs.Tour.{stop, fill, chunk, segmentsIn, repeatSteps};
 ghost use Rattle.emit.specs.Fold.{stepsOut};
 ghost use Rattle.emit.specs.Did.{stateOf, Did, Small, Took};
 ghost use Rattle.repeats.specs.Going.{going};
-ghost use Rattle.repeats.specs.Added.{TableIs, Holds, Added, left};
+ghost use Rattle.repeats.specs.Added.{TableIs, PartIs, Holds, Added, left};
 use emit::state::State;
 use emit::state::Taken;
 use nest::Found;
+use nest::order::first_at;
 use repeat_segment::fill_row;
 use repeat_segment::write_chunk;
 use spec::ids::LoopId;
 use spec::ids::RowId;
 use spec::ids::TableId;
 
-// A repeat table: where its rows stand among all, how many it has, and how many go into a segment.
+// A repeat table: where its rows stand among all, up to which of them they are gone through, and how many go into a segment.
 pub struct Table {
     pub t: TableId,
     pub base: usize,
     pub rows: usize,
     pub room: u32,
+}
+
+// A table with fewer rows, and the first of them to be looked at.
+pub struct Part {
+    pub table: Table,
+    pub from: usize,
 }
 
 // A chunk that rows are still added to: the state, how many segments stand before it, its first row, and how many rows it has.
@@ -56,7 +63,7 @@ fn room_of(job: &[u8], index: &[u32], t: TableId) -> u32
 
 fn table_of(job: &[u8], index: &[u32], t: TableId) -> Table
     requires { ⌜ Ready (now job) (now index) ⌝ }
-    ensures { λ w. ⌜ (w .t .0 ≡ t .0) × TableIs (now (job .entry)) w ⌝ }
+    ensures { λ w. ⌜ (w .t .0 ≡ t .0) × TableIs (now (job .entry)) w × (w .rows ≡ rowCount (outlineAt (now (job .entry))) (t .0)) ⌝ }
 {
     let base = tables::data::first_row(job, index, t);
     let rows = tables::data::row_count(job, index, t);
@@ -67,6 +74,27 @@ fn table_of(job: &[u8], index: &[u32], t: TableId) -> Table
         rows: rows as usize,
         room: room,
     }
+}
+
+// The rows of table t that may go into an instance that row p opens: where the rows hang on rising rows, those that hang on p.
+fn part_of(job: &[u8], index: &[u32], nest: &[u32], t: TableId, p: RowId) -> Part
+    requires { ⌜ Nested (now job) (now index) (now nest) × (p .0 < 4096) × (repeated (outlineAt (now job)) (t .0) ≡ true) ⌝ }
+    ensures { λ r. ⌜ ((l : ℕ) → PartIs (now (job .entry)) (now (nest .entry)) (t .0) l (p .0) r) ⌝ }
+{
+    let mut w = table_of(job, index, t);
+    let i = 12288 + t.0 as usize;
+    if i < nest.len() {
+        if nest[i] == 1 {
+            let low = first_at(nest, w.base, 0, w.rows, p.0 + 1);
+            let high = first_at(nest, w.base, low, w.rows, p.0 + 2);
+            w.rows = high;
+            return Part {
+                table: w,
+                from: low,
+            };
+        }
+    }
+    Part { table: w, from: 0 }
 }
 
 // Whether row r joins a chunk of so many rows: there is room, and it agrees with the first.
@@ -394,8 +422,9 @@ fn write_hooked(
     ensures { λ n. ⌜ Took (jobOf (now (job .entry))) (repeatSteps (outlineAt (now (job .entry))) (l .0) i (t .0) (p .0)) s n
         (now (doc .entry)) (now (doc .exit)) (now (segments .entry)) (now (segments .exit)) (now (findings .entry)) (now (findings .exit)) (now (stops .entry)) (now (stops .exit)) ⌝ }
 {
-    let w = table_of(job, index, t);
-    let f = nest::next_hooked(nest, w.base, w.rows, 0, l, p);
+    let part = part_of(job, index, nest, t, p);
+    let w = part.table;
+    let f = nest::next_hooked(nest, w.base, w.rows, part.from, l, p);
     match f {
         Found::Nothing => Taken {
             state: s,

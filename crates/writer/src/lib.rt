@@ -24,6 +24,7 @@ use emit::state::State;
 use index::fill_index;
 use nest::duplicates::all_duplicates;
 use nest::keys::all_keys;
+use nest::order::mark_rising;
 use nest::report::all_findings;
 use nest::rows::nest_rows;
 use refusal::Checked;
@@ -208,8 +209,9 @@ fn passed(
 {
     let mut index = [0u32; 10752];
     fill_index(job, &mut index);
-    let mut nest = [0u32; 12288];
+    let mut nest = [0u32; 12304];
     nest_rows(job, &index, &mut nest);
+    mark_rising(job, &index, &mut nest);
     nested(
         job,
         &index,

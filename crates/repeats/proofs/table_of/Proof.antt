@@ -1,4 +1,5 @@
-use mathlib.Core.Path.{refl}
+use mathlib.Core.Path.{refl, sym, _∙_}
+use Rattle.nest.proofs.Bridge.{rows-is}
 use Rattle.repeats.proofs.RowLaws.{table-is}
 use borrow.Author.Needs.{needs}
 use Rattle.repeats.proofs.table_of.Statement.{statement}
@@ -20,7 +21,7 @@ cast-t8 : tie.Need-cast-t8
 cast-t8 c = search needs
 
 returns : tie.Need-returns
-returns c = (refl, table-is (c .before .before .before .before .before .pre) _ (c .before .before .first-row .ensures) (c .before .row-count .ensures) (c .room-of .ensures))
+returns c = (refl, table-is (c .before .before .before .before .before .pre) _ (c .before .before .first-row .ensures) (c .before .row-count .ensures) (c .room-of .ensures), c .before .row-count .ensures ∙ sym (rows-is _ _))
 
 pub table-of-spec : {M : Type 1} → statement M
 table-of-spec =

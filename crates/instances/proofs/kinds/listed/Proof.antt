@@ -1,7 +1,7 @@
 -- `instances::kinds::listed` meets its contract.
 use mathlib.Core.Path.{ap, sym, _∙_}
 use Rattle.spec.specs.Answers.{numberOf}
-use Rattle.instances.proofs.Made.{lists-rows, lists-none, lists-lost}
+use Rattle.instances.proofs.Made.{lists-rows, lists-same, rows-base, lists-none, lists-lost}
 use borrow.Author.Needs.{needs}
 use Rattle.instances.proofs.kinds.listed.Statement.{statement}
 use Rattle.instances.proofs.kinds.listed.Tie as tie
@@ -21,8 +21,11 @@ all-rows-requires c κs = search needs
 from-run-requires : tie.Need-from-run-requires
 from-run-requires c κs = search needs
 
+narrowed-requires : tie.Need-narrowed-requires
+narrowed-requires c κs = (c .before .before .before .before .before .before .before .before .before .before .before .pre .0, (lists-rows (c .before .before .before .before .before .before .before .before .before .before .before .pre .0) _ _ _ _ _ (sym (c .before .before .before .before .before .before .before .is-plain .ensures) ∙ c .before .before .before .before .before .before .if1 .taken) (sym (ap numberOf (c .before .before .before .above .given .1)) ∙ c .before .before .before .before .before .above-in .ensures) _ _ (c .before .before .before .before .before .before .before .before .before .before .before .pre .1) (c .before .before .before .before .before .before .before .before .before .before .before .pre .2) (c .before .all-rows .ensures) (c .from-run .ensures)) .going, rows-base (c .before .before .before .before .before .before .before .before .before .before .before .pre .0) _ _ _ _ _ _ _ (c .before .all-rows .ensures) (c .from-run .ensures))
+
 returns : tie.Need-returns
-returns c = lists-rows (c .before .before .before .before .before .before .before .before .before .before .before .pre .0) _ _ _ _ _ (sym (c .before .before .before .before .before .before .before .is-plain .ensures) ∙ c .before .before .before .before .before .before .if1 .taken) (sym (ap numberOf (c .before .before .before .above .given .1)) ∙ c .before .before .before .before .before .above-in .ensures) _ _ (c .before .before .before .before .before .before .before .before .before .before .before .pre .1) (c .before .before .before .before .before .before .before .before .before .before .before .pre .2) (c .before .all-rows .ensures) (c .from-run .ensures)
+returns c = lists-same (c .before .before .before .before .before .before .before .before .before .before .before .before .pre .0) _ _ _ _ _ _ (lists-rows (c .before .before .before .before .before .before .before .before .before .before .before .before .pre .0) _ _ _ _ _ (sym (c .before .before .before .before .before .before .before .before .is-plain .ensures) ∙ c .before .before .before .before .before .before .before .if1 .taken) (sym (ap numberOf (c .before .before .before .before .above .given .1)) ∙ c .before .before .before .before .before .before .above-in .ensures) _ _ (c .before .before .before .before .before .before .before .before .before .before .before .before .pre .1) (c .before .before .before .before .before .before .before .before .before .before .before .before .pre .2) (c .before .before .all-rows .ensures) (c .before .from-run .ensures)) (c .narrowed .ensures)
 
 enum-told : tie.Need-enum-told
 enum-told c = search needs
@@ -48,6 +51,7 @@ listed-spec =
     enum-known-above
     all-rows-requires
     from-run-requires
+    narrowed-requires
     returns
     enum-told
     no-instance-requires
