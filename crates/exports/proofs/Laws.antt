@@ -1,10 +1,9 @@
 -- How long nest's array is, and the two ways of `baktuven_nest`.
-use Prim.Native.Nat.{ℕ, zero, suc, _+_, _*_, _-_, _≤_, _<_}
+use Prim.Native.Nat.{ℕ, _+_, _*_, _-_, _≤_, _<_}
 use mathlib.Core.Path.{_≡_, refl, sym, ap, _∙_}
-use mathlib.Core.List.{List, [], _∷_}
-use mathlib.Core.Bool.{Bool, true, false}
+use mathlib.Core.List.{List}
+use mathlib.Core.Bool.{false}
 use native.Mathlib.Omega.{arith}
-use native.Mathlib.Numerals.{add-one}
 use lib.ListN.{length, take, drop, getD, set}
 use lib.Dec.{eqb}
 use lib.Seq.{sets, sets-eq, take-at}
@@ -16,28 +15,18 @@ use Rattle.tables.specs.Parts as T
 use Rattle.nest.specs.Nest.{nestArray}
 use Rattle.nest.specs.OfJob.{outlineOf}
 use Rattle.nest.specs.Ready.{outlineAt}
-use Rattle.nest.proofs.NestLaws.{rowsBefore, before-none, before-next, array-length}
-use Rattle.nest.proofs.Bridge.{rows-is, data-count-is}
-use Rattle.nest.proofs.Placing.{before-all, rows-room, table-length, table-next}
+use Rattle.nest.proofs.NestLaws.{rowsBefore, array-length}
+use Rattle.nest.proofs.Bridge.{data-count-is}
+use Rattle.nest.proofs.Placing.{rows-room}
+use Rattle.nest.proofs.Stored.{before-is}
 use Rattle.exports.specs.Nesting.{nestLent}
-
--- the rows before a table, by the job and by its outline
-before-is : (j : Job) (t : ℕ) → rowsBefore (outlineOf j) t ≡ T.rowsBefore (j .tables) t
-before-is j zero = before-none (outlineOf j) ∙ sym (before-all (j .tables))
-before-is j (suc t) =
-    let q = before-next (outlineOf j) t in
-    let p = table-next j t in
-    let l = table-length j t in
-    let r = rows-is j t in
-    let i = before-is j t in
-    rw (← add-one t) (omega (arith, q, p, l, r, i))
 
 -- three numbers a row, and few rows
 pub array-long : (j : Job) (n m : ℕ) → rowsOfAll (j .tables) ≤ 4096 → n ≡ length (j .tables) → m ≡ T.rowsBefore (j .tables) n → (m * 3 ≡ length (nestArray (outlineOf j))) × (m * 3 ≤ 12288)
 array-long j n m h e q =
     let l = array-length (outlineOf j) in
     let c : length (outlineOf j .rowCounts) ≡ n = data-count-is j ∙ sym e in
-    let b = ap (rowsBefore (outlineOf j)) c ∙ before-is j n in
+    let b = ap (rowsBefore (outlineOf j)) c ∙ sym (before-is j n) in
     (omega (arith, l, b, q), omega (arith, rows-room (j .tables) n, q, h))
 
 -- one number more from the front of a list to the front of another

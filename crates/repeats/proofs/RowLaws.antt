@@ -28,10 +28,10 @@ use Rattle.nest.specs.Ready.{Ready, outlineAt}
 use Rattle.nest.specs.OfJob.{outlineOf}
 use Rattle.nest.proofs.Scan.{keep-alike, keep-none, keep-skip, keep-cut, upTo-all}
 use Rattle.nest.proofs.Bridge.{rows-is, data-count-is}
-use Rattle.nest.proofs.NestLaws.{rowsBefore, before-none, before-next, hook-plain}
-use Rattle.nest.proofs.Sizes.{rows-past}
+use Rattle.nest.proofs.NestLaws.{rowsBefore, hook-plain}
+use Rattle.nest.proofs.Stored.{row-there, before-is}
 use Rattle.nest.proofs.Reports.{found-row, found-none}
-use Rattle.nest.proofs.Placing.{repeats-is, before-all, table-length, table-next, rows-room}
+use Rattle.nest.proofs.Placing.{repeats-is, rows-room}
 use Rattle.walk.specs.Nested.{Nested}
 use Rattle.walk.proofs.RowLaws.{repeat-all}
 use Rattle.walk.proofs.NestedLaws.{lent-hooked, lent-climbs}
@@ -86,30 +86,8 @@ module _ (h : ℕ → Bool) (k n : ℕ) (f : Found) (e : f ≡ foundBy (first (k
 
 -- ---- the rows of a table in nest's array
 
-before-is : (j : Job) (t : ℕ) → T.rowsBefore (j .tables) t ≡ rowsBefore (outlineOf j) t
-before-is j zero = before-all (j .tables) ∙ sym (before-none (outlineOf j))
-before-is j (suc t) =
-    omega (
-      arith,
-      ap (T.rowsBefore (j .tables)) (add-one t),
-      ap (rowsBefore (outlineOf j)) (add-one t),
-      table-next j t,
-      table-length j t,
-      rows-is j t,
-      before-next (outlineOf j) t,
-      before-is j t,
-    )
-
--- a table of which a row is there is a table of data
-there : (o : Outline) (t r : ℕ) → r < rowCount o t → t < length (o .rowCounts)
-there o t r h = go (decLt t (length (o .rowCounts)))
-  where
-    go : Dec (t < length (o .rowCounts)) → t < length (o .rowCounts)
-    go (yes k) = k
-    go (no k) = let q : rowCount o t ≡ 0 = rows-past o t (omega arith) in absurd (omega arith)
-
 pub table-small : {b idx : List ℕ} → Ready b idx → (t r : ℕ) → r < rowCount (outlineAt b) t → t < 16
-table-small {b} R t r h = omega (arith, there (outlineAt b) t r h, data-count-is (jobOf b), R .tables .few)
+table-small {b} R t r h = omega (arith, row-there (outlineAt b) t r h, data-count-is (jobOf b), R .tables .few)
 
 module _ {b idx n : List ℕ} (N : Nested b idx n) (t p : ℕ) (w : Table) (e : w .t .0 ≡ t) (W : TableIs b w) (q : w .rows ≡ rowCount (outlineAt b) t) (again : repeated (outlineAt b) t ≡ true) where
   abbrev o : Outline
@@ -119,7 +97,7 @@ module _ {b idx n : List ℕ} (N : Nested b idx n) (t p : ℕ) (w : Table) (e : 
   base-is = W .base ∙ before-is (jobOf b) (w .t .0) ∙ ap (rowsBefore o) e
 
   rows-hooked : (l : ℕ) → repeatRows o t l p ≡ keep (hookedAt n (w .base) l p) (upTo 0 (w .rows))
-  rows-hooked l = repeat-all o t l p ∙ sym (rw (base-is, q) (keep-alike _ _ 0 (rowCount o t) (λ r h. lent-hooked N t r l p (there o t r h) h again)))
+  rows-hooked l = repeat-all o t l p ∙ sym (rw (base-is, q) (keep-alike _ _ 0 (rowCount o t) (λ r h. lent-hooked N t r l p (row-there o t r h) h again)))
 
   -- all rows
   pub part-all : (l : ℕ) → PartIs b n t l p (record { table = w; from = 0 })
