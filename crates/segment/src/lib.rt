@@ -117,7 +117,8 @@ fn run_holds(n: usize, x: u8, a: u8, b: u8, c: u8, d: u8) -> bool
     one_of(x, a, b, c, d)
 }
 
-fn stretch_holds(source: &[u8], start: usize, len: usize, a: u8, b: u8, c: u8, d: u8) -> bool
+// Whether one of four bytes is in a stretch.
+pub fn stretch_holds(source: &[u8], start: usize, len: usize, a: u8, b: u8, c: u8, d: u8) -> bool
     ensures { λ r. ⌜ r ≡ holdsAny (oneOf a b c d) (stretch (now (source .entry)) start len) ⌝ }
 {
     let n = lent::stretch_len(source, start, len);
@@ -259,6 +260,32 @@ pub fn component(
     }
     let t = reach(doc, s, pen, p, c);
     let a = put_value(doc, t.at, job, v);
+    Pen {
+        at: a,
+        elements: t.elements,
+        components: t.components,
+    }
+}
+
+// A stretch of a list at component c of element p.
+pub fn part(
+    doc: &mut [u8],
+    source: &[u8],
+    s: Separators,
+    pen: Pen,
+    p: usize,
+    c: usize,
+    start: usize,
+    len: usize,
+) -> Pen
+    ensures { λ r. ⌜ Penned (placed s pen p c (stretch (now (source .entry)) start len)) (pen .at) r (now (doc .entry)) (now (doc .exit)) ⌝ }
+{
+    let n = lent::stretch_len(source, start, len);
+    if n == 0 {
+        return stay(pen);
+    }
+    let t = reach(doc, s, pen, p, c);
+    let a = lent::put_stretch(doc, t.at, source, start, len);
     Pen {
         at: a,
         elements: t.elements,
