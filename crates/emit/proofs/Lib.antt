@@ -11,3 +11,4 @@ pub mod TableLaws
 pub mod PutLaws
 pub mod Starred
 pub mod TookLaws
+pub mod Plain

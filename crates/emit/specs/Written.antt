@@ -31,6 +31,16 @@ scaleIn (Wide low high scale) = scale
 scaleIn (Days bits) = 0
 scaleIn (Seconds bits) = 0
 
+-- whether a cell's text is no stretch of the job
+abbrev pub isOwn : Read → Bool
+isOwn None = true
+isOwn Null = true
+isOwn (Bytes start len) = false
+isOwn (Int bits) = true
+isOwn (Wide low high scale) = true
+isOwn (Days bits) = true
+isOwn (Seconds bits) = true
+
 -- ---- findings on a text
 
 -- where a text comes from and where it goes, as the numbers of its findings

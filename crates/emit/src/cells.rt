@@ -14,12 +14,15 @@ use texts::render::Max;
 use texts::render::Refused;
 use texts::render::Said;
 ghost use mathlib.Core.Path.{_≡_};
+ghost use mathlib.Core.Bool.{true};
 ghost use mathlib.Core.List.{List, []};
 ghost use Prim.Native.Nat.{ℕ, _+_, _*_, _≤_};
 ghost use lib.ListN.{length};
 ghost use Rattle.format.specs.Sections.{jobOf};
 ghost use Rattle.format.specs.Ask.{maxOf};
 ghost use Rattle.lent.specs.Fit.{stretch};
+ghost use Rattle.column.specs.Cell.{orNull};
+ghost use Rattle.column.specs.Answers.{cellAt};
 ghost use Rattle.texts.specs.Held.{held};
 ghost use Rattle.texts.specs.Reason.{Outcome, reasonOf, Says, gives};
 ghost use Rattle.texts.specs.Wide.{signed64, signed128};
@@ -29,8 +32,8 @@ ghost use Rattle.texts.specs.DateText.{dateText};
 ghost use Rattle.texts.specs.Clock.{timeText};
 ghost use Rattle.spec.specs.Answers.{stretchOf, numberOf};
 ghost use Rattle.nest.specs.Ready.{Ready};
-ghost use Rattle.emit.specs.Puts.{maxIn, cellOutcome};
-ghost use Rattle.emit.specs.Written.{Writes};
+ghost use Rattle.emit.specs.Puts.{maxIn, cellText, cellOutcome};
+ghost use Rattle.emit.specs.Written.{Writes, scaleIn, isOwn};
 
 // A text, and the reason why there is none, or 0.
 pub struct Written {
@@ -73,29 +76,50 @@ fn of_stretch(start: usize, len: usize) -> Written
     Written { value, reason: 0 }
 }
 
-fn of_int(bits: u64) -> Written
-    ensures { λ r. ⌜ ((job : List ℕ) → Writes job r (gives (intText (signed64 bits)))) ⌝ }
+fn said_int(bits: u64) -> Said
+    ensures { λ r. ⌜ Says r (gives (intText (signed64 bits))) ⌝ }
 {
-    of_text(number::int_text(number::from_bits64(bits)), 0)
+    let text = number::int_text(number::from_bits64(bits));
+    Said {
+        text,
+        refused: Refused::Nothing,
+    }
 }
 
-fn of_decimal(lo: u64, hi: u64, scale: u8) -> Written
+fn said_decimal(lo: u64, hi: u64, scale: u8) -> Said
     requires { ⌜ scale ≤ 38 ⌝ }
-    ensures { λ r. ⌜ ((job : List ℕ) → Writes job r (gives (decimalText (signed128 (lo + 18446744073709551616 * hi)) scale))) ⌝ }
+    ensures { λ r. ⌜ Says r (gives (decimalText (signed128 (lo + 18446744073709551616 * hi)) scale)) ⌝ }
 {
-    of_text(number::decimal_text(Wide { lo, hi }, scale), 0)
+    let text = number::decimal_text(Wide { lo, hi }, scale);
+    Said {
+        text,
+        refused: Refused::Nothing,
+    }
 }
 
-fn of_days(bits: u32, max: Max) -> Written
-    ensures { λ r. ⌜ ((job : List ℕ) → Writes job r (dateText (signed32 bits) max)) ⌝ }
+fn said_days(bits: u32, max: Max) -> Said
+    ensures { λ r. ⌜ Says r (dateText (signed32 bits) max) ⌝ }
 {
-    of_said(render::date_text(parse::from_bits(bits), max))
+    render::date_text(parse::from_bits(bits), max)
 }
 
-fn of_seconds(bits: u32, max: Max) -> Written
-    ensures { λ r. ⌜ ((job : List ℕ) → Writes job r (timeText (signed32 bits) max)) ⌝ }
+fn said_seconds(bits: u32, max: Max) -> Said
+    ensures { λ r. ⌜ Says r (timeText (signed32 bits) max) ⌝ }
 {
-    of_said(render::time_text(parse::from_bits(bits), max))
+    render::time_text(parse::from_bits(bits), max)
+}
+
+fn said_nothing() -> Said
+    ensures { λ r. ⌜ Says r (gives []) ⌝ }
+{
+    let text = Text {
+        bytes: [0u8; 48],
+        len: 0,
+    };
+    Said {
+        text,
+        refused: Refused::Nothing,
+    }
 }
 
 // ---- at a place
@@ -117,7 +141,54 @@ fn max_at(job: &[u8], index: &[u32], id: Stretch, element: u32, component: Numbe
     max_by(spec::segments::max_of(job, index, id, element, component))
 }
 
-// The text of a row's cell at a place of the segment with that identifier, and the reason why it has none.
+// The text of a cell that is no stretch of the job, at a place, and the reason why it has none.
+pub fn own_text(
+    job: &[u8],
+    index: &[u32],
+    id: Stretch,
+    element: u32,
+    component: Number,
+    cell: Cell,
+) -> Said
+    requires { ⌜ Ready (now job) (now index) × (id .start + id .len ≤ length (now job)) × (scaleIn cell ≤ 38) ⌝ }
+    ensures { λ r. ⌜ ((b : List ℕ) → isOwn cell ≡ true
+        → Says r (cellText (orNull (cellAt b cell)) (maxIn (maxOf (jobOf (now (job .entry))) (stretchOf (now (job .entry)) id) element (numberOf component))))) ⌝ }
+{
+    match cell {
+        Cell::None => said_nothing(),
+        Cell::Null => said_nothing(),
+        Cell::Bytes(start, len) => said_nothing(),
+        Cell::Int(bits) => said_int(bits),
+        Cell::Wide(lo, hi, scale) => said_decimal(lo, hi, scale),
+        Cell::Days(bits) => said_days(bits, max_at(job, index, id, element, component)),
+        Cell::Seconds(bits) => said_seconds(bits, max_at(job, index, id, element, component)),
+    }
+}
+
+// The text of a cell that is read, at a place of the segment with that identifier, and the reason why it has none.
+pub fn read_text(
+    job: &[u8],
+    index: &[u32],
+    id: Stretch,
+    element: u32,
+    component: Number,
+    cell: Cell,
+) -> Written
+    requires { ⌜ Ready (now job) (now index) × (id .start + id .len ≤ length (now job)) × (scaleIn cell ≤ 38) ⌝ }
+    ensures { λ w. ⌜ Writes (now (job .entry)) w (cellText (orNull (cellAt (now (job .entry)) cell)) (maxIn (maxOf (jobOf (now (job .entry))) (stretchOf (now (job .entry)) id) element (numberOf component)))) ⌝ }
+{
+    match cell {
+        Cell::None => of_stretch(0, 0),
+        Cell::Null => of_stretch(0, 0),
+        Cell::Bytes(start, len) => of_stretch(start, len),
+        Cell::Int(bits) => of_said(own_text(job, index, id, element, component, cell)),
+        Cell::Wide(lo, hi, scale) => of_said(own_text(job, index, id, element, component, cell)),
+        Cell::Days(bits) => of_said(own_text(job, index, id, element, component, cell)),
+        Cell::Seconds(bits) => of_said(own_text(job, index, id, element, component, cell)),
+    }
+}
+
+// The same of a row's cell.
 pub fn cell_text(
     job: &[u8],
     index: &[u32],
@@ -132,15 +203,7 @@ pub fn cell_text(
     ensures { λ w. ⌜ Writes (now (job .entry)) w (cellOutcome (jobOf (now (job .entry))) (stretchOf (now (job .entry)) id) (t .0) (r .0) element (numberOf component) column) ⌝ }
 {
     let cell = tables::data::cell(job, index, t, column, r);
-    match cell {
-        Cell::None => of_stretch(0, 0),
-        Cell::Null => of_stretch(0, 0),
-        Cell::Bytes(start, len) => of_stretch(start, len),
-        Cell::Int(bits) => of_int(bits),
-        Cell::Wide(lo, hi, scale) => of_decimal(lo, hi, scale),
-        Cell::Days(bits) => of_days(bits, max_at(job, index, id, element, component)),
-        Cell::Seconds(bits) => of_seconds(bits, max_at(job, index, id, element, component)),
-    }
+    read_text(job, index, id, element, component, cell)
 }
 
 // The text of a code.

@@ -5,7 +5,7 @@ ghost use mathlib.Core.Path.{_≡_};
 ghost use mathlib.Core.Bool.{true, false};
 ghost use mathlib.Core.List.{List, [], _∷_, _++_};
 ghost use Prim.Native.Nat.{ℕ};
-ghost use Rattle.lent.specs.Fit.{Noted};
+ghost use Rattle.lent.specs.Fit.{stretch, Noted};
 ghost use Rattle.segment.specs.Pen.{valueText};
 ghost use Rattle.nest.specs.Finding.{Origin, Place};
 ghost use Rattle.emit.specs.Puts.{heldIn, unwritten};
@@ -126,6 +126,29 @@ fn holds_delimiter(job: &[u8], v: Value, d: Delimiters) -> bool
             segment::holds_any(job, v, d.element, d.component, d.segment, d.element)
         }
         Repetition::Byte(b) => segment::holds_any(job, v, d.element, d.component, d.segment, b),
+    }
+}
+
+// The same of a stretch of the job.
+pub fn stretch_holds(job: &[u8], start: usize, len: usize, d: Delimiters) -> bool
+    ensures { λ h. ⌜ ((o : Origin) (p : Place) → h ≡ false → heldIn o p (stretch (now (job .entry)) start len) 0 (tried d) ≡ []) ⌝ }
+{
+    let r = d.repetition;
+    match r {
+        Repetition::Absent => {
+            segment::stretch_holds(
+                job,
+                start,
+                len,
+                d.element,
+                d.component,
+                d.segment,
+                d.element,
+            )
+        }
+        Repetition::Byte(b) => {
+            segment::stretch_holds(job, start, len, d.element, d.component, d.segment, b)
+        }
     }
 }
 
