@@ -22,6 +22,7 @@ use Rattle.segment.specs.Grammar.{Without, Plain, Apart}
 use Rattle.nest.specs.Lists.{All}
 use Rattle.nest.proofs.Alls.{all-append, all-weaker}
 use Rattle.emit.specs.Fold.{separatorsOf}
+use Rattle.emit.proofs.Plain.{Textual, upper-textual, digit-textual, no-repeats, not-textual}
 use Rattle.complete.specs.Complete.{Clear, Pairs}
 use Rattle.lossless.specs.Separators.{holdsSeparator}
 use Rattle.lossless.proofs.Words.{not-false, none-all}
@@ -70,46 +71,6 @@ repeats-apart (x ∷ xs) h = go (memberOf x xs) refl h (repeats-apart xs)
     go true e h ih = absurd (false≢true (sym h))
     go false e h ih = (apart-all x xs e, ih h)
 
-none-any : (f : ℕ → Bool) (xs : List ℕ) → anyOf f xs ≡ false → All (λ x. f x ≡ false) xs
-unfolding anyOf
-none-any f [] h = tt
-none-any f (x ∷ xs) h = go (f x) refl h (none-any f xs)
-  where
-    go : (t : Bool) → f x ≡ t → pick t true (anyOf f xs) ≡ false → (anyOf f xs ≡ false → All (λ x. f x ≡ false) xs) → (f x ≡ false) × All (λ x. f x ≡ false) xs
-    go true e h ih = absurd (false≢true (sym h))
-    go false e h ih = (e, ih h)
-
--- a text of letters, digits, spaces, minus signs and points
-abbrev pub Textual : List ℕ → Type 0
-Textual = All (λ c. textual c ≡ true)
-
-upper-textual : (c : ℕ) → upper c ≡ true → textual c ≡ true
-unfolding textual any
-upper-textual c h = rw h
-
-digit-textual : (c : ℕ) → digit c ≡ true → textual c ≡ true
-unfolding textual any
-digit-textual c h = rw h (go (upper c) (between 97 122 c))
-  where
-    go : (a b : Bool) → pick a true (pick b true true) ≡ true
-    go true b = refl
-    go false true = refl
-    go false false = refl
-
-pub zeros-textual : (n : ℕ) → Textual (replicate n 48)
-unfolding textual upper digit any
-zeros-textual zero = tt
-zeros-textual (suc n) = (refl, zeros-textual n)
-
-pub spaces-textual : (n : ℕ) → Textual (replicate n 32)
-unfolding textual upper digit any
-spaces-textual zero = tt
-spaces-textual (suc n) = (refl, spaces-textual n)
-
-pub figure-textual : (d : ℕ) → d < 10 → textual (48 + d) ≡ true
-unfolding digit
-figure-textual d h = digit-textual (48 + d) (rw (le-leb 48 (48 + d) (omega arith)) (le-leb (48 + d) 57 (omega arith)))
-
 letters-textual : (xs : List ℕ) → allOf (λ c. any (upper c ∷ digit c ∷ [])) xs ≡ true → Textual xs
 unfolding allOf any
 letters-textual [] h = tt
@@ -125,30 +86,24 @@ letters-textual (x ∷ xs) h = go (upper x) refl (digit x) refl h (letters-textu
     go false e false q k ih = absurd (false≢true k)
 
 module _ (j : Job) (fit : unfit j ≡ false) where
-  marks : (repeats (separators (j .envelope)) ≡ false) × (anyOf textual (separators (j .envelope)) ≡ false)
-  unfolding unfit unfitEnvelope
-  marks =
-      let a = none-of _ _ (none-of _ _ (none-of _ _ fit .1) .0) in
-      (a .0, none-of _ _ (a .1) .0)
-
   pub apart : Apart (separatorsOf j)
   unfolding separators
   apart =
-      let p = repeats-apart (separators (j .envelope)) (marks .0) in
+      let p = repeats-apart (separators (j .envelope)) (no-repeats j fit) in
       record { element-segment = p .0 .1 .0; element-component = p .0 .0; component-segment = p .1 .0 .0 }
 
   -- the repetition separator, where there is one
   pub repetition-apart : (r : ℕ) → j .envelope .repetition ≡ some r → (r ≢ j .envelope .element) × (r ≢ j .envelope .segment)
   unfolding separators
   repetition-apart r e =
-      let p = repeats-apart (separators (j .envelope)) (marks .0) in
+      let p = repeats-apart (separators (j .envelope)) (no-repeats j fit) in
       let q = rw e at p in
       (λ z. q .0 .1 .1 .0 (sym z), λ z. q .1 .1 .0 .0 (sym z))
 
   pub textual-clear : (text : List ℕ) → Textual text → Clear j text
   unfolding separators
   textual-clear text h =
-      let m = none-any textual (separators (j .envelope)) (marks .1) in
+      let m = not-textual j fit in
       record { no-element = other _ (m .0); no-component = other _ (m .1 .0); no-segment = other _ (m .1 .1 .0) }
     where
       other : (b : ℕ) → textual b ≡ false → Without b text

@@ -18,7 +18,7 @@ use Rattle.format.specs.Refusal.{unfit}
 use Rattle.texts.specs.declared.envelope.Min.{Min}
 use Rattle.texts.specs.declared.envelope.Min.the-variants as Min
 use Rattle.texts.specs.declared.render.Max.{Max}
-use Rattle.texts.specs.Number.{figures, size, countText}
+use Rattle.texts.specs.Number.{countText}
 use Rattle.texts.specs.Floor.{signed32}
 use Rattle.texts.specs.DateText.{envelopeDate}
 use Rattle.texts.specs.Clock.{envelopeTime}
@@ -31,24 +31,16 @@ use Rattle.nest.proofs.Alls.{all-append, all-weaker}
 use Rattle.emit.specs.Puts.{maxIn, nothing, partAt, putAll}
 use Rattle.emit.specs.Envelope.{version, trimEnd, outcome, Given, plainly, separator, repetitionGiven, fieldGiven, fieldAt, Sourced, versionAt, versioned, unsourced, fielded, sourceAt, paddedTo, putSourced, putElement, controlIn, closerPut, controlNumber}
 use Rattle.emit.specs.Fold.{separatorsOf}
+use Rattle.emit.proofs.Plain.{Textual, zeros-textual, spaces-textual, count-textual}
 use Rattle.emit.proofs.JoinLaws.{count-first, control-first, apart as less}
 use Rattle.complete.specs.Complete.{IfThere, Pairs, Clear, MapStarts, RuleFits}
 use Rattle.lossless.specs.Due.{sourcedText, fieldTexts}
 use Rattle.lossless.specs.Separators.{holdsSeparator}
 use Rattle.lossless.proofs.Words.{none-all, none-append, all-get, all-zip}
-use Rattle.lossless.proofs.Marks.{held-not, clear-plain, plain-append, Textual, zeros-textual, spaces-textual, figure-textual, apart, repetition-apart, textual-clear}
+use Rattle.lossless.proofs.Marks.{held-not, clear-plain, plain-append, apart, repetition-apart, textual-clear}
 use Rattle.lossless.proofs.Fine.{NotAt, own-text, Fine}
 
 -- ---- numbers are digits
-
-figures-textual : (k n : ℕ) → Textual (figures k n)
-unfolding figures
-figures-textual zero n = tt
-figures-textual (suc k) n = (figure-textual (n / 10 ^ k % 10) (omega arith), figures-textual k n)
-
-count-textual : (n : ℕ) → Textual (countText n)
-unfolding countText
-count-textual n = figures-textual (size n) n
 
 zero-padded : (min : Min) (text : List ℕ) → Textual text → Textual (zeroPadded min text)
 unfolding zeroPadded

@@ -24,6 +24,7 @@ use Rattle.nest.specs.Lists.{All, some-of, on}
 use Rattle.nest.specs.OfJob.{outlineOf}
 use Rattle.nest.proofs.Alls.{all-append, all-weaker}
 use Rattle.walk.specs.Tour.{Step, enters, stop, opener, rowSegment, closer}
+use Rattle.emit.proofs.Plain.{Textual}
 use Rattle.emit.specs.Envelope.{controlIn, openerPut}
 use Rattle.emit.specs.Fold.{State, start, separatorsOf, stepsOut, countOf}
 use Rattle.complete.specs.Complete.{Clear, MapStarts, CompletePlan}
@@ -36,7 +37,7 @@ use Rattle.lossless.proofs.Tours.{Closed, tour-so}
 use Rattle.lossless.proofs.Found.{due-append, due-one, chunk-steps, all-found}
 use Rattle.lossless.proofs.Forest.{passed-tree}
 use Rattle.lossless.proofs.Stopped.{stops-once}
-use Rattle.lossless.proofs.Marks.{apart, trigger-clear, end-clear, Textual}
+use Rattle.lossless.proofs.Marks.{apart, trigger-clear, end-clear}
 use Rattle.lossless.proofs.Fine.{Fine, match-exactly}
 use Rattle.lossless.proofs.Rows.{row-fine}
 use Rattle.lossless.proofs.Chunks.{chunk-fine}
