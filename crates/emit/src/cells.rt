@@ -14,7 +14,7 @@ use texts::render::Max;
 use texts::render::Refused;
 use texts::render::Said;
 ghost use mathlib.Core.Path.{_≡_};
-ghost use mathlib.Core.Bool.{true};
+ghost use mathlib.Core.Bool.{true, false};
 ghost use mathlib.Core.List.{List, []};
 ghost use Prim.Native.Nat.{ℕ, _+_, _*_, _≤_};
 ghost use lib.ListN.{length};
@@ -23,6 +23,7 @@ ghost use Rattle.format.specs.Ask.{maxOf};
 ghost use Rattle.lent.specs.Fit.{stretch};
 ghost use Rattle.column.specs.Cell.{orNull};
 ghost use Rattle.column.specs.Answers.{cellAt};
+ghost use Rattle.texts.specs.declared.render.Max.{Max};
 ghost use Rattle.texts.specs.Held.{held};
 ghost use Rattle.texts.specs.Reason.{Outcome, reasonOf, Says, gives};
 ghost use Rattle.texts.specs.Wide.{signed64, signed128};
@@ -165,6 +166,48 @@ pub fn own_text(
     }
 }
 
+// Whether a cell's text is a stretch of the job, and which.
+pub struct Held {
+    pub is: bool,
+    pub start: usize,
+    pub len: usize,
+}
+
+fn held_at(start: usize, len: usize) -> Held
+    ensures { λ r. ⌜ r ≡ record { is = true; start = start; len = len } ⌝ }
+{
+    Held {
+        is: true,
+        start,
+        len,
+    }
+}
+
+fn not_held() -> Held
+    ensures { λ r. ⌜ r ≡ record { is = false; start = 0; len = 0 } ⌝ }
+{
+    Held {
+        is: false,
+        start: 0,
+        len: 0,
+    }
+}
+
+// The stretch of the job that is a cell's text; of a null it is empty.
+pub fn held_in(cell: Cell) -> Held
+    ensures { λ r. ⌜ ((b : List ℕ) (max : Max) → r .is ≡ true → cellText (orNull (cellAt b cell)) max ≡ gives (stretch b (r .start) (r .len))) × (r .is ≡ false → isOwn cell ≡ true) ⌝ }
+{
+    match cell {
+        Cell::None => held_at(0, 0),
+        Cell::Null => held_at(0, 0),
+        Cell::Bytes(start, len) => held_at(start, len),
+        Cell::Int(bits) => not_held(),
+        Cell::Wide(lo, hi, scale) => not_held(),
+        Cell::Days(bits) => not_held(),
+        Cell::Seconds(bits) => not_held(),
+    }
+}
+
 // The text of a cell that is read, at a place of the segment with that identifier, and the reason why it has none.
 pub fn read_text(
     job: &[u8],
@@ -177,15 +220,11 @@ pub fn read_text(
     requires { ⌜ Ready (now job) (now index) × (id .start + id .len ≤ length (now job)) × (scaleIn cell ≤ 38) ⌝ }
     ensures { λ w. ⌜ Writes (now (job .entry)) w (cellText (orNull (cellAt (now (job .entry)) cell)) (maxIn (maxOf (jobOf (now (job .entry))) (stretchOf (now (job .entry)) id) element (numberOf component)))) ⌝ }
 {
-    match cell {
-        Cell::None => of_stretch(0, 0),
-        Cell::Null => of_stretch(0, 0),
-        Cell::Bytes(start, len) => of_stretch(start, len),
-        Cell::Int(bits) => of_said(own_text(job, index, id, element, component, cell)),
-        Cell::Wide(lo, hi, scale) => of_said(own_text(job, index, id, element, component, cell)),
-        Cell::Days(bits) => of_said(own_text(job, index, id, element, component, cell)),
-        Cell::Seconds(bits) => of_said(own_text(job, index, id, element, component, cell)),
+    let h = held_in(cell);
+    if h.is {
+        return of_stretch(h.start, h.len);
     }
+    of_said(own_text(job, index, id, element, component, cell))
 }
 
 // The same of a row's cell.
