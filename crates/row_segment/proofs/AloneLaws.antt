@@ -9,10 +9,8 @@ use Rattle.lent.proofs.Laws.{stored-small}
 use Rattle.segment.specs.declared.Separators.{Separators}
 use Rattle.segment.specs.declared.Pen.{Pen}
 use Rattle.segment.specs.Parts.{pick, isEmpty, here, componentText}
-use Rattle.segment.specs.Pen.{valueText, placed, finished, Penned}
+use Rattle.segment.specs.Pen.{placed, finished, Penned}
 use Rattle.segment.specs.Calls.{Group, next, finish}
-use Rattle.emit.specs.declared.cells.Written.{Written}
-use Rattle.emit.specs.Written.{Writes}
 use Rattle.row_segment.specs.declared.parts.Line.{Line}
 use Rattle.row_segment.specs.declared.parts.Look.{Look}
 use Rattle.row_segment.specs.declared.notes.Tally.{Tally}
@@ -35,19 +33,22 @@ one-group s pen f p [] e w = finish refl w
 one-group {r} {d} {d₁} s pen f p (y ∷ text) e w =
     next {c = 1} {pen = pen} {r = r} {d₁ = d₁} (omega arith) (at-first s pen f p (y ∷ text) e w) (finish refl (rests s r p (stored-small _ (w .stored))))
 
-module _ (b idx : List ℕ) (x : Line) (a m : Look) (w : Written) (l : Lined b idx x) (v : Sees b x a) (more : a .more ≡ true) (k : Looks b x (a .k) m)
-    (one : Alone a m) (y : Writes b w (outcomeOf b x (a .part))) where
-  scanned : Scanning b x a (a .part .element) m (max 0 (pick (isEmpty (valueText b (w .value))) 0 1))
-  scanned = scanning-next b x a (a .part .element) a 0 (scanning-start b x a (a .part .element) v) idx w 1 _ m l more refl y (sym (one .first)) (omega arith) refl k
+module _ (b idx : List ℕ) (x : Line) (a m : Look) (l : Lined b idx x) (v : Sees b x a) (more : a .more ≡ true) (k : Looks b x (a .k) m)
+    (one : Alone a m) where
+  abbrev text : List ℕ
+  text = (outcomeOf b x (a .part)) .text
 
-  passed : (u : Bool) → m .more ≡ u → Scans b x a (a .part .element) (max 0 (pick (isEmpty (valueText b (w .value))) 0 1)) m
+  scanned : Scanning b x a (a .part .element) m (max 0 (pick (isEmpty text) 0 1))
+  scanned = scanning-next b x a (a .part .element) a 0 (scanning-start b x a (a .part .element) v) idx text 1 _ m l more refl refl (sym (one .first)) (omega arith) refl k
+
+  passed : (u : Bool) → m .more ≡ u → Scans b x a (a .part .element) (max 0 (pick (isEmpty text) 0 1)) m
   passed true e = scanned-else b x a (a .part .element) m _ scanned e (one .other e)
   passed false e = scanned-none b x a (a .part .element) m _ scanned e
 
-  pub alone-steps : {t : Pen} {d d₁ : List ℕ} (s : Separators) (pen : Pen) (u : Tally) → Penned (placed s pen (a .part .element) 1 (valueText b (w .value))) (pen .at) t d d₁ → Steps s b x a pen d (record { pen = t; after = m; tally = u }) d₁
+  pub alone-steps : {t : Pen} {d d₁ : List ℕ} (s : Separators) (pen : Pen) (u : Tally) → Penned (placed s pen (a .part .element) 1 text) (pen .at) t d d₁ → Steps s b x a pen d (record { pen = t; after = m; tally = u }) d₁
   alone-steps s pen u p = record {
-    last = max 0 (pick (isEmpty (valueText b (w .value))) 0 1);
+    last = max 0 (pick (isEmpty text) 0 1);
     scans = passed (m .more) refl;
-    group = one-group s pen (componentText (here (a .part .element) ((ahead b x a) .parts))) (a .part .element) (valueText b (w .value))
-        (found-here b x a (a .part .element) 1 a (finding-start b x a (a .part .element) 1 v) w 1 more refl (sym (one .first)) refl y) p;
+    group = one-group s pen (componentText (here (a .part .element) ((ahead b x a) .parts))) (a .part .element) text
+        (found-here b x a (a .part .element) 1 a (finding-start b x a (a .part .element) 1 v) text 1 more refl (sym (one .first)) refl refl) p;
   }

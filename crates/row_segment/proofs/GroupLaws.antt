@@ -8,11 +8,8 @@ use native.Mathlib.Omega.{arith}
 use borrow.Author.Tests.{eq-eqb, ne-eqb}
 use Rattle.spec.specs.Answers.{numberOf}
 use Rattle.segment.specs.Parts.{Part, pick, isEmpty, orOne, highest, lastComponent, here, after, componentText}
-use Rattle.segment.specs.Pen.{valueText}
 use Rattle.segment.proofs.Rows.{here-other, after-other}
-use Rattle.emit.specs.declared.cells.Written.{Written}
 use Rattle.emit.specs.Puts.{Put}
-use Rattle.emit.specs.Written.{Writes}
 use Rattle.row_segment.specs.declared.parts.Line.{Line}
 use Rattle.row_segment.specs.declared.parts.Look.{Look}
 use Rattle.row_segment.specs.Stream.{Lined, puts, outcomeOf, ahead, Sees, Looks, left}
@@ -64,14 +61,14 @@ pub scanning-start : (b : List ℕ) (x : Line) (n : Look) (e : ℕ) → Sees b x
 scanning-start b x n e s = record { last = omega arith; rest = refl; sees = s; low = omega arith; less = inl refl }
 
 module _ (b : List ℕ) (x : Line) (n : Look) (e : ℕ) (a : Look) (m : ℕ) (i : Scanning b x n e a m) where
-  pub scanning-next : (idx : List ℕ) (w : Written) (c m′ : ℕ) (a′ : Look) → Lined b idx x → a .more ≡ true → a .part .element ≡ e → Writes b w (outcomeOf b x (a .part))
-      → c ≡ orOne (numberOf (a .part .component)) → c < 4294967296 → m′ ≡ max m (pick (isEmpty (valueText b (w .value))) 0 c) → Looks b x (a .k) a′ → Scanning b x n e a′ m′
+  pub scanning-next : (idx text : List ℕ) (c m′ : ℕ) (a′ : Look) → Lined b idx x → a .more ≡ true → a .part .element ≡ e → text ≡ (outcomeOf b x (a .part)) .text
+      → c ≡ orOne (numberOf (a .part .component)) → c < 4294967296 → m′ ≡ max m (pick (isEmpty text) 0 c) → Looks b x (a .k) a′ → Scanning b x n e a′ m′
   unfolding highest
-  scanning-next idx w c m′ a′ d t q y f k g l = record {
-    last = i .last ∙ rw (here-more a a′ e t q l, g, f, y .text) (omega arith);
+  scanning-next idx text c m′ a′ d t q y f k g l = record {
+    last = i .last ∙ rw (here-more a a′ e t q l, g, f, y) (omega arith);
     rest = i .rest ∙ after-more a a′ e t q l;
     sees = l .sees;
-    low = rw g (lower (isEmpty (valueText b (w .value))));
+    low = rw g (lower (isEmpty text));
     less = inr (go (i .less));
   }
     where
@@ -131,10 +128,10 @@ module _ (b : List ℕ) (x : Line) (n : Look) (e c : ℕ) (a : Look) (i : Findin
     sees = l .sees;
   }
 
-  pub found-here : (w : Written) (k : ℕ) → a .more ≡ true → a .part .element ≡ e → k ≡ orOne (numberOf (a .part .component)) → k ≡ c → Writes b w (outcomeOf b x (a .part))
-      → valueText b (w .value) ≡ componentText (here e ((ahead b x n) .parts)) c
+  pub found-here : (text : List ℕ) (k : ℕ) → a .more ≡ true → a .part .element ≡ e → k ≡ orOne (numberOf (a .part .component)) → k ≡ c → text ≡ (outcomeOf b x (a .part)) .text
+      → text ≡ componentText (here e ((ahead b x n) .parts)) c
   unfolding componentText
-  found-here w k t q f g y = y .text ∙ sym (i .rest ∙ ap (λ (ps : List Part). componentText ps c) (ap (here e) (parts-here b x a t) ∙ here-same e (partBy b x (a .part)) ((puts b x (a .k)) .parts) q)
+  found-here text k t q f g y = y ∙ sym (i .rest ∙ ap (λ (ps : List Part). componentText ps c) (ap (here e) (parts-here b x a t) ∙ here-same e (partBy b x (a .part)) ((puts b x (a .k)) .parts) q)
       ∙ rw (eq-eqb (orOne (numberOf (a .part .component))) c (sym f ∙ g)))
 
   pub found-else : (text : List ℕ) → text ≡ [] → a .more ≡ true → (a .part .element ≡ e → ⊥) → text ≡ componentText (here e ((ahead b x n) .parts)) c

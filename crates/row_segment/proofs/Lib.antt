@@ -3,3 +3,4 @@ pub mod NoteLaws
 pub mod GroupLaws
 pub mod AloneLaws
 pub mod RowLaws
+pub mod LoneLaws

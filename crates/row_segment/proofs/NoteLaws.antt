@@ -60,10 +60,10 @@ module _ (b : List ℕ) (x : Line) (p : Planned) where
       go (Cell n) e = rw e (omega arith)
       go (Code s) e = rw e (omega arith)
 
-  pub noted : {s r : Tally} {f f′ : List ℕ} (w : Written) → Writes b w (outcomeOf b x p) → StoredAt base f (s .findings) (wordsOf ((partPut b x p) .findings)) (r .findings) f′
-      → r .entries ≡ s .entries + (partPut b x p) .entries → r .last ≡ max (s .last) (pick (isEmpty (valueText b (w .value))) 0 (p .element)) → Notes (partPut b x p) s r f f′
+  pub noted : {s r : Tally} {f f′ : List ℕ} (text : List ℕ) → text ≡ (outcomeOf b x p) .text → StoredAt base f (s .findings) (wordsOf ((partPut b x p) .findings)) (r .findings) f′
+      → r .entries ≡ s .entries + (partPut b x p) .entries → r .last ≡ max (s .last) (pick (isEmpty text) 0 (p .element)) → Notes (partPut b x p) s r f f′
   unfolding highest
-  noted w q n e l = record { findings = n; entries = e; last = rw (part-is b x p) (let t = w in l ∙ rw (q .text) (omega arith)) }
+  noted text q n e l = record { findings = n; entries = e; last = rw (part-is b x p) (l ∙ rw q (omega arith)) }
 
 -- ---- no more entries than planned elements
 

@@ -1,3 +1,4 @@
 pub mod Stream
 pub mod Notes
 pub mod Groups
+pub mod Lone

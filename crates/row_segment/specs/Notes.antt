@@ -6,7 +6,7 @@ use lib.ListN.{length}
 use Rattle.lent.specs.Fit.{base, cap, StoredAt}
 use Rattle.format.specs.Sections.{jobOf}
 use Rattle.format.specs.Refusal.{separators}
-use Rattle.segment.specs.Parts.{lastElement}
+use Rattle.segment.specs.Parts.{pick, isEmpty, lastElement}
 use Rattle.nest.specs.Finding.{numberFrom}
 use Rattle.emit.specs.Puts.{Put}
 use Rattle.emit.specs.Written.{tried, wordsOf}
@@ -26,6 +26,12 @@ pub record Notes (p : Put) (s r : Tally) (f f′ : List ℕ) : Type 0 where
   pub findings : StoredAt base f (s .findings) (wordsOf (p .findings)) (r .findings) f′
   pub entries : r .entries ≡ s .entries + p .entries
   pub last : r .last ≡ max (s .last) (lastElement (p .parts))
+
+-- a part with that text at element e is counted: n numbers of findings stand then, and there are k trace entries more
+pub record Counted (text : List ℕ) (e n k : ℕ) (s r : Tally) : Type 0 where
+  pub findings : r .findings ≡ n
+  pub entries : r .entries ≡ s .entries + k
+  pub last : r .last ≡ max (s .last) (pick (isEmpty text) 0 e)
 
 -- the parts from look n up to look m were noted, the tally going from s to t, the findings from f to f′: with those from m on, all from n on are
 pub record Between (b : List ℕ) (x : Line) (n m : Look) (s t : Tally) (f f′ : List ℕ) : Type 0 where

@@ -1,4 +1,5 @@
 // A row segment in one pass: its parts are noted and joined, element by element in the order in which they come.
+use crate::lone;
 use crate::notes;
 use crate::notes::Tally;
 use crate::notes::Tried;
@@ -167,10 +168,9 @@ fn put_next(
     let p = a.part;
     let after = parts::next_part(job, index, x, a.k, a.at);
     if alone(a, after) {
-        let w = parts::text_of(job, index, x, p);
-        let v = w.value;
-        let q = segment::element(doc, job, s, pen, p.element as usize, v);
-        let u = notes::note_text(job, findings, t, x, y, p, w);
+        let g = lone::put_part(job, index, doc, findings, s, pen, t, x, y, p);
+        let q = g.pen;
+        let u = g.tally;
         return Step {
             pen: q,
             after,

@@ -1,5 +1,6 @@
 // A row segment: its bytes, the findings on its cells, its trace.
 mod join;
+mod lone;
 mod notes;
 mod parts;
 

@@ -31,7 +31,7 @@ text-of-requires : tie.Need-text-of-requires Inv-loop μ-loop
 text-of-requires c κs = search needs
 
 returns-2 : tie.Need-returns-2 Inv-loop μ-loop
-returns-2 c = found-here _ _ _ _ _ _ (c .before .before .before .before .before .before .before .before .loop .inv) _ _ (c .before .before .before .before .before .before .before .loop-test .taken) (c .before .before .before .before .if1 .left) (c .before .before .before .component-of .ensures) (c .before .before .if2 .taken) (c .before .text-of .ensures)
+returns-2 c = found-here _ _ _ _ _ _ (c .before .before .before .before .before .before .before .before .loop .inv) _ _ (c .before .before .before .before .before .before .before .loop-test .taken) (c .before .before .before .before .if1 .left) (c .before .before .before .component-of .ensures) (c .before .before .if2 .taken) (c .before .text-of .ensures .text)
 
 next-part-requires : tie.Need-next-part-requires Inv-loop μ-loop
 next-part-requires c κs = (c .before .before .before .before .before .before .before .before .before .pre .0, c .before .before .before .before .before .before .loop .inv .sees .stands)

@@ -16,17 +16,8 @@ next-part-requires c κs = search needs
 alone-requires : tie.Need-alone-requires
 alone-requires c κs = search needs
 
-text-of-requires : tie.Need-text-of-requires
-text-of-requires c κs = search needs
-
-cast-element : tie.Need-cast-element
-cast-element c = search needs
-
-element-requires : tie.Need-element-requires
-element-requires c κs = search needs
-
-note-text-requires : tie.Need-note-text-requires
-note-text-requires c κs = (c .before .before .before .before .before .before .before .before .before .before .before .before .before .before .before .before .pre .1, c .before .before .before .before .before .before .before .text-of .ensures, let h = c .before .before .before .before .before .before .before .before .before .before .before .before .before .before .before .before .pre .3 in omega (arith, h))
+put-part-requires : tie.Need-put-part-requires
+put-part-requires c κs = search needs
 
 same-length : tie.Need-same-length
 same-length c = search needs
@@ -36,10 +27,10 @@ same-length-2 c = search needs
 
 returns : tie.Need-returns
 returns c =
-    let p = c .before .before .before .before .before .before .before .before .before .before .before .before .before .before .before .before .before .before .before .pre in
-    let h : length (now (c .before .before .before .before .before .before .before .before .before .before .before .before .before .before .before .before .before .before .before .args .findings)) ≤ wide = omega (arith, c .before .before .before .before .before .before .before .before .before .before .before .before .before .before .before .before .before .before .before) in (
-      alone-steps _ _ _ _ (c .before .before .before .before .before .before .before .before .before .before .before .before .before .next-part .result) (c .before .before .before .before .before .before .before .before .before .before .text-of .result) (p .0) (p .2) (p .4) (c .before .before .before .before .before .before .before .before .before .before .before .before .before .next-part .ensures) (c .before .before .before .before .before .before .before .before .before .before .before .before .alone .ensures (c .before .before .before .before .before .before .before .before .before .before .before .if1 .taken)) (c .before .before .before .before .before .before .before .before .before .before .text-of .ensures) _ _ _ (c .before .before .before .before .before .before .element .ensures),
-      between-next (between-none _ _ _ _ _) _ h (p .4) (c .before .before .note-text .ensures) (c .before .before .before .before .before .before .before .before .before .before .before .before .before .next-part .ensures),
+    let p = c .before .before .before .before .before .before .before .before .before .before .before .before .before .before .before .before .before .pre in
+    let h : length (now (c .before .before .before .before .before .before .before .before .before .before .before .before .before .before .before .before .before .args .findings)) ≤ wide = omega (arith, c .before .before .before .before .before .before .before .before .before .before .before .before .before .before .before .before .before) in (
+      alone-steps _ _ _ _ (c .before .before .before .before .before .before .before .before .before .before .before .next-part .result) (p .0) (p .2) (p .4) (c .before .before .before .before .before .before .before .before .before .before .before .next-part .ensures) (c .before .before .before .before .before .before .before .before .before .before .alone .ensures (c .before .before .before .before .before .before .before .before .before .if1 .taken)) _ _ _ (c .before .before .before .before .before .before .put-part .ensures .penned),
+      between-next (between-none _ _ _ _ _) _ h (p .4) (c .before .before .before .before .before .before .put-part .ensures .notes) (c .before .before .before .before .before .before .before .before .before .before .before .next-part .ensures),
     )
 
 scan-requires : tie.Need-scan-requires
@@ -63,10 +54,7 @@ put-next-spec =
     (tie.spec
     next-part-requires
     alone-requires
-    text-of-requires
-    cast-element
-    element-requires
-    note-text-requires
+    put-part-requires
     same-length
     same-length-2
     returns

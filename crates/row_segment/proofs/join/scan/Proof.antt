@@ -49,7 +49,7 @@ loop-less c = left-less (c .before .before .before .before .before .before .befo
 loop-again : tie.Need-loop-again Inv-loop μ-loop
 loop-again c =
     let h : length (now (c .before .before .before .before .before .before .before .before .before .before .before .before .before .before .before .before .before .args .findings)) ≤ wide = omega (arith, c .before .before .before .before .before .before .before .before .before .before .before .before .before .before .before .before .before) in (
-      scanning-next _ _ _ _ _ _ (c .before .before .before .before .before .before .before .before .before .before .before .before .before .loop .inv .0) _ _ _ _ _ (c .before .before .before .before .before .before .before .before .before .before .before .before .before .before .before .before .before .pre .0) (c .before .before .before .before .before .before .before .before .before .before .before .before .loop-test .taken) (c .before .before .before .before .before .before .before .before .before .if1 .left) (c .before .before .before .before .before .before .before .before .text-of .ensures) (c .before .before .before .before .before .before .component-of .ensures) (omega arith) (c .before .before .before .before .before .raised .ensures) (c .next-part .ensures),
+      scanning-next _ _ _ _ _ _ (c .before .before .before .before .before .before .before .before .before .before .before .before .before .loop .inv .0) _ _ _ _ _ (c .before .before .before .before .before .before .before .before .before .before .before .before .before .before .before .before .before .pre .0) (c .before .before .before .before .before .before .before .before .before .before .before .before .loop-test .taken) (c .before .before .before .before .before .before .before .before .before .if1 .left) (c .before .before .before .before .before .before .before .before .text-of .ensures .text) (c .before .before .before .before .before .before .component-of .ensures) (omega arith) (c .before .before .before .before .before .raised .ensures) (c .next-part .ensures),
       between-next (c .before .before .before .before .before .before .before .before .before .before .before .before .before .loop .inv .1) _ h (c .before .before .before .before .before .before .before .before .before .before .before .before .loop-test .taken) (c .before .before .before .note-text .ensures) (c .next-part .ensures),
     )
 

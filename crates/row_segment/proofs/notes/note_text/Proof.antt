@@ -24,7 +24,7 @@ same-length : tie.Need-same-length
 same-length c = search needs
 
 returns : tie.Need-returns
-returns c = let a = c .before .before .before .before .before .before .before .before .before .before .args in let j = now (a .job) in noted j (a .x) (a .p) _ (c .before .before .before .before .before .before .before .before .before .before .pre .1) (c .before .before .before .before .before .before .note-part .ensures) (ap (λ n. a .s .entries + n) (c .before .entries-of .ensures j (a .x))) (c .before .before .raised .ensures)
+returns c = let a = c .before .before .before .before .before .before .before .before .before .before .args in let j = now (a .job) in noted j (a .x) (a .p) _ (c .before .before .before .before .before .before .before .before .before .before .pre .1 .text) (c .before .before .before .before .before .before .note-part .ensures) (ap (λ n. a .s .entries + n) (c .before .entries-of .ensures j (a .x))) (c .before .before .raised .ensures)
 
 pub note-text-spec : {M : Type 1} → statement M
 note-text-spec =
