@@ -59,31 +59,6 @@ planned-of b idx l i t k step first count id w e h q x n =
 
 -- ---- one element
 
-module _ (b : List ℕ) (s : Planned) (e : Element) (k r : ℕ) where
-  pub first-column : (n : ℕ) → e .value ≡ Column n → k ≡ 0 → elementPut b s k r (elementOf b e) ≡ putCell (jobOf b) (idOf b s) (e .element) (numberOf (e .component)) (s .table .0) n r
-  unfolding elementPut
-  first-column n h z = rw (h, eq-eqb k 0 z) refl
-
-  pub later-column : (n : ℕ) → e .value ≡ Column n → (k ≡ 0 → ⊥) → elementPut b s k r (elementOf b e) ≡ nothing
-  unfolding elementPut
-  later-column n h z = rw (h, ne-eqb k 0 z) refl
-
-  pub group-cell : (n : ℕ) → e .value ≡ Group n → elementPut b s k r (elementOf b e) ≡ putCell (jobOf b) (idOf b s) (e .element + k * s .step) (numberOf (e .component)) (s .table .0) n r
-  unfolding elementPut
-  group-cell n h = rw h refl
-
-  pub code-quiet : (c : Stretch) → e .value ≡ Code c → ((elementPut b s k r (elementOf b e)) .findings ≡ []) × ((elementPut b s k r (elementOf b e)) .entries ≡ 0)
-  unfolding elementPut
-  code-quiet c h = rw h (go (eqb k 0) (putText (e .element) (numberOf (e .component)) (stretchOf b c)) refl refl)
-    where
-      go : (t : Bool) (p : Put) → p .findings ≡ [] → p .entries ≡ 0 → ((pick t p nothing) .findings ≡ []) × ((pick t p nothing) .entries ≡ 0)
-      go true p f n = (f, n)
-      go false p f n = (refl, refl)
-
-pub cell-entry : {p : Put} (b : List ℕ) (id : List ℕ) (e : ℕ) (c : Option ℕ) (t n r : ℕ) → p ≡ putCell (jobOf b) id e c t n r → 1 ≡ p .entries
-unfolding putCell
-cell-entry b id e c t n r h = rw h refl
-
 pub no-finding : {d : List ℕ} {at n : ℕ} (p : Put) → p .findings ≡ [] → n ≡ more at 0 → Noted d at (wordsOf (p .findings)) n d
 no-finding p h e = rw h (none-stored e)
 

@@ -14,16 +14,17 @@ use Rattle.spec.specs.declared.ids.Stretch.{Stretch}
 use Rattle.spec.specs.Answers.{stretchOf, numberOf}
 use Rattle.format.specs.Sections.{jobOf}
 use Rattle.format.specs.Ask.{on}
-use Rattle.texts.specs.Reason.{gives}
+use Rattle.texts.specs.Reason.{Outcome, gives}
 use Rattle.plan.specs.declared.answers.ElementPlan.{ElementPlan as Element}
+use Rattle.plan.specs.declared.answers.ValueSource.{ValueSource}
 use Rattle.plan.specs.declared.answers.ValueSource.the-variants.{Column, Group, Code}
-use Rattle.plan.specs.Answers.{elementOf}
-use Rattle.emit.specs.declared.cells.Written.{Written}
-use Rattle.emit.specs.Written.{Writes}
+use Rattle.plan.specs.Answers.{valueOf, elementOf}
 use Rattle.emit.specs.Puts.{Put, cellOutcome, putCell, putText, partAt, nothing, chunkValue}
 use Rattle.repeat_segment.specs.declared.planned.Planned.{Planned}
+use Rattle.repeat_segment.specs.declared.places.Source.{Source}
+use Rattle.repeat_segment.specs.declared.places.Source.the-variants.{Cell, Code as OfCode}
 use Rattle.repeat_segment.specs.Planned.{idOf}
-use Rattle.repeat_segment.specs.Places.{placeBy, placeIn, textBy, textIn, elementPut, Lowest}
+use Rattle.repeat_segment.specs.Places.{placeBy, placeIn, textBy, textIn, sourceIn, entriesIn, putBy, putAt, elementPut, Lowest}
 
 -- a moved place is a small number
 pub moved-small : (e step k : ℕ) → e ≤ 255 → step ≤ 255 → k < 256 → (k * step ≤ 65025) × (e + k * step ≤ 65280)
@@ -135,33 +136,79 @@ place-behind step k m x h = go (x .value) h
     go (fromGroup c) y = omega (arith, some-is y)
     go (fromCode t) y = omega (arith, once k _ m y .1)
 
--- ---- texts
+-- ---- where a text comes from
 
-module _ (b : List ℕ) (s : Planned) (e : Element) (p r : ℕ) (w : Written) where
-  pub text-column : (n : ℕ) → e .value ≡ Column n → Writes b w (cellOutcome (jobOf b) (idOf b s) (s .table .0) r p (numberOf (e .component)) n) → Writes b w (textIn b s p r (elementOf b e))
-  unfolding textIn
-  text-column n h x = rw h x
+abbrev pub textFrom : List ℕ → Planned → ℕ → Option ℕ → ℕ → Source → Outcome
+textFrom b s p c r (Cell n) = cellOutcome (jobOf b) (idOf b s) (s .table .0) r p c n
+textFrom b s p c r (OfCode code) = gives (stretchOf b code)
 
-  pub text-group : (n : ℕ) → e .value ≡ Group n → Writes b w (cellOutcome (jobOf b) (idOf b s) (s .table .0) r p (numberOf (e .component)) n) → Writes b w (textIn b s p r (elementOf b e))
-  unfolding textIn
-  text-group n h x = rw h x
+abbrev pub putFrom : List ℕ → Planned → ℕ → Option ℕ → ℕ → Source → Put
+putFrom b s p c r (Cell n) = putCell (jobOf b) (idOf b s) p c (s .table .0) n r
+putFrom b s p c r (OfCode code) = putText p c (stretchOf b code)
 
-  pub text-code : (c : Stretch) → e .value ≡ Code c → Writes b w (gives (stretchOf b c)) → Writes b w (textIn b s p r (elementOf b e))
+module _ (b : List ℕ) (s : Planned) (e : Element) (p r : ℕ) where
+  pub text-source : textIn b s p r (elementOf b e) ≡ textFrom b s p (numberOf (e .component)) r (sourceIn (e .value))
   unfolding textIn
-  text-code c h x = rw h x
+  text-source = go (e .value)
+    where
+      go : (v : ValueSource) → textBy (jobOf b) (idOf b s) (s .table .0) p (numberOf (e .component)) r (valueOf b v) ≡ textFrom b s p (numberOf (e .component)) r (sourceIn v)
+      go (Column n) = refl
+      go (Group n) = refl
+      go (Code c) = refl
+
+  pub put-source : putAt b s p r (elementOf b e) ≡ putFrom b s p (numberOf (e .component)) r (sourceIn (e .value))
+  unfolding putAt
+  put-source = go (e .value)
+    where
+      go : (v : ValueSource) → putBy (jobOf b) (idOf b s) (s .table .0) p (numberOf (e .component)) r (valueOf b v) ≡ putFrom b s p (numberOf (e .component)) r (sourceIn v)
+      go (Column n) = refl
+      go (Group n) = refl
+      go (Code c) = refl
+
+  pub put-entries : entriesIn (sourceIn (e .value)) ≡ (putAt b s p r (elementOf b e)) .entries
+  unfolding putCell
+  put-entries = go (sourceIn (e .value)) ∙ sym (ap (λ (w : Put). w .entries) put-source)
+    where
+      go : (x : Source) → entriesIn x ≡ (putFrom b s p (numberOf (e .component)) r x) .entries
+      go (Cell n) = refl
+      go (OfCode c) = refl
+
+-- ---- what an element puts
+
+-- it puts something if it has a place
+pub element-put : (b : List ℕ) (s : Planned) (k r : ℕ) (x : ElementPlan) → elementPut b s k r x ≡ on (placeIn (s .step) k x) (λ e. putAt b s e r x) nothing
+unfolding elementPut placeIn putAt
+element-put b s k r x = go (x .value)
+  where
+    picked : (t : Bool) (e : ℕ) (f : ℕ → Put) → pick t (f e) nothing ≡ on (pick t (some e) none) f nothing
+    picked true e f = refl
+    picked false e f = refl
+
+    go : (v : Value) → chunkValue (jobOf b) (idOf b s) (s .table .0) (s .step) k r x v
+        ≡ on (placeBy (s .step) k (x .element) v) (λ e. putBy (jobOf b) (idOf b s) (s .table .0) e (x .component) r v) nothing
+    go (fromColumn c) = picked (eqb k 0) (x .element) (λ e. putCell (jobOf b) (idOf b s) e (x .component) (s .table .0) c r)
+    go (fromGroup c) = refl
+    go (fromCode t) = picked (eqb k 0) (x .element) (λ e. putText e (x .component) t)
+
+module _ (b : List ℕ) (s : Planned) (k r : ℕ) (x : ElementPlan) where
+  pub put-nowhere : placeIn (s .step) k x ≡ none → elementPut b s k r x ≡ nothing
+  put-nowhere h = element-put b s k r x ∙ rw h refl
+
+  pub put-there : (p : ℕ) → placeIn (s .step) k x ≡ some p → elementPut b s k r x ≡ putAt b s p r x
+  put-there p h = element-put b s k r x ∙ rw h refl
 
 -- the part that an element puts, if it has a place
 pub element-parts : (b : List ℕ) (s : Planned) (k r : ℕ) (x : ElementPlan)
     → (elementPut b s k r x) .parts ≡ on (placeIn (s .step) k x) (λ e. partAt e (x .component) ((textIn b s e r x) .text) ∷ []) []
-unfolding elementPut placeIn textIn putCell
-element-parts b s k r x = go (x .value)
+unfolding putAt textIn putCell
+element-parts b s k r x = ap (λ (p : Put). p .parts) (element-put b s k r x) ∙ go (placeIn (s .step) k x)
   where
-    picked : (t : Bool) (e : ℕ) (p : Put) (f : ℕ → List Part) → p .parts ≡ f e → (pick t p nothing) .parts ≡ on (pick t (some e) none) f []
-    picked true e p f h = h
-    picked false e p f h = refl
+    part : (e : ℕ) (v : Value) → (putBy (jobOf b) (idOf b s) (s .table .0) e (x .component) r v) .parts
+        ≡ partAt e (x .component) ((textBy (jobOf b) (idOf b s) (s .table .0) e (x .component) r v) .text) ∷ []
+    part e (fromColumn c) = refl
+    part e (fromGroup c) = refl
+    part e (fromCode t) = refl
 
-    go : (v : Value) → (chunkValue (jobOf b) (idOf b s) (s .table .0) (s .step) k r x v) .parts
-        ≡ on (placeBy (s .step) k (x .element) v) (λ e. partAt e (x .component) ((textBy (jobOf b) (idOf b s) (s .table .0) e (x .component) r v) .text) ∷ []) []
-    go (fromColumn c) = picked (eqb k 0) (x .element) (putCell (jobOf b) (idOf b s) (x .element) (x .component) (s .table .0) c r) _ refl
-    go (fromGroup c) = refl
-    go (fromCode t) = picked (eqb k 0) (x .element) (putText (x .element) (x .component) t) _ refl
+    go : (o : Option ℕ) → (on o (λ e. putAt b s e r x) nothing) .parts ≡ on o (λ e. partAt e (x .component) ((textIn b s e r x) .text) ∷ []) []
+    go none = refl
+    go (some e) = part e (x .value)

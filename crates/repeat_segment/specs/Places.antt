@@ -16,8 +16,12 @@ use Rattle.spec.specs.declared.ids.Number.{Number}
 use Rattle.spec.specs.Answers.{numberOf}
 use Rattle.plan.specs.declared.answers.ElementPlan.{ElementPlan as Element}
 use Rattle.plan.specs.Answers.{elementOf}
-use Rattle.emit.specs.Puts.{cellOutcome, chunkValue, chunkPut, Put}
+use Rattle.plan.specs.declared.answers.ValueSource.{ValueSource}
+use Rattle.plan.specs.declared.answers.ValueSource.the-variants.{Column, Group, Code}
+use Rattle.emit.specs.Puts.{cellOutcome, putCell, putText, chunkValue, chunkPut, Put}
 use Rattle.repeat_segment.specs.declared.planned.Planned.{Planned}
+use Rattle.repeat_segment.specs.declared.places.Source.{Source}
+use Rattle.repeat_segment.specs.declared.places.Source.the-variants.{Cell, Code as OfCode}
 use Rattle.repeat_segment.specs.declared.scan.First.{First}
 use Rattle.repeat_segment.specs.Planned.{plansOf, idOf}
 
@@ -38,6 +42,27 @@ textBy j id t e c r (fromCode code) = gives code
 
 unfoldable pub textIn : List ℕ → Planned → ℕ → ℕ → ElementPlan → Outcome
 textIn b s e r x = textBy (jobOf b) (idOf b s) (s .table .0) e (x .component) r (x .value)
+
+-- ---- what is put
+
+-- where the text comes from: columns of both kinds have cells
+abbrev pub sourceIn : ValueSource → Source
+sourceIn (Column n) = Cell n
+sourceIn (Group n) = Cell n
+sourceIn (Code c) = OfCode c
+
+abbrev pub entriesIn : Source → ℕ
+entriesIn (Cell n) = 1
+entriesIn (OfCode c) = 0
+
+-- what an element puts at e
+abbrev pub putBy : Job → List ℕ → ℕ → ℕ → Option ℕ → ℕ → Value → Put
+putBy j id t e c r (fromColumn n) = putCell j id e c t n r
+putBy j id t e c r (fromGroup n) = putCell j id e c t n r
+putBy j id t e c r (fromCode code) = putText e c code
+
+unfoldable pub putAt : List ℕ → Planned → ℕ → ℕ → ElementPlan → Put
+putAt b s e r x = putBy (jobOf b) (idOf b s) (s .table .0) e (x .component) r (x .value)
 
 -- what row number k puts, and one element of it
 unfoldable pub elementPut : List ℕ → Planned → ℕ → ℕ → ElementPlan → Put

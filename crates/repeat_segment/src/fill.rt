@@ -1,5 +1,6 @@
 // A row of a chunk: the findings on its cells, and their trace entries.
 use crate::places;
+use crate::places::Source;
 use crate::planned::Planned;
 use emit::cells;
 use emit::findings;
@@ -26,7 +27,7 @@ ghost use Rattle.emit.specs.Puts.{placeOf, putCell};
 ghost use Rattle.emit.specs.Written.{wordsOf, spotOf, tried};
 ghost use Rattle.emit.specs.Did.{Within};
 ghost use Rattle.repeat_segment.specs.Planned.{Of, idOf, plansOf};
-ghost use Rattle.repeat_segment.specs.Places.{elementPut, rowPuts};
+ghost use Rattle.repeat_segment.specs.Places.{sourceIn, entriesIn, putAt, elementPut, rowPuts};
 ghost use Rattle.repeat_segment.specs.Filled.{Filled};
 
 fn spot_of(job: &[u8], s: Planned, p: u32, component: Number, column: u32, r: RowId) -> Spot
@@ -71,6 +72,30 @@ fn note_cell(
     findings::note_cell(findings, at, job, x, w, d)
 }
 
+// The findings on a planned element at p.
+fn note_source(
+    job: &[u8],
+    index: &[u32],
+    findings: &mut [u64],
+    at: usize,
+    s: Planned,
+    d: Delimiters,
+    e: ElementPlan,
+    p: u32,
+    r: RowId,
+) -> usize
+    requires { ⌜ Ready (now job) (now index) × Of (now job) s × (tried d ≡ separators (jobOf (now job) .envelope)) ⌝ }
+    ensures { λ n. ⌜ Noted (now (findings .entry)) at (wordsOf ((putAt (now (job .entry)) s p (r .0) (elementOf (now (job .entry)) e)) .findings)) n (now (findings .exit)) ⌝ }
+{
+    let v = e.value;
+    let c = e.component;
+    let source = places::source_of(v);
+    match source {
+        Source::Cell(n) => note_cell(job, index, findings, at, s, d, p, c, n, r),
+        Source::Code(_) => lent::more(at, 0),
+    }
+}
+
 // The findings on a planned element for row number k.
 fn note_element(
     job: &[u8],
@@ -86,37 +111,34 @@ fn note_element(
     requires { ⌜ Ready (now job) (now index) × Of (now job) s × (tried d ≡ separators (jobOf (now job) .envelope)) × (e .element ≤ 255) × (k < 256) ⌝ }
     ensures { λ n. ⌜ Noted (now (findings .entry)) at (wordsOf ((elementPut (now (job .entry)) s k (r .0) (elementOf (now (job .entry)) e)) .findings)) n (now (findings .exit)) ⌝ }
 {
-    let v = e.value;
-    let c = e.component;
-    match v {
-        ValueSource::Column(n) => {
-            if k == 0 {
-                return note_cell(job, index, findings, at, s, d, e.element, c, n, r);
-            }
-            lent::more(at, 0)
-        }
-        ValueSource::Group(n) => {
-            let p = places::moved(e.element, s.step, k);
-            note_cell(job, index, findings, at, s, d, p, c, n, r)
-        }
-        ValueSource::Code(_) => lent::more(at, 0),
+    let place = places::place_of(e, s.step, k);
+    match place {
+        Number::None => lent::more(at, 0),
+        Number::Is(p) => note_source(job, index, findings, at, s, d, e, p, r),
     }
 }
 
-// The trace entries of a planned element for row number k: one for a cell.
-fn entries_of(e: ElementPlan, k: u32) -> usize
-    ensures { λ n. ⌜ ((b : List ℕ) (s : Planned) (r : ℕ) → n ≡ (elementPut b s k r (elementOf b e)) .entries) ⌝ }
+// The trace entries of what gives a text: one for a cell.
+fn entries_at(v: ValueSource) -> usize
+    ensures { λ n. ⌜ n ≡ entriesIn (sourceIn v) ⌝ }
 {
+    let source = places::source_of(v);
+    match source {
+        Source::Cell(_) => 1,
+        Source::Code(_) => 0,
+    }
+}
+
+// The trace entries of a planned element for row number k.
+fn entries_of(e: ElementPlan, step: u32, k: u32) -> usize
+    requires { ⌜ (e .element ≤ 255) × (step ≤ 255) × (k < 256) ⌝ }
+    ensures { λ n. ⌜ ((b : List ℕ) (s : Planned) (r : ℕ) → step ≡ s .step → n ≡ (elementPut b s k r (elementOf b e)) .entries) ⌝ }
+{
+    let place = places::place_of(e, step, k);
     let v = e.value;
-    match v {
-        ValueSource::Column(_) => {
-            if k == 0 {
-                return 1;
-            }
-            0
-        }
-        ValueSource::Group(_) => 1,
-        ValueSource::Code(_) => 0,
+    match place {
+        Number::None => 0,
+        Number::Is(_) => entries_at(v),
     }
 }
 
@@ -141,7 +163,7 @@ pub fn fill_elements(
     while i < s.count {
         let e = read::element_at(job, at);
         found = note_element(job, index, findings, found, s, d, e, k, r);
-        entries = lent::more(entries, entries_of(e, k));
+        entries = lent::more(entries, entries_of(e, s.step, k));
         at = e.next;
         i += 1;
     }

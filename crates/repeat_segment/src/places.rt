@@ -6,6 +6,7 @@ use plan::answers::ElementPlan;
 use plan::answers::ValueSource;
 use spec::ids::Number;
 use spec::ids::RowId;
+use spec::ids::Stretch;
 ghost use mathlib.Core.Path.{_≡_};
 ghost use mathlib.Core.List.{List};
 ghost use mathlib.Core.Option.{some, none};
@@ -17,7 +18,7 @@ ghost use Rattle.plan.specs.Answers.{elementOf};
 ghost use Rattle.nest.specs.Ready.{Ready};
 ghost use Rattle.emit.specs.Written.{Writes};
 ghost use Rattle.repeat_segment.specs.Planned.{Of};
-ghost use Rattle.repeat_segment.specs.Places.{placeIn, textIn, Lowest};
+ghost use Rattle.repeat_segment.specs.Places.{placeIn, sourceIn, textIn, Lowest};
 
 // ---- places
 
@@ -83,6 +84,22 @@ pub fn row_at(e: ElementPlan, step: u32, p: u32) -> u32
 
 // ---- texts
 
+// What gives a planned element its text: a column's cell, or a code.
+pub enum Source {
+    Cell(u32),
+    Code(Stretch),
+}
+
+pub fn source_of(v: ValueSource) -> Source
+    ensures { λ r. ⌜ r ≡ sourceIn v ⌝ }
+{
+    match v {
+        ValueSource::Column(n) => Source::Cell(n),
+        ValueSource::Group(n) => Source::Cell(n),
+        ValueSource::Code(code) => Source::Code(code),
+    }
+}
+
 // The text of a planned element at element p.
 pub fn text(job: &[u8], index: &[u32], s: Planned, e: ElementPlan, p: u32, r: RowId) -> Written
     requires { ⌜ Ready (now job) (now index) × Of (now job) s ⌝ }
@@ -90,9 +107,9 @@ pub fn text(job: &[u8], index: &[u32], s: Planned, e: ElementPlan, p: u32, r: Ro
 {
     let v = e.value;
     let c = e.component;
-    match v {
-        ValueSource::Column(n) => cells::cell_text(job, index, s.id, s.table, r, p, c, n),
-        ValueSource::Group(n) => cells::cell_text(job, index, s.id, s.table, r, p, c, n),
-        ValueSource::Code(code) => cells::code_text(code),
+    let source = source_of(v);
+    match source {
+        Source::Cell(n) => cells::cell_text(job, index, s.id, s.table, r, p, c, n),
+        Source::Code(code) => cells::code_text(code),
     }
 }

@@ -5,6 +5,7 @@ use Rattle.repeat_segment.proofs.Steps.{place-small, read-step}
 use Rattle.lent.specs.Fit.{wide}
 use lib.ListN.{length}
 use denote.Ref.{now}
+use mathlib.Core.Path.{refl}
 use Prim.Native.Nat.{_-_, _≤_}
 use native.Mathlib.Omega.{arith}
 use borrow.Author.Needs.{needs}
@@ -30,7 +31,7 @@ note-element-requires : tie.Need-note-element-requires Inv-loop μ-loop
 note-element-requires c κs = let p = c .before .before .before .before .before .before .before .before .before .pre in (p .0, p .1, p .2, read-step _ _ (p .1) _ _ (c .before .before .before .before .loop .inv .along) (c .before .before .if1 .taken) _ (c .before .element-at .ensures) .low, p .3)
 
 entries-of-requires : tie.Need-entries-of-requires Inv-loop μ-loop
-entries-of-requires c κs = search needs
+entries-of-requires c κs = let p = c .before .before .before .before .before .before .before .before .before .before .before .before .pre in (read-step _ _ (p .1) _ _ (c .before .before .before .before .before .before .before .loop .inv .along) (c .before .before .before .before .before .if1 .taken) _ (c .before .before .before .before .element-at .ensures) .low, p .1 .near, p .3)
 
 more-requires-2 : tie.Need-more-requires-2 Inv-loop μ-loop
 more-requires-2 c κs = search needs
@@ -42,7 +43,7 @@ loop-less : tie.Need-loop-less Inv-loop μ-loop
 loop-less c = omega (arith, c .before .before .before .before .before .before .before .if1 .taken)
 
 loop-again : tie.Need-loop-again Inv-loop μ-loop
-loop-again c = let a = c .before .before .before .before .before .before .before .before .before .before .before .before .before .before .args in let o = c .before .before .before .before .before .before .before .before .before .before .before .before .before .before .pre .1 in let h : length (now (a .findings)) ≤ wide = omega (arith, c .before .before .before .before .before .before .before .before .before .before .before .before .before .before) in rw (c .more2 .ensures) (fill-next _ _ o (a .k) (a .r .0) (a .state) (c .before .before .before .before .before .before .element-at .result) _ h (c .before .before .before .before .before .before .before .if1 .taken) (c .before .before .before .before .before .before .before .before .before .loop .inv) (read-step _ _ o _ _ (c .before .before .before .before .before .before .before .before .before .loop .inv .along) (c .before .before .before .before .before .before .before .if1 .taken) _ (c .before .before .before .before .before .before .element-at .ensures)) (c .before .before .before .before .note-element .ensures) (c .before .entries-of .ensures _ _ _))
+loop-again c = let a = c .before .before .before .before .before .before .before .before .before .before .before .before .before .before .args in let o = c .before .before .before .before .before .before .before .before .before .before .before .before .before .before .pre .1 in let h : length (now (a .findings)) ≤ wide = omega (arith, c .before .before .before .before .before .before .before .before .before .before .before .before .before .before) in rw (c .more2 .ensures) (fill-next _ _ o (a .k) (a .r .0) (a .state) (c .before .before .before .before .before .before .element-at .result) _ h (c .before .before .before .before .before .before .before .if1 .taken) (c .before .before .before .before .before .before .before .before .before .loop .inv) (read-step _ _ o _ _ (c .before .before .before .before .before .before .before .before .before .loop .inv .along) (c .before .before .before .before .before .before .before .if1 .taken) _ (c .before .before .before .before .before .before .element-at .ensures)) (c .before .before .before .before .note-element .ensures) (c .before .entries-of .ensures _ (a .s) _ refl))
 
 same-length : tie.Need-same-length Inv-loop μ-loop
 same-length c = stored-length _ (c .before .before .loop .inv .stored)
