@@ -77,10 +77,25 @@ fn of_stretch(start: usize, len: usize) -> Written
     Written { value, reason: 0 }
 }
 
+// The text of a whole number, by its 64 bits.
+pub fn int_text(bits: u64) -> Text
+    ensures { λ r. ⌜ r ≡ held (intText (signed64 bits)) ⌝ }
+{
+    number::int_text(number::from_bits64(bits))
+}
+
+// The text of a decimal, by the halves of its 128 bits.
+pub fn decimal_text(lo: u64, hi: u64, scale: u8) -> Text
+    requires { ⌜ scale ≤ 38 ⌝ }
+    ensures { λ r. ⌜ r ≡ held (decimalText (signed128 (lo + 18446744073709551616 * hi)) scale) ⌝ }
+{
+    number::decimal_text(Wide { lo, hi }, scale)
+}
+
 fn said_int(bits: u64) -> Said
     ensures { λ r. ⌜ Says r (gives (intText (signed64 bits))) ⌝ }
 {
-    let text = number::int_text(number::from_bits64(bits));
+    let text = int_text(bits);
     Said {
         text,
         refused: Refused::Nothing,
@@ -91,7 +106,7 @@ fn said_decimal(lo: u64, hi: u64, scale: u8) -> Said
     requires { ⌜ scale ≤ 38 ⌝ }
     ensures { λ r. ⌜ Says r (gives (decimalText (signed128 (lo + 18446744073709551616 * hi)) scale)) ⌝ }
 {
-    let text = number::decimal_text(Wide { lo, hi }, scale);
+    let text = decimal_text(lo, hi, scale);
     Said {
         text,
         refused: Refused::Nothing,

@@ -1,21 +1,14 @@
 -- `emit::cells::said_int` meets its contract. Assumes nothing.
-use Rattle.emit.proofs.TextLaws.{back}
-use Rattle.texts.specs.Number.{intText}
-use Rattle.texts.specs.Held.{held}
-use lib.IntN.{ℤ}
-use mathlib.Core.Path.{_≡_, refl, subst}
+use mathlib.Core.Path.{refl}
 use borrow.Author.Needs.{needs}
 use Rattle.emit.proofs.cells.said_int.Statement.{statement}
 use Rattle.emit.proofs.cells.said_int.Tie as tie
-
-from-bits64-requires : tie.Need-from-bits64-requires
-from-bits64-requires c κs = search needs
 
 int-text-requires : tie.Need-int-text-requires
 int-text-requires c κs = search needs
 
 returns : tie.Need-returns
-returns c = let r = c .before .from-bits64 in record { text = subst (λ (z : ℤ). c .int-text .result ≡ held (intText z)) (back (record { sfits = r .ok }) (r .ensures)) (c .int-text .ensures); reason = refl }
+returns c = record { text = c .int-text .ensures; reason = refl }
 
 pub said-int-spec : {M : Type 1} → statement M
-said-int-spec = tie.close (tie.spec from-bits64-requires int-text-requires returns)
+said-int-spec = tie.close (tie.spec int-text-requires returns)
