@@ -1,38 +1,41 @@
 -- What a row of a chunk leaves, planned element by planned element.
-use Prim.Native.Nat.{ℕ, _+_, _*_, _≤_, _<_}
+use Prim.Native.Nat.{ℕ, _+_, _≤_, _<_}
 use mathlib.Core.Path.{_≡_, refl, ap, _∙_}
-use mathlib.Core.Bool.{Bool, true, false}
 use mathlib.Core.List.{List, []}
-use mathlib.Core.Option.{Option}
+use mathlib.Core.Bool.{true, false}
+use mathlib.Core.Option.{Option, some}
 use native.Mathlib.Omega.{arith}
-use lib.Dec.{eqb}
 use lib.ListN.{length, getD, take}
-use borrow.Author.Tests.{eq-eqb, ne-eqb}
 use Rattle.lent.specs.Fit.{cap, wide, more, Stored, Noted}
 use Rattle.lent.proofs.Laws.{more-more}
 use Rattle.format.specs.Sections.{jobOf}
-use Rattle.format.specs.Ask.{loopOf, plannedOf, identifierOf, stepOf}
-use Rattle.segment.specs.Parts.{pick}
+use Rattle.format.specs.Ask.{loopOf, plannedOf, identifierOf, stepOf, maxOf, dataOf}
+use Rattle.format.specs.Refusal.{separators, unfit}
+use Rattle.column.specs.Cell.{orNull, cellOf}
+use Rattle.column.specs.declared.Cell.{Cell as CellRead}
+use Rattle.column.specs.Answers.{cellAt, Reads}
+use Rattle.texts.specs.declared.render.Max.{Max}
 use Rattle.spec.specs.declared.ids.Stretch.{Stretch}
 use Rattle.spec.specs.declared.ids.LoopId.{LoopId}
 use Rattle.spec.specs.declared.ids.TableId.{TableId}
-use Rattle.spec.specs.Answers.{stretchOf, numberOf, Holds}
+use Rattle.spec.specs.Answers.{Holds}
 use Rattle.plan.specs.declared.answers.ElementPlan.{ElementPlan as Element}
-use Rattle.plan.specs.declared.answers.ValueSource.the-variants.{Column, Group, Code}
 use Rattle.plan.specs.Answers.{elementOf}
 use Rattle.plan.specs.Elements.{Elements}
 use Rattle.nest.specs.Ready.{Ready}
+use Rattle.nest.specs.Finding.{Origin, Place, cell}
 use Rattle.emit.specs.declared.state.Counts.{Counts}
-use Rattle.emit.specs.Puts.{Put, andPut, nothing, putCell, putText, chunkPut}
-use Rattle.emit.specs.Written.{wordsOf}
+use Rattle.emit.specs.Puts.{Put, andPut, maxIn, cellText, placeOf, heldIn, delimited, putCell, chunkPut}
+use Rattle.emit.specs.Written.{wordsOf, isOwn}
 use Rattle.emit.specs.Fold.{fillOut}
 use Rattle.emit.specs.Did.{stateOf, tracedWords, stopWords, DidCounts, Within}
 use Rattle.emit.proofs.NameLaws.{name-short, holds-length}
-use Rattle.emit.proofs.FindingLaws.{none-stored, stored-findings}
+use Rattle.emit.proofs.FindingLaws.{none-stored, stored-findings, none-found}
+use Rattle.emit.proofs.Plain.{own-textual, textual-free}
 use Rattle.repeat_segment.specs.declared.planned.Planned.{Planned}
-use Rattle.repeat_segment.specs.Planned.{plansOf, idOf, Of, Along, Read}
+use Rattle.repeat_segment.specs.Planned.{plansOf, Of, Along, Read}
 use Rattle.repeat_segment.specs.Places.{elementPut, rowPuts}
-use Rattle.repeat_segment.specs.Filled.{Filled}
+use Rattle.repeat_segment.specs.Filled.{Filled, foundOn}
 use Rattle.repeat_segment.proofs.Limits.{element-small, step-small}
 use Rattle.repeat_segment.proofs.Steps.{take-next, take-end, along-first, row-snoc}
 
@@ -58,6 +61,19 @@ planned-of b idx l i t k step first count id w e h q x n =
     }
 
 -- ---- one element
+
+-- a text of its own has no finding but its reason
+pub own-quiet : (b : List ℕ) (c : CellRead) (max : Max) (bs : List ℕ) → unfit (jobOf b) ≡ false → bs ≡ separators ((jobOf b) .envelope) → isOwn c ≡ true → (cellText (orNull (cellAt b c)) max) .reason ≤ 0
+    → (o : Origin) (p : Place) → foundOn o p (cellText (orNull (cellAt b c)) max) bs ≡ []
+own-quiet b c max bs fit q e h o p =
+    let x = cellText (orNull (cellAt b c)) max in
+    let z : heldIn o p (x .text) 0 bs ≡ [] = rw q (textual-free (jobOf b) fit o p (x .text) (own-textual b c max e)) in
+    none-found o p (x .reason) (x .text) bs h z
+
+pub quiet-cell : {c : CellRead} (b id : List ℕ) (e : ℕ) (k : Option ℕ) (t column r : ℕ) (bs : List ℕ) → Reads b c (some (cellOf (dataOf (jobOf b) t) column r)) → bs ≡ separators ((jobOf b) .envelope)
+    → ((o : Origin) (p : Place) (max : Max) → foundOn o p (cellText (orNull (cellAt b c)) max) bs ≡ []) → (putCell (jobOf b) id e k t column r) .findings ≡ []
+unfolding putCell delimited
+quiet-cell b id e k t column r bs h q f = rw (h .cell, q) at (f (cell t r column) (placeOf id e k) (maxIn (maxOf (jobOf b) id e k)))
 
 pub no-finding : {d : List ℕ} {at n : ℕ} (p : Put) → p .findings ≡ [] → n ≡ more at 0 → Noted d at (wordsOf (p .findings)) n d
 no-finding p h e = rw h (none-stored e)

@@ -22,7 +22,10 @@ use Rattle.spec.specs.declared.ids.Number.the-variants.{Is}
 use Rattle.spec.specs.Answers.{numberOf}
 use Rattle.plan.specs.declared.answers.ElementPlan.{ElementPlan as Element}
 use Rattle.plan.specs.Answers.{elementOf}
-use Rattle.emit.specs.Puts.{Put, partAt}
+use Rattle.texts.specs.declared.Text.{Text}
+use Rattle.texts.specs.Held.{held}
+use Rattle.emit.specs.Puts.{Put}
+use Rattle.emit.proofs.TextLaws.{held-text}
 use Rattle.repeat_segment.specs.declared.planned.Planned.{Planned}
 use Rattle.repeat_segment.specs.Planned.{plansOf, idOf, Of, Along, Read}
 use Rattle.repeat_segment.specs.Places.{placeIn, textIn, elementPut, rowPuts, partsFrom, partsOf}
@@ -58,9 +61,14 @@ module _ (b : List ℕ) (s : Planned) (k r : ℕ) (x : ElementPlan) where
   pub fed-nowhere : {sep : Separators} {pen : Pen} {d : List ℕ} → placeIn (s .step) k x ≡ none → Fed sep ((elementPut b s k r x) .parts) pen d pen d
   fed-nowhere h = rw (element-parts b s k r x, h) done
 
-  pub fed-there : {sep : Separators} {pen t : Pen} {d d₁ text : List ℕ} (m : ℕ) → placeIn (s .step) k x ≡ some m → text ≡ (textIn b s m r x) .text
-      → Penned (placed sep pen m 1 text) (pen .at) t d d₁ → Fed sep ((elementPut b s k r x) .parts) pen d t d₁
-  fed-there m h e w = rw (element-parts b s k r x, h) (part (rw e at w) done)
+  pub fed-there : {sep : Separators} {pen t : Pen} {d d₁ : List ℕ} (m : ℕ) → placeIn (s .step) k x ≡ some m
+      → Penned (placed sep pen m 1 ((textIn b s m r x) .text)) (pen .at) t d d₁ → Fed sep ((elementPut b s k r x) .parts) pen d t d₁
+  fed-there m h w = rw (element-parts b s k r x, h) (part w done)
+
+-- a text of its own is written as a stretch of its bytes
+pub own-part : {r : Pen} {d d₁ : List ℕ} (sep : Separators) (pen : Pen) (p : ℕ) (t : Text) (x : List ℕ) → t ≡ held x → Penned (placed sep pen p 1 (take (t .len) (t .bytes))) (pen .at) r d d₁
+    → Penned (placed sep pen p 1 x) (pen .at) r d d₁
+own-part sep pen p t x h w = rw (held-text t x h) at w
 
 -- ---- the planned elements of a row
 

@@ -2,6 +2,7 @@
 use crate::places;
 use crate::places::Source;
 use crate::planned::Planned;
+use column::Cell;
 use emit::cells;
 use emit::findings;
 use emit::findings::Delimiters;
@@ -14,21 +15,26 @@ use plan::read;
 use spec::ids::Number;
 use spec::ids::RowId;
 ghost use mathlib.Core.Path.{_≡_};
-ghost use mathlib.Core.List.{List};
+ghost use mathlib.Core.Bool.{true};
+ghost use mathlib.Core.List.{List, []};
 ghost use Prim.Native.Nat.{ℕ, _≤_, _<_};
 ghost use Rattle.lent.specs.Fit.{Noted};
 ghost use Rattle.format.specs.Sections.{jobOf};
+ghost use Rattle.format.specs.Passed.{Passed};
 ghost use Rattle.format.specs.Refusal.{separators};
+ghost use Rattle.column.specs.Cell.{orNull};
+ghost use Rattle.column.specs.Answers.{cellAt};
+ghost use Rattle.texts.specs.declared.render.Max.{Max};
 ghost use Rattle.spec.specs.Answers.{numberOf};
 ghost use Rattle.plan.specs.Answers.{elementOf};
 ghost use Rattle.nest.specs.Ready.{Ready};
-ghost use Rattle.nest.specs.Finding.{cell};
-ghost use Rattle.emit.specs.Puts.{placeOf, putCell};
+ghost use Rattle.nest.specs.Finding.{Origin, Place, cell};
+ghost use Rattle.emit.specs.Puts.{cellText, placeOf, putCell};
 ghost use Rattle.emit.specs.Written.{wordsOf, spotOf, tried};
 ghost use Rattle.emit.specs.Did.{Within};
 ghost use Rattle.repeat_segment.specs.Planned.{Of, idOf, plansOf};
 ghost use Rattle.repeat_segment.specs.Places.{sourceIn, entriesIn, putAt, elementPut, rowPuts};
-ghost use Rattle.repeat_segment.specs.Filled.{Filled};
+ghost use Rattle.repeat_segment.specs.Filled.{Filled, foundOn};
 
 fn spot_of(job: &[u8], s: Planned, p: u32, component: Number, column: u32, r: RowId) -> Spot
     requires { ⌜ Of (now job) s ⌝ }
@@ -47,8 +53,29 @@ fn spot_of(job: &[u8], s: Planned, p: u32, component: Number, column: u32, r: Ro
     }
 }
 
+// Whether a cell has no finding wherever it stands: null, a number, or bytes that hold no separator.
+fn quiet(job: &[u8], cell: Cell, d: Delimiters) -> bool
+    requires { ⌜ Passed (now job) × (tried d ≡ separators (jobOf (now job) .envelope)) ⌝ }
+    ensures { λ q. ⌜ ((o : Origin) (p : Place) (max : Max) → q ≡ true → foundOn o p (cellText (orNull (cellAt (now (job .entry)) cell)) max) (tried d) ≡ []) ⌝ }
+{
+    match cell {
+        Cell::None => true,
+        Cell::Null => true,
+        Cell::Bytes(start, len) => {
+            if findings::stretch_holds(job, start, len, d) {
+                return false;
+            }
+            true
+        }
+        Cell::Int(_) => true,
+        Cell::Wide(_, _, _) => true,
+        Cell::Days(_) => false,
+        Cell::Seconds(_) => false,
+    }
+}
+
 // The findings on the text of a cell at element p.
-fn note_cell(
+fn note_text(
     job: &[u8],
     index: &[u32],
     findings: &mut [u64],
@@ -70,6 +97,30 @@ fn note_cell(
     }
     let w = spot_of(job, s, p, component, column, r);
     findings::note_cell(findings, at, job, x, w, d)
+}
+
+// The findings on a cell at element p; its text is made only where it may have one.
+fn note_cell(
+    job: &[u8],
+    index: &[u32],
+    findings: &mut [u64],
+    at: usize,
+    s: Planned,
+    d: Delimiters,
+    p: u32,
+    component: Number,
+    column: u32,
+    r: RowId,
+) -> usize
+    requires { ⌜ Ready (now job) (now index) × Of (now job) s × (tried d ≡ separators (jobOf (now job) .envelope)) ⌝ }
+    ensures { λ n. ⌜ Noted (now (findings .entry)) at
+        (wordsOf ((putCell (jobOf (now (job .entry))) (idOf (now (job .entry)) s) p (numberOf component) (s .table .0) column (r .0)) .findings)) n (now (findings .exit)) ⌝ }
+{
+    let cell = tables::data::cell(job, index, s.table, column, r);
+    if quiet(job, cell, d) {
+        return lent::more(at, 0);
+    }
+    note_text(job, index, findings, at, s, d, p, component, column, r)
 }
 
 // The findings on a planned element at p.

@@ -1,24 +1,36 @@
 // Segments whose parts are plain and come, row by row, in the order of their places: texts are written as they come.
 use crate::places;
+use crate::places::Source;
 use crate::planned::Planned;
+use column::Cell;
+use emit::cells;
 use plan::answers::ElementPlan;
 use plan::read;
 use segment::Pen;
 use segment::Separators;
 use spec::ids::Number;
 use spec::ids::RowId;
+use texts::Text;
 ghost use mathlib.Core.Path.{_≡_};
 ghost use mathlib.Core.Bool.{true};
 ghost use mathlib.Core.List.{List};
 ghost use Prim.Native.Nat.{ℕ, _≤_, _<_};
 ghost use lib.ListN.{length};
 ghost use Rattle.lent.specs.Fit.{Stored};
+ghost use Rattle.format.specs.Sections.{jobOf};
+ghost use Rattle.format.specs.Ask.{maxOf};
+ghost use Rattle.column.specs.Cell.{orNull};
+ghost use Rattle.column.specs.Answers.{cellAt};
+ghost use Rattle.texts.specs.Held.{held};
 ghost use Rattle.segment.specs.Parts.{joined, sorted};
+ghost use Rattle.segment.specs.Pen.{placed, Penned};
 ghost use Rattle.spec.specs.Answers.{numberOf};
 ghost use Rattle.plan.specs.Answers.{elementOf};
 ghost use Rattle.nest.specs.Ready.{Ready};
+ghost use Rattle.emit.specs.Puts.{maxIn, cellText};
+ghost use Rattle.emit.specs.Written.{scaleIn, isOwn};
 ghost use Rattle.repeat_segment.specs.Planned.{Of, idOf, plansOf};
-ghost use Rattle.repeat_segment.specs.Places.{elementPut, rowPuts, partsOf};
+ghost use Rattle.repeat_segment.specs.Places.{textIn, elementPut, rowPuts, partsOf};
 ghost use Rattle.repeat_segment.specs.Order.{Ends, Ordered, Fed};
 
 // ---- the order
@@ -95,6 +107,98 @@ pub fn in_order(job: &[u8], s: Planned, count: u32) -> bool
 
 // ---- the texts
 
+// A text of its own at element p.
+fn put_own(doc: &mut [u8], sep: Separators, pen: Pen, p: u32, text: Text) -> Pen
+    ensures { λ t. ⌜ ((x : List ℕ) → text ≡ held x → Penned (placed sep pen p 1 x) (pen .at) t (now (doc .entry)) (now (doc .exit))) ⌝ }
+{
+    let bytes = text.bytes;
+    segment::part(doc, &bytes, sep, pen, p as usize, 1, 0, text.len)
+}
+
+// The text of a date or a time at element p.
+fn put_said(
+    doc: &mut [u8],
+    job: &[u8],
+    index: &[u32],
+    sep: Separators,
+    s: Planned,
+    pen: Pen,
+    p: u32,
+    c: Number,
+    cell: Cell,
+) -> Pen
+    requires { ⌜ Ready (now job) (now index) × Of (now job) s × (scaleIn cell ≤ 38) × (isOwn cell ≡ true) ⌝ }
+    ensures { λ t. ⌜ Penned (placed sep pen p 1 ((cellText (orNull (cellAt (now (job .entry)) cell)) (maxIn (maxOf (jobOf (now (job .entry))) (idOf (now (job .entry)) s) p (numberOf c)))) .text))
+        (pen .at) t (now (doc .entry)) (now (doc .exit)) ⌝ }
+{
+    let said = cells::own_text(job, index, s.id, p, c, cell);
+    let text = said.text;
+    put_own(doc, sep, pen, p, text)
+}
+
+// The text of a cell at element p.
+fn put_cell(
+    doc: &mut [u8],
+    job: &[u8],
+    index: &[u32],
+    sep: Separators,
+    s: Planned,
+    pen: Pen,
+    p: u32,
+    c: Number,
+    cell: Cell,
+) -> Pen
+    requires { ⌜ Ready (now job) (now index) × Of (now job) s × (scaleIn cell ≤ 38) ⌝ }
+    ensures { λ t. ⌜ Penned (placed sep pen p 1 ((cellText (orNull (cellAt (now (job .entry)) cell)) (maxIn (maxOf (jobOf (now (job .entry))) (idOf (now (job .entry)) s) p (numberOf c)))) .text))
+        (pen .at) t (now (doc .entry)) (now (doc .exit)) ⌝ }
+{
+    match cell {
+        Cell::None => segment::part(doc, job, sep, pen, p as usize, 1, 0, 0),
+        Cell::Null => segment::part(doc, job, sep, pen, p as usize, 1, 0, 0),
+        Cell::Bytes(start, len) => segment::part(doc, job, sep, pen, p as usize, 1, start, len),
+        Cell::Int(bits) => put_own(doc, sep, pen, p, cells::int_text(bits)),
+        Cell::Wide(lo, hi, scale) => put_own(doc, sep, pen, p, cells::decimal_text(lo, hi, scale)),
+        Cell::Days(_) => put_said(doc, job, index, sep, s, pen, p, c, cell),
+        Cell::Seconds(_) => put_said(doc, job, index, sep, s, pen, p, c, cell),
+    }
+}
+
+// The text of a planned element at p.
+fn put_source(
+    doc: &mut [u8],
+    job: &[u8],
+    index: &[u32],
+    sep: Separators,
+    s: Planned,
+    pen: Pen,
+    e: ElementPlan,
+    p: u32,
+    r: RowId,
+) -> Pen
+    requires { ⌜ Ready (now job) (now index) × Of (now job) s ⌝ }
+    ensures { λ t. ⌜ Penned (placed sep pen p 1 ((textIn (now (job .entry)) s p (r .0) (elementOf (now (job .entry)) e)) .text)) (pen .at) t (now (doc .entry)) (now (doc .exit)) ⌝ }
+{
+    let v = e.value;
+    let c = e.component;
+    let source = places::source_of(v);
+    match source {
+        Source::Cell(n) => {
+            let cell = tables::data::cell(job, index, s.table, n, r);
+            put_cell(doc, job, index, sep, s, pen, p, c, cell)
+        }
+        Source::Code(code) => segment::part(
+            doc,
+            job,
+            sep,
+            pen,
+            p as usize,
+            1,
+            code.start,
+            code.len,
+        ),
+    }
+}
+
 // The text of a planned element for row number k, if it has a place.
 fn put_element(
     doc: &mut [u8],
@@ -113,11 +217,7 @@ fn put_element(
     let place = places::place_of(e, s.step, k);
     match place {
         Number::None => pen,
-        Number::Is(p) => {
-            let w = places::text(job, index, s, e, p, r);
-            let v = w.value;
-            segment::element(doc, job, sep, pen, p as usize, v)
-        }
+        Number::Is(p) => { put_source(doc, job, index, sep, s, pen, e, p, r) }
     }
 }
 

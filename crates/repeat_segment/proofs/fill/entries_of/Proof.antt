@@ -5,7 +5,7 @@ use Rattle.plan.specs.Answers.{elementOf}
 use Rattle.spec.specs.Answers.{numberOf}
 use Rattle.emit.specs.Puts.{Put}
 use mathlib.Core.Path.{_≡_, sym, ap, _∙_}
-use mathlib.Core.Option.{none, some}
+use mathlib.Core.Option.{none}
 use borrow.Author.Needs.{needs}
 use Rattle.repeat_segment.proofs.fill.entries_of.Statement.{statement}
 use Rattle.repeat_segment.proofs.fill.entries_of.Tie as tie

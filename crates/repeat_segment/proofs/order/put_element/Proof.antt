@@ -17,14 +17,8 @@ enum-told c = search needs
 enum-known-place : tie.Need-enum-known-place
 enum-known-place c = search needs
 
-text-requires : tie.Need-text-requires
-text-requires c κs = search needs
-
-cast-element : tie.Need-cast-element
-cast-element c = search needs
-
-element-requires : tie.Need-element-requires
-element-requires c κs = search needs
+put-source-requires : tie.Need-put-source-requires
+put-source-requires c κs = search needs
 
 returns : tie.Need-returns
 returns c = let a = c .before .before .before .before .before .before .args in let j = now (a .job) in fed-nowhere j (a .s) (a .k) (a .r .0) (elementOf j (a .e)) (sym (c .before .before .place-of .ensures j) ∙ ap numberOf (c .enum-told .given .1))
@@ -33,7 +27,7 @@ same-length : tie.Need-same-length
 same-length c = search needs
 
 returns-2 : tie.Need-returns-2
-returns-2 c = let a = c .before .before .before .before .before .before .before .before .before .before .before .before .before .args in let j = now (a .job) in fed-there j (a .s) (a .k) (a .r .0) (elementOf j (a .e)) _ (sym (c .before .before .before .before .before .before .before .before .before .place-of .ensures j) ∙ ap numberOf (c .before .before .before .before .before .before .before .place .given .1)) (c .before .before .before .before .before .text .ensures .text) (c .before .before .element .ensures)
+returns-2 c = let a = c .before .before .before .before .before .before .before .before .before .before .before .args in let j = now (a .job) in fed-there j (a .s) (a .k) (a .r .0) (elementOf j (a .e)) _ (sym (c .before .before .before .before .before .before .before .place-of .ensures j) ∙ ap numberOf (c .before .before .before .before .before .place .given .1)) (c .before .before .put-source .ensures)
 
 pub put-element-spec : {M : Type 1} → statement M
 put-element-spec =
@@ -42,9 +36,7 @@ put-element-spec =
     place-of-requires
     enum-told
     enum-known-place
-    text-requires
-    cast-element
-    element-requires
+    put-source-requires
     returns
     same-length
     returns-2)
