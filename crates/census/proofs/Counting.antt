@@ -28,7 +28,8 @@ use Rattle.walk.proofs.ContextLaws.{stands-outside}
 use Rattle.walk.proofs.NestedLaws.{sound-outside}
 use Rattle.instances.specs.declared.Cursor.{Cursor}
 use Rattle.instances.specs.declared.Next.{Next}
-use Rattle.instances.specs.Cursor.{coming, Going, Came}
+use Rattle.instances.specs.Cursor.{coming, Going, contextIn, behind, Came}
+use Rattle.instances.proofs.Cursors.{came-in}
 use Rattle.census.specs.Entered.{enteredBy, enteredBelow, enteredWith}
 
 -- ---- the loops of an order, from place i on
@@ -115,13 +116,13 @@ module _ (o : Outline) (nest : List ℕ) (h l n : ℕ) (from : Cursor) (m : ℕ)
         omega (arith, over, q, w, s .few)
 
   module _ (r : Next) (came : Came o nest cur r) (z : r .more ≡ true) where
-    pub entered-next : (w k : ℕ) → w ≡ counted m → k ≡ min (w + enteredBelow o (h - 1) l (contextBy (r .context))) tooMany → Entering o nest h l n from k (r .cursor)
-    entered-next w k e g =
-        let q : enteredAt o nest h l cur ≡ suc (enteredBelow o (h - 1) l (contextBy (r .context))) + enteredAt o nest h l (r .cursor) = ap (sum (enteredWith o (h - 1) l)) (came .came z) in
+    pub entered-next : (d : Kept) (w k : ℕ) → d ≡ contextIn cur r → w ≡ counted m → k ≡ min (w + enteredBelow o (h - 1) l (contextBy d)) tooMany → Entering o nest h l n from k (behind cur r)
+    entered-next d w k f e g =
+        let q : enteredAt o nest h l cur ≡ suc (enteredBelow o (h - 1) l (contextBy d)) + enteredAt o nest h l (behind cur r) = ap (sum (enteredWith o (h - 1) l)) (came-in came z f) in
         record { rest = s .rest ∙ omega (arith, q, e, g, s .few); few = omega (arith, g); going = came .still z }
 
-    pub entered-less : length (coming o nest (r .cursor)) < length (coming o nest cur)
-    entered-less = let q : length (coming o nest cur) ≡ suc (length (coming o nest (r .cursor))) = ap length (came .came z) in omega (arith, q)
+    pub entered-less : length (coming o nest (behind cur r)) < length (coming o nest cur)
+    entered-less = let q : length (coming o nest cur) ≡ suc (length (coming o nest (behind cur r))) = ap length (came .came z) in omega (arith, q)
 
 -- ---- the roots, from place i on
 

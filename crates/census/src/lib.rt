@@ -58,10 +58,12 @@ fn entered(
         let next = instances::next_instance(job, index, nest, cur);
         let more = next.more;
         if more {
-            let inner = next.context;
+            let inner = instances::context_in(cur, next);
             let with = walk::one_more(m);
             m = below(job, index, nest, l, inner, height - 1, with);
-            cur = next.cursor;
+            cur.kind = next.kind;
+            cur.seen = next.seen;
+            cur.next = next.next;
         } else {
             return m;
         }

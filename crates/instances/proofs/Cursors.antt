@@ -14,14 +14,14 @@ use Rattle.nest.proofs.Scan.{keep-alike}
 use Rattle.spec.specs.declared.ids.LoopId.{LoopId}
 use Rattle.walk.specs.declared.Context.{Context as Kept}
 use Rattle.walk.specs.Instances.{Context, Run, Piece, heldBy, pieces, at, offset, inRow, inPiece}
-use Rattle.walk.specs.Contexts.{contextBy, startBy, keptRow, keptPiece}
+use Rattle.walk.specs.Contexts.{contextBy, keptRow, keptPiece}
 use Rattle.walk.specs.Nested.{Sound}
 use Rattle.walk.proofs.ContextLaws.{stands-start, stands-in-row, stands-in-piece}
 use Rattle.walk.proofs.RowLaws.{held-apart}
 use Rattle.instances.specs.declared.Cursor.{Cursor}
 use Rattle.instances.specs.declared.Next.{Next}
 use Rattle.instances.specs.declared.rows.RowAhead.{RowAhead}
-use Rattle.instances.specs.Cursor.{passes, startOf, left, piecesAt, runs, coming, Inside, Going, moved, rowless, Here, Ahead, RunEnds, Came}
+use Rattle.instances.specs.Cursor.{passes, startOf, left, piecesAt, runs, coming, Inside, Going, moved, rowless, Here, Ahead, RunEnds, contextIn, behind, Came}
 use Rattle.instances.proofs.Runs.{left-moved}
 
 -- ---- by kind
@@ -75,19 +75,32 @@ module _ (o : Outline) (c : Context) (t r : ℕ) (s : Sound o c) (h : r < rowCou
       begun-at : ℕ → Run → Type 0
       begun-at k p = at t r (c .row) (p .table) ≡ some k → (tableParent o (p .table) ≡ some (p .table) → ⊥) → length (keep (heldBy o (p .table) (at t r (c .row))) (upTo 0 k)) ≡ p .start
 
--- ---- contexts as code keeps them
+-- ---- the context that code makes for an instance
 
-pub in-row-is : (c d : Kept) (t r : ℕ) → t < length (c .rows) → d ≡ keptRow c t r → contextBy d ≡ inRow t (contextBy c) r
-in-row-is c d t r w q = ap contextBy q ∙ stands-in-row c t r w
+module _ (cur : Cursor) (r : Next) where
+  pub made-one : cur .kind ≡ 1 → contextIn cur r ≡ cur .context
+  unfolding contextIn
+  made-one e = rw (eq-eqb (cur .kind) 1 e)
 
-pub in-run-is : (c d : Kept) (t head start end : ℕ) → t < length (c .rows) → d ≡ keptPiece c t head start end
-    → (p : Piece) → p .head ≡ head → start ≡ startBy c t + p .start → end ≡ startBy c t + p .end → contextBy d ≡ inPiece t (contextBy c) p
-in-run-is c d t head start end w q p e f g = ap contextBy (q ∙ rw (← e, f, g)) ∙ stands-in-piece c t p w
+  pub made-row : cur .kind ≡ 2 → contextIn cur r ≡ keptRow (cur .context) (cur .table .0) (r .row .0)
+  unfolding contextIn
+  made-row e = rw (ne-eqb (cur .kind) 1 (λ z. absurd (omega (arith, e, z))), eq-eqb (cur .kind) 2 e)
+
+  pub made-run : (cur .kind ≡ 1 → ⊥) → (cur .kind ≡ 2 → ⊥) → contextIn cur r ≡ keptPiece (cur .context) (cur .table .0) (r .row .0) (r .start) (r .seen)
+  unfolding contextIn
+  made-run d e = rw (ne-eqb (cur .kind) 1 d, ne-eqb (cur .kind) 2 e)
+
+  row-stands : cur .kind ≡ 2 → cur .table .0 < length (cur .context .rows) → contextBy (contextIn cur r) ≡ inRow (cur .table .0) (contextBy (cur .context)) (r .row .0)
+  row-stands e w = ap contextBy (made-row e) ∙ stands-in-row (cur .context) (cur .table .0) (r .row .0) w
+
+  run-stands : 3 ≤ cur .kind → cur .table .0 < length (cur .context .rows) → (p : Piece) → p .head ≡ r .row .0 → r .start ≡ startOf cur + p .start → r .seen ≡ startOf cur + p .end
+      → contextBy (contextIn cur r) ≡ inPiece (cur .table .0) (contextBy (cur .context)) p
+  run-stands k w p e f g = ap contextBy (made-run (λ z. absurd (omega (arith, k, z))) (λ z. absurd (omega (arith, k, z))) ∙ rw (← e, f, g)) ∙ stands-in-piece (cur .context) (cur .table .0) p w
 
 -- ---- the next instance
 
 over : (o : Outline) (n : List ℕ) (cur : Cursor) (r : Next) → r .more ≡ false → coming o n cur ≡ [] → Came o n cur r
-over o n cur r m e = record { ended = λ z. e; came = λ z. absurd (false≢true (sym m ∙ z)); sound = λ z. absurd (false≢true (sym m ∙ z)); still = λ z. absurd (false≢true (sym m ∙ z)) }
+over o n cur r m e = record { ended = λ z. e; came = λ z. absurd (false≢true (sym m ∙ z)); sound = λ z. absurd (false≢true (sym m ∙ z)); still = λ z. absurd (false≢true (sym m ∙ z)); small = λ z. absurd (false≢true (sym m ∙ z)) }
 
 module _ (o : Outline) (n : List ℕ) where
   pub going-rowless : (kind : ℕ) (l : LoopId) (c : Kept) → l .0 < 32 → Sound o (contextBy c) → Going o n (rowless kind l c)
@@ -110,49 +123,59 @@ module _ (o : Outline) (n : List ℕ) where
     pub came-none : (r : Next) → r .more ≡ false → cur .kind ≡ 0 → Came o n cur r
     came-none r m e = over o n cur r m (coming-none o n cur e)
 
-    pub came-one : (d : Cursor) → cur .kind ≡ 1 → Going o n cur → d ≡ rowless 0 (cur .l) (cur .context) → Came o n cur (record { more = true; context = cur .context; cursor = d })
-    came-one d e g q = record {
-      ended = λ z. absurd (false≢true (sym z));
-      came = λ z. coming-one o n cur e ∙ ap (λ xs. contextBy (cur .context) ∷ xs) (sym (coming-none o n d (ap (λ (x : Cursor). x .kind) q)));
-      sound = λ z. g .sound;
-      still = λ z. subst (Going o n) (sym q) (going-rowless 0 (cur .l) (cur .context) (g .a-loop) (g .sound));
-    }
-
-    -- a `Rows` loop
-    pub rows-over : (a : RowAhead) (r : Next) → r .more ≡ false → cur .kind ≡ 2 → Ahead n cur a → a .more ≡ false → Came o n cur r
-    rows-over a r m e h f = over o n cur r m (coming-rows o n cur e ∙ ap (map (inRow (cur .table .0) (contextBy (cur .context)))) (h .over f))
-
-    pub came-row : (a : RowAhead) (d : Kept) (next : Cursor) → cur .kind ≡ 2 → Going o n cur → Here n cur a
-        → contextBy d ≡ inRow (cur .table .0) (contextBy (cur .context)) (a .row .0) → next ≡ moved cur (a .seen) (a .next) → Came o n cur (record { more = true; context = d; cursor = next })
-    came-row a d next e g h stands p =
-        let t : ℕ = cur .table .0 in
-        let c : Context = contextBy (cur .context) in
+    pub came-one : cur .kind ≡ 1 → Going o n cur → Came o n cur (record { more = true; kind = 0; row = record { 0 = 0 }; start = 0; seen = 0; next = 0 })
+    came-one e g =
+        let r : Next = record { more = true; kind = 0; row = record { 0 = 0 }; start = 0; seen = 0; next = 0 } in
         record {
           ended = λ z. absurd (false≢true (sym z));
-          came = λ z. coming-rows o n cur e ∙ ap (map (inRow t c)) (h .rest)
-              ∙ ap₂ (λ x xs. x ∷ xs) (sym stands) (ap (map (inRow t c)) (sym (left-moved n cur (a .seen) (a .next) (a .seen) (a .next))) ∙ sym (coming-rows o n (moved cur (a .seen) (a .next)) e) ∙ ap (coming o n) (sym p));
-          sound = λ z. subst (Sound o) (sym stands) (sound-in-row o c t (a .row .0) (g .sound) (omega (arith, h .exists, g .there)));
-          still = λ z. subst (Going o n) (sym p) (going-moved cur (a .seen) (a .next) g (h .inner));
+          came = λ z. coming-one o n cur e ∙ ap₂ (λ x xs. x ∷ xs) (ap contextBy (sym (made-one cur r e))) (sym (coming-none o n (behind cur r) refl));
+          sound = λ z. subst (λ d. Sound o (contextBy d)) (sym (made-one cur r e)) (g .sound);
+          still = λ z. record {
+            inner = record { room = g .inner .room; few = g .inner .few; small = g .inner .small; counted = refl; behind = omega arith; within = omega arith };
+            a-table = g .a-table;
+            a-loop = g .a-loop;
+            there = g .there;
+            list = g .list;
+            sound = g .sound;
+          };
+          small = λ z. omega arith;
+        }
+
+    -- a `Rows` loop
+    pub came-rows : (a : RowAhead) → cur .kind ≡ 2 → cur .table .0 < length (cur .context .rows) → Going o n cur → Ahead n cur a
+        → Came o n cur (record { more = a .more; kind = cur .kind; row = a .row; start = 0; seen = a .seen; next = a .next })
+    came-rows a e w g ahead =
+        let t : ℕ = cur .table .0 in
+        let c : Context = contextBy (cur .context) in
+        let r : Next = record { more = a .more; kind = cur .kind; row = a .row; start = 0; seen = a .seen; next = a .next } in
+        let stands : contextBy (contextIn cur r) ≡ inRow t c (a .row .0) = row-stands cur r e w in
+        record {
+          ended = λ z. coming-rows o n cur e ∙ ap (map (inRow t c)) (ahead .over z);
+          came = λ z. coming-rows o n cur e ∙ ap (map (inRow t c)) (ahead .row z .rest)
+              ∙ ap₂ (λ x xs. x ∷ xs) (sym stands) (ap (map (inRow t c)) (sym (left-moved n cur (a .seen) (a .next) (a .seen) (a .next))) ∙ sym (coming-rows o n (moved cur (a .seen) (a .next)) e));
+          sound = λ z. subst (Sound o) (sym stands) (sound-in-row o c t (a .row .0) (g .sound) (omega (arith, ahead .row z .exists, g .there)));
+          still = λ z. going-moved cur (a .seen) (a .next) g (ahead .row z .inner);
+          small = λ z. omega (arith, ahead .row z .exists, g .inner .few);
         }
 
     -- a `Groups` loop
     pub runs-over : (a : RowAhead) (r : Next) → r .more ≡ false → 3 ≤ cur .kind → Ahead n cur a → a .more ≡ false → Came o n cur r
     runs-over a r m e h f = over o n cur r m (coming-runs o n cur e ∙ ap (λ xs. map (inPiece (cur .table .0) (contextBy (cur .context))) (piecesAt (o .sameGroup (cur .l .0)) (cur .seen - startOf cur) xs)) (h .over f))
 
-    pub came-run : (a e : RowAhead) (first : Cursor) (d : Kept) (next : Cursor) → 3 ≤ cur .kind → Going o n cur → Here n cur a → first ≡ moved cur (a .seen) (a .next) → RunEnds o n first (a .row .0) e
-        → ((p : Piece) → p .head ≡ a .row .0 → a .seen - 1 ≡ startOf cur + p .start → e .seen ≡ startOf cur + p .end → contextBy d ≡ inPiece (cur .table .0) (contextBy (cur .context)) p) → next ≡ moved cur (e .seen) (e .next)
-        → Came o n cur (record { more = true; context = d; cursor = next })
-    came-run a e first d next k g h f run₀ q p =
+    pub came-run : (a e : RowAhead) (first : Cursor) → 3 ≤ cur .kind → cur .table .0 < length (cur .context .rows) → Going o n cur → Here n cur a → first ≡ moved cur (a .seen) (a .next) → RunEnds o n first (a .row .0) e
+        → Came o n cur (record { more = true; kind = cur .kind; row = a .row; start = a .seen - 1; seen = e .seen; next = e .next })
+    came-run a e first k w g h f run₀ =
         let t : ℕ = cur .table .0 in
         let c : Context = contextBy (cur .context) in
         let same : ℕ → ℕ → Bool = o .sameGroup (cur .l .0) in
         let run : RunEnds o n (moved cur (a .seen) (a .next)) (a .row .0) e = subst (λ (x : Cursor). RunEnds o n x (a .row .0) e) f run₀ in
         let start : ℕ = cur .seen - startOf cur in
         let it : Piece = record { head = a .row .0; start = start; end = e .seen - startOf cur } in
+        let r : Next = record { more = true; kind = cur .kind; row = a .row; start = a .seen - 1; seen = e .seen; next = e .next } in
         let on : a .seen ≤ e .seen = run .on in
         let from-here : a .seen - 1 ≡ startOf cur + start = omega (arith, h .place) in
         let to-there : e .seen ≡ startOf cur + (e .seen - startOf cur) = omega (arith, h .place, on) in
-        let stands : contextBy d ≡ inPiece t c it = q it refl from-here to-there in
+        let stands : contextBy (contextIn cur r) ≡ inPiece t c it = run-stands cur r k w it refl from-here to-there in
         let same-list = keep-alike (heldBy o t (c .row)) (passes n (cur .base) (cur .above)) 0 (a .row .0) (λ r x. sym (g .list r (omega (arith, x, h .exists)))) in
         let before : length (keep (heldBy o t (c .row)) (upTo 0 (a .row .0))) ≡ offset t (c .run) + start =
         ap length same-list ∙ omega (arith, h .before, from-here) ∙ ap (λ m. m + start) (sym (stands-start (cur .context) t)) in
@@ -164,7 +187,16 @@ module _ (o : Outline) (n : List ℕ) where
         record {
           ended = λ z. absurd (false≢true (sym z));
           came = λ z. coming-runs o n cur k ∙ ap (map (inPiece t c)) all
-              ∙ ap₂ (λ x xs. x ∷ xs) (sym stands) (sym (coming-runs o n (moved cur (e .seen) (e .next)) k) ∙ ap (coming o n) (sym p));
+              ∙ ap₂ (λ x xs. x ∷ xs) (sym stands) (sym (coming-runs o n (moved cur (e .seen) (e .next)) k));
           sound = λ z. subst (Sound o) (sym stands) (sound-in-piece o c t (a .row .0) (g .sound) (omega (arith, h .exists, g .there)) start (e .seen - startOf cur) before);
-          still = λ z. subst (Going o n) (sym p) (going-moved cur (e .seen) (e .next) g (run .inner));
+          still = λ z. going-moved cur (e .seen) (e .next) g (run .inner);
+          small = λ z. omega (arith, h .exists, g .inner .few);
         }
+
+-- an instance in the context that was made for it
+module _ {o : Outline} {n : List ℕ} {cur : Cursor} {r : Next} (w : Came o n cur r) (z : r .more ≡ true) {d : Kept} (e : d ≡ contextIn cur r) where
+  pub came-in : coming o n cur ≡ contextBy d ∷ coming o n (behind cur r)
+  came-in = w .came z ∙ ap (λ x. contextBy x ∷ coming o n (behind cur r)) (sym e)
+
+  pub sound-in : Sound o (contextBy d)
+  sound-in = subst (λ x. Sound o (contextBy x)) (sym e) (w .sound z)

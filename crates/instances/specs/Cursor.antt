@@ -11,7 +11,7 @@ use Rattle.nest.specs.Found.{nestAt}
 use Rattle.nest.specs.Outline.{Outline, Kind, rows, absent, envelope, implied, inside, groups, rowCount, tableParent}
 use Rattle.walk.specs.declared.Context.{Context as Kept}
 use Rattle.walk.specs.Instances.{Context, Piece, heldBy, pieces, piecesOf, inRow, inPiece, rowsIn, shown, instances}
-use Rattle.walk.specs.Contexts.{contextBy, startBy, endBy}
+use Rattle.walk.specs.Contexts.{contextBy, startBy, endBy, keptRow, keptPiece}
 use Rattle.walk.specs.Nested.{Sound}
 use Rattle.spec.specs.declared.ids.LoopId.{LoopId}
 use Rattle.spec.specs.declared.ids.TableId.{TableId}
@@ -159,8 +159,30 @@ pub record RunEnds (o : Outline) (n : List ℕ) (cur : Cursor) (head : ℕ) (r :
 
 -- ---- the next instance
 
+-- the context that code makes for it
+unfoldable pub contextIn : Cursor → Next → Kept
+contextIn cur r =
+    cond (eqb (cur .kind) 1) (cur .context)
+    (cond (eqb (cur .kind) 2) (keptRow (cur .context) (cur .table .0) (r .row .0))
+    (keptPiece (cur .context) (cur .table .0) (r .row .0) (r .start) (r .seen)))
+
+-- the cursor behind it
+abbrev pub behind : Cursor → Next → Cursor
+behind cur r = record {
+  kind = r .kind;
+  l = cur .l;
+  table = cur .table;
+  context = cur .context;
+  base = cur .base;
+  rows = cur .rows;
+  above = cur .above;
+  seen = r .seen;
+  next = r .next;
+}
+
 pub record Came (o : Outline) (n : List ℕ) (cur : Cursor) (r : Next) : Type 0 where
   pub ended : r .more ≡ false → coming o n cur ≡ []
-  pub came : r .more ≡ true → coming o n cur ≡ contextBy (r .context) ∷ coming o n (r .cursor)
-  pub sound : r .more ≡ true → Sound o (contextBy (r .context))
-  pub still : r .more ≡ true → Going o n (r .cursor)
+  pub came : r .more ≡ true → coming o n cur ≡ contextBy (contextIn cur r) ∷ coming o n (behind cur r)
+  pub sound : r .more ≡ true → Sound o (contextBy (contextIn cur r))
+  pub still : r .more ≡ true → Going o n (behind cur r)
+  pub small : r .more ≡ true → r .row .0 < 4096

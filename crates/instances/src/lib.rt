@@ -7,7 +7,7 @@ ghost use Rattle.nest.specs.Ready.{outlineAt};
 ghost use Rattle.walk.specs.Nested.{Nested, Sound};
 ghost use Rattle.walk.specs.Contexts.{contextBy};
 ghost use Rattle.walk.specs.Instances.{instances};
-ghost use Rattle.instances.specs.Cursor.{coming, Came, Going};
+ghost use Rattle.instances.specs.Cursor.{coming, contextIn, Came, Going};
 use crate::kinds::by_kind;
 use crate::kinds::context_itself;
 use crate::kinds::implied;
@@ -16,6 +16,7 @@ use crate::pieces::next_piece;
 use crate::rows::ended;
 use crate::rows::next_of_rows;
 use spec::ids::LoopId;
+use spec::ids::RowId;
 use spec::ids::TableId;
 use walk::Context;
 
@@ -39,11 +40,32 @@ pub struct Cursor {
     pub table: TableId,
 }
 
-// The next instance, if there is one, and the cursor behind it.
+// The next instance, if there is one: its row, or the first row of its run, and how many of the parent's list stand before the run. Behind it the cursor is
+// of this kind, and stands at `seen` and `next`.
 pub struct Next {
-    pub context: Context,
-    pub cursor: Cursor,
     pub more: bool,
+    pub kind: u32,
+    pub row: RowId,
+    pub start: usize,
+    pub seen: usize,
+    pub next: usize,
+}
+
+// The context of the instance that a cursor gives next.
+pub fn context_in(cur: Cursor, at: Next) -> Context
+    requires { ⌜ (cur .table .0 < 16) × (at .row .0 < 4096) ⌝ }
+    ensures { λ d. ⌜ d ≡ contextIn cur at ⌝ }
+{
+    let c = cur.context;
+    let t = cur.table;
+    let r = at.row;
+    if cur.kind == 1 {
+        return c;
+    }
+    if cur.kind == 2 {
+        return walk::in_row(c, t, r);
+    }
+    walk::in_piece(c, t, r, at.start, at.seen)
 }
 
 // The next of the instances still to come.
@@ -51,17 +73,17 @@ pub fn next_instance(job: &[u8], index: &[u32], nest: &[u32], cur: Cursor) -> Ne
     requires { ⌜ Nested (now job) (now index) (now nest) × Going (outlineAt (now job)) (now nest) cur ⌝ }
     ensures { λ r. ⌜ Came (outlineAt (now (job .entry))) (now (nest .entry)) cur r ⌝ }
 {
-    let c = cur.context;
-    let l = cur.l;
     if cur.kind == 0 {
         return ended();
     }
     if cur.kind == 1 {
-        let over = no_instance(l, c);
         return Next {
             more: true,
-            context: c,
-            cursor: over,
+            kind: 0,
+            row: RowId(0),
+            start: 0,
+            seen: 0,
+            next: 0,
         };
     }
     if cur.kind == 2 {

@@ -2,8 +2,6 @@
 ghost use mathlib.Core.Path.{_≡_};
 ghost use Prim.Native.Nat.{_+_, _≤_, _<_};
 ghost use Rattle.nest.specs.Ready.{Ready, outlineAt};
-ghost use Rattle.walk.specs.Instances.{Piece, inPiece};
-ghost use Rattle.walk.specs.Contexts.{contextBy, startBy};
 ghost use Rattle.instances.specs.Cursor.{Inside, Came, Going, RunEnds};
 use crate::Cursor;
 use crate::Next;
@@ -13,8 +11,6 @@ use crate::rows::moved;
 use crate::rows::next_row;
 use due::same_group;
 use spec::ids::RowId;
-use spec::ids::TableId;
-use walk::Context;
 
 // How far the run of the row `head` goes that the cursor stands in.
 fn run_end(job: &[u8], index: &[u32], nest: &[u32], cur: Cursor, head: RowId) -> RowAhead
@@ -53,33 +49,24 @@ fn run_end(job: &[u8], index: &[u32], nest: &[u32], cur: Cursor, head: RowId) ->
     }
 }
 
-// The context in a run of the cursor's table: its bounds are counted from the start of the parent's list.
-fn run_context(c: Context, t: TableId, head: RowId, start: usize, end: usize) -> Context
-    requires { ⌜ (t .0 < 16) × (head .0 < 4096) ⌝ }
-    ensures { λ d. ⌜ ((p : Piece) → p .head ≡ head .0 → start ≡ startBy c (t .0) + p .start → end ≡ startBy c (t .0) + p .end → contextBy d ≡ inPiece (t .0) (contextBy c) p) ⌝ }
-{
-    walk::in_piece(c, t, head, start, end)
-}
-
 // The next instance of a `Groups` loop. `seen` rows of the parent's list stand before the first of the run.
 pub fn next_piece(job: &[u8], index: &[u32], nest: &[u32], cur: Cursor) -> Next
     requires { ⌜ Ready (now job) (now index) × Going (outlineAt (now job)) (now nest) cur × (3 ≤ cur .kind) ⌝ }
     ensures { λ r. ⌜ Came (outlineAt (now (job .entry))) (now (nest .entry)) cur r ⌝ }
 {
-    let c = cur.context;
-    let t = cur.table;
     let a = next_row(nest, cur);
     let more = a.more;
     if more {
         let head = a.row;
         let first = moved(cur, a.seen, a.next);
         let e = run_end(job, index, nest, first, head);
-        let inner = run_context(c, t, head, a.seen - 1, e.seen);
-        let behind = moved(cur, e.seen, e.next);
         return Next {
             more: true,
-            context: inner,
-            cursor: behind,
+            kind: cur.kind,
+            row: head,
+            start: a.seen - 1,
+            seen: e.seen,
+            next: e.next,
         };
     }
     ended()

@@ -4,16 +4,10 @@ ghost use mathlib.Core.Bool.{false};
 ghost use Prim.Native.Nat.{_+_, _*_, _≤_, _<_};
 ghost use lib.ListN.{length};
 ghost use Rattle.nest.specs.Outline.{Outline};
-ghost use Rattle.walk.specs.Instances.{inRow};
-ghost use Rattle.walk.specs.Contexts.{contextBy};
 ghost use Rattle.instances.specs.Cursor.{passes, Ahead, Inside, Came, Going, moved};
 use crate::Cursor;
 use crate::Next;
-use crate::kinds::no_instance;
-use spec::ids::LoopId;
 use spec::ids::RowId;
-use spec::ids::TableId;
-use walk::Context;
 
 // The next row, if there is one; how many were seen with it, and where to look on.
 pub struct RowAhead {
@@ -90,24 +84,17 @@ pub fn moved(cur: Cursor, seen: usize, next: usize) -> Cursor
     r
 }
 
-// The context in a row of the cursor's table.
-fn row_context(c: Context, t: TableId, r: RowId) -> Context
-    requires { ⌜ (t .0 < 16) × (r .0 < 4096) ⌝ }
-    ensures { λ d. ⌜ contextBy d ≡ inRow (t .0) (contextBy c) (r .0) ⌝ }
-{
-    walk::in_row(c, t, r)
-}
-
 // No instance is left: what stands beside that is not looked at.
 pub fn ended() -> Next
     ensures { λ r. ⌜ r .more ≡ false ⌝ }
 {
-    let c = walk::outside();
-    let over = no_instance(LoopId(0), c);
     Next {
-        context: c,
-        cursor: over,
         more: false,
+        kind: 0,
+        row: RowId(0),
+        start: 0,
+        seen: 0,
+        next: 0,
     }
 }
 
@@ -116,19 +103,14 @@ pub fn next_of_rows(nest: &[u32], cur: Cursor) -> Next
     requires { ⌜ Inside (now nest) cur × (cur .table .0 < 16) × (cur .kind ≡ 2) ⌝ }
     ensures { λ r. ⌜ ((o : Outline) → Going o (now (nest .entry)) cur → Came o (now (nest .entry)) cur r) ⌝ }
 {
-    let c = cur.context;
-    let t = cur.table;
     let a = next_row(nest, cur);
-    let more = a.more;
-    if more {
-        let row = a.row;
-        let inner = row_context(c, t, row);
-        let behind = moved(cur, a.seen, a.next);
-        return Next {
-            more: true,
-            context: inner,
-            cursor: behind,
-        };
+    let row = a.row;
+    Next {
+        more: a.more,
+        kind: cur.kind,
+        row: row,
+        start: 0,
+        seen: a.seen,
+        next: a.next,
     }
-    ended()
 }

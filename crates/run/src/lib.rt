@@ -5,6 +5,7 @@ use crate::segments::Due;
 use crate::segments::segment_due;
 use emit::state::State;
 use emit::state::Taken;
+use instances::context_in;
 use instances::instances;
 use instances::next_instance;
 use plan::answers::Item;
@@ -80,7 +81,7 @@ fn visits(
         let next = next_instance(job, index, nest, cur);
         let more = next.more;
         if more {
-            let d = next.context;
+            let d = context_in(cur, next);
             let w = instance(
                 job,
                 index,
@@ -97,7 +98,9 @@ fn visits(
             t = w.state;
             written += w.written;
             n += 1;
-            cur = next.cursor;
+            cur.kind = next.kind;
+            cur.seen = next.seen;
+            cur.next = next.next;
         } else {
             return tally(t, written, n);
         }

@@ -6,6 +6,7 @@ use Rattle.nest.specs.Ready.{outlineAt}
 use Rattle.plan.specs.Answers.{itemOf}
 use Rattle.walk.specs.Contexts.{contextBy}
 use Rattle.instances.specs.Cursor.{coming}
+use Rattle.instances.proofs.Cursors.{sound-in}
 use Rattle.census.proofs.Small.{order-small}
 use Rattle.census.proofs.Counting.{Below, below-start, below-segment, below-loop, below-end, Entering, entering, entered-deep, entered-past, entered-over, entered-next, entered-less}
 use borrow.Author.Needs.{needs}
@@ -18,6 +19,7 @@ use Rattle.census.proofs.+below+entered.Lts-below as below-lts
 use Rattle.census.proofs.entered.Reads as entered
 use Rattle.census.proofs.entered.Kinds as entered-kinds
 use Rattle.census.proofs.+below+entered.Lts-entered as entered-lts
+use Rattle.instances.proofs.context_in.Reads as context-in-reads
 use Rattle.instances.proofs.instances.Reads as instances-reads
 use Rattle.instances.proofs.next_instance.Reads as next-instance-reads
 use Rattle.plan.proofs.layout.item.Reads as item-reads
@@ -191,6 +193,8 @@ entered-returns : (t : ℕ) → entered-lts.Need-returns (
   instances-reads.Learnt,
   next-instance-reads.Asked,
   next-instance-reads.Learnt,
+  context-in-reads.Asked,
+  context-in-reads.Learnt,
   one-more-reads.Asked,
   one-more-reads.Learnt,
   below-below t,
@@ -203,6 +207,8 @@ entered-instances-requires : (t : ℕ) → entered-lts.Need-instances-requires (
   instances-reads.Learnt,
   next-instance-reads.Asked,
   next-instance-reads.Learnt,
+  context-in-reads.Asked,
+  context-in-reads.Learnt,
   one-more-reads.Asked,
   one-more-reads.Learnt,
   below-below t,
@@ -215,6 +221,8 @@ entered-loop-holds : (t : ℕ) → entered-lts.Need-loop-holds (
   instances-reads.Learnt,
   next-instance-reads.Asked,
   next-instance-reads.Learnt,
+  context-in-reads.Asked,
+  context-in-reads.Learnt,
   one-more-reads.Asked,
   one-more-reads.Learnt,
   below-below t,
@@ -227,6 +235,8 @@ entered-next-instance-requires : (t : ℕ) → entered-lts.Need-next-instance-re
   instances-reads.Learnt,
   next-instance-reads.Asked,
   next-instance-reads.Learnt,
+  context-in-reads.Asked,
+  context-in-reads.Learnt,
   one-more-reads.Asked,
   one-more-reads.Learnt,
   below-below t,
@@ -234,11 +244,27 @@ entered-next-instance-requires : (t : ℕ) → entered-lts.Need-next-instance-re
 ) (entered-at t) entered.Post entered-Inv-loop entered-μ-loop
 entered-next-instance-requires t c κs = (c .before .before .before .before .before .before .before .pre .1 .0, c .before .loop .inv .going)
 
+entered-context-in-requires : (t : ℕ) → entered-lts.Need-context-in-requires (
+  instances-reads.Asked,
+  instances-reads.Learnt,
+  next-instance-reads.Asked,
+  next-instance-reads.Learnt,
+  context-in-reads.Asked,
+  context-in-reads.Learnt,
+  one-more-reads.Asked,
+  one-more-reads.Learnt,
+  below-below t,
+  below.Post,
+) (entered-at t) entered.Post entered-Inv-loop entered-μ-loop
+entered-context-in-requires t c κs = (c .before .before .before .loop .inv .going .a-table, c .before .next-instance .ensures .small (c .if2 .taken))
+
 entered-one-more-requires : (t : ℕ) → entered-lts.Need-one-more-requires (
   instances-reads.Asked,
   instances-reads.Learnt,
   next-instance-reads.Asked,
   next-instance-reads.Learnt,
+  context-in-reads.Asked,
+  context-in-reads.Learnt,
   one-more-reads.Asked,
   one-more-reads.Learnt,
   below-below t,
@@ -251,6 +277,8 @@ entered-sub-below : (t : ℕ) → entered-lts.Need-sub-below (
   instances-reads.Learnt,
   next-instance-reads.Asked,
   next-instance-reads.Learnt,
+  context-in-reads.Asked,
+  context-in-reads.Learnt,
   one-more-reads.Asked,
   one-more-reads.Learnt,
   below-below t,
@@ -263,42 +291,50 @@ entered-below-requires : (t : ℕ) → entered-lts.Need-below-requires (
   instances-reads.Learnt,
   next-instance-reads.Asked,
   next-instance-reads.Learnt,
+  context-in-reads.Asked,
+  context-in-reads.Learnt,
   one-more-reads.Asked,
   one-more-reads.Learnt,
   below-below t,
   below.Post,
 ) (entered-at t) entered.Post entered-Inv-loop entered-μ-loop
-entered-below-requires t c κs = (omega (arith, c .before .before .before .before .before .before .before .before .before .before .before .pre .0, c .before .before .before .before .before .before .before .if1 .left), (c .before .before .before .before .before .before .before .before .before .before .before .pre .1 .0, c .before .before .before .next-instance .ensures .sound (c .before .before .if2 .taken), c .before .before .before .before .before .before .before .before .before .before .before .pre .1 .2, omega (arith, c .one-more .ensures)))
+entered-below-requires t c κs = (omega (arith, c .before .before .before .before .before .before .before .before .before .before .before .pre .0, c .before .before .before .before .before .before .before .if1 .left), (c .before .before .before .before .before .before .before .before .before .before .before .pre .1 .0, sound-in (c .before .before .before .next-instance .ensures) (c .before .before .if2 .taken) (c .before .context-in .ensures), c .before .before .before .before .before .before .before .before .before .before .before .pre .1 .2, omega (arith, c .one-more .ensures)))
 
 entered-loop-less : (t : ℕ) → entered-lts.Need-loop-less (
   instances-reads.Asked,
   instances-reads.Learnt,
   next-instance-reads.Asked,
   next-instance-reads.Learnt,
+  context-in-reads.Asked,
+  context-in-reads.Learnt,
   one-more-reads.Asked,
   one-more-reads.Learnt,
   below-below t,
   below.Post,
 ) (entered-at t) entered.Post entered-Inv-loop entered-μ-loop
-entered-loop-less t c = entered-less _ _ _ _ _ _ _ _ (c .before .before .before .before .before .before .before .loop .inv) _ (c .before .before .before .before .before .next-instance .ensures) (c .before .before .before .before .if2 .taken)
+entered-loop-less t c = entered-less _ _ _ _ _ _ _ _ (c .before .before .before .before .before .before .loop .inv) _ (c .before .before .before .before .next-instance .ensures) (c .before .before .before .if2 .taken)
 
 entered-loop-again : (t : ℕ) → entered-lts.Need-loop-again (
   instances-reads.Asked,
   instances-reads.Learnt,
   next-instance-reads.Asked,
   next-instance-reads.Learnt,
+  context-in-reads.Asked,
+  context-in-reads.Learnt,
   one-more-reads.Asked,
   one-more-reads.Learnt,
   below-below t,
   below.Post,
 ) (entered-at t) entered.Post entered-Inv-loop entered-μ-loop
-entered-loop-again t c = entered-next _ _ _ _ _ _ _ _ (c .before .before .before .before .before .before .before .loop .inv) _ (c .before .before .before .before .before .next-instance .ensures) (c .before .before .before .before .if2 .taken) _ _ (c .before .before .one-more .ensures) (c .before .below .ensures)
+entered-loop-again t c = entered-next _ _ _ _ _ _ _ _ (c .before .before .before .before .before .before .loop .inv) _ (c .before .before .before .before .next-instance .ensures) (c .before .before .before .if2 .taken) _ _ _ (c .before .before .context-in .ensures) (c .before .one-more .ensures) (c .below .ensures)
 
 entered-returns-2 : (t : ℕ) → entered-lts.Need-returns-2 (
   instances-reads.Asked,
   instances-reads.Learnt,
   next-instance-reads.Asked,
   next-instance-reads.Learnt,
+  context-in-reads.Asked,
+  context-in-reads.Learnt,
   one-more-reads.Asked,
   one-more-reads.Learnt,
   below-below t,
@@ -311,6 +347,8 @@ entered-returns-3 : (t : ℕ) → entered-lts.Need-returns-3 (
   instances-reads.Learnt,
   next-instance-reads.Asked,
   next-instance-reads.Learnt,
+  context-in-reads.Asked,
+  context-in-reads.Learnt,
   one-more-reads.Asked,
   one-more-reads.Learnt,
   below-below t,
@@ -349,6 +387,8 @@ pub +below+entered-spec : {M : Type 1} → statement M
       instances-reads.Learnt,
       next-instance-reads.Asked,
       next-instance-reads.Learnt,
+      context-in-reads.Asked,
+      context-in-reads.Learnt,
       one-more-reads.Asked,
       one-more-reads.Learnt,
       below-below t,
@@ -362,6 +402,7 @@ pub +below+entered-spec : {M : Type 1} → statement M
     (entered-instances-requires t)
     (entered-loop-holds t)
     (entered-next-instance-requires t)
+    (entered-context-in-requires t)
     (entered-one-more-requires t)
     (entered-sub-below t)
     (entered-below-requires t)

@@ -10,17 +10,14 @@ ended-requires c κs = search needs
 returns : tie.Need-returns
 returns c = came-none _ _ _ _ (c .ended .ensures) (c .before .if1 .taken)
 
-no-instance-requires : tie.Need-no-instance-requires
-no-instance-requires c κs = search needs
-
 returns-2 : tie.Need-returns-2
-returns-2 c = came-one _ _ _ _ (c .before .if2 .taken) (c .before .before .before .before .before .before .before .before .before .before .pre .1) (c .no-instance .ensures)
+returns-2 c = came-one _ _ _ (c .if2 .taken) (c .before .before .before .before .before .before .before .pre .1)
 
 next-of-rows-requires : tie.Need-next-of-rows-requires
 next-of-rows-requires c κs = search needs
 
 returns-3 : tie.Need-returns-3
-returns-3 c = c .next-of-rows .ensures _ (c .before .before .before .before .before .before .before .before .before .before .before .before .pre .1)
+returns-3 c = c .next-of-rows .ensures _ (c .before .before .before .before .before .before .before .before .before .before .pre .1)
 
 next-piece-requires : tie.Need-next-piece-requires
 next-piece-requires c κs = search needs
@@ -34,7 +31,6 @@ next-instance-spec =
     (tie.spec
     ended-requires
     returns
-    no-instance-requires
     returns-2
     next-of-rows-requires
     returns-3

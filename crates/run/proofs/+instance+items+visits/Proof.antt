@@ -10,6 +10,7 @@ use Rattle.nest.specs.Ready.{outlineAt}
 use Rattle.walk.specs.Contexts.{contextBy}
 use Rattle.emit.proofs.DidLaws.{did-small}
 use Rattle.instances.specs.Cursor.{coming, Going}
+use Rattle.instances.proofs.Cursors.{came-in, sound-in}
 use Rattle.run.proofs.Reading.{item-small}
 use Rattle.run.proofs.Along.{far-small, same-document, same-segments, same-findings, same-stops}
 use Rattle.run.proofs.Taking.{takes-nothing, takes-opener, takes-row, repeat-few, repeat-room, takes-repeat}
@@ -25,6 +26,7 @@ use Rattle.run.proofs.+instance+items+visits.Lts-items as items-lts
 use Rattle.run.proofs.visits.Reads as visits
 use Rattle.run.proofs.visits.Kinds as visits-kinds
 use Rattle.run.proofs.+instance+items+visits.Lts-visits as visits-lts
+use Rattle.instances.proofs.context_in.Reads as context-in-reads
 use Rattle.instances.proofs.instances.Reads as instances-reads
 use Rattle.instances.proofs.next_instance.Reads as next-instance-reads
 use Rattle.plan.proofs.layout.item.Reads as item-reads
@@ -901,6 +903,8 @@ visits-tally-requires : (t : ℕ) → visits-lts.Need-tally-requires (
   instances-reads.Learnt,
   next-instance-reads.Asked,
   next-instance-reads.Learnt,
+  context-in-reads.Asked,
+  context-in-reads.Learnt,
   instance-below t,
   instance.Post,
 ) (visits-at t) visits.Post visits-Inv-loop visits-μ-loop
@@ -913,6 +917,8 @@ visits-returns : (t : ℕ) → visits-lts.Need-returns (
   instances-reads.Learnt,
   next-instance-reads.Asked,
   next-instance-reads.Learnt,
+  context-in-reads.Asked,
+  context-in-reads.Learnt,
   instance-below t,
   instance.Post,
 ) (visits-at t) visits.Post visits-Inv-loop visits-μ-loop
@@ -925,6 +931,8 @@ visits-instances-requires : (t : ℕ) → visits-lts.Need-instances-requires (
   instances-reads.Learnt,
   next-instance-reads.Asked,
   next-instance-reads.Learnt,
+  context-in-reads.Asked,
+  context-in-reads.Learnt,
   instance-below t,
   instance.Post,
 ) (visits-at t) visits.Post visits-Inv-loop visits-μ-loop
@@ -937,6 +945,8 @@ visits-loop-holds : (t : ℕ) → visits-lts.Need-loop-holds (
   instances-reads.Learnt,
   next-instance-reads.Asked,
   next-instance-reads.Learnt,
+  context-in-reads.Asked,
+  context-in-reads.Learnt,
   instance-below t,
   instance.Post,
 ) (visits-at t) visits.Post visits-Inv-loop visits-μ-loop
@@ -949,10 +959,26 @@ visits-next-instance-requires : (t : ℕ) → visits-lts.Need-next-instance-requ
   instances-reads.Learnt,
   next-instance-reads.Asked,
   next-instance-reads.Learnt,
+  context-in-reads.Asked,
+  context-in-reads.Learnt,
   instance-below t,
   instance.Post,
 ) (visits-at t) visits.Post visits-Inv-loop visits-μ-loop
 visits-next-instance-requires t c κs = (c .before .before .before .before .before .before .before .before .before .before .pre .1 .0 .nested, c .loop .inv .1)
+
+visits-context-in-requires : (t : ℕ) → visits-lts.Need-context-in-requires (
+  tally-reads.Asked,
+  tally-reads.Learnt,
+  instances-reads.Asked,
+  instances-reads.Learnt,
+  next-instance-reads.Asked,
+  next-instance-reads.Learnt,
+  context-in-reads.Asked,
+  context-in-reads.Learnt,
+  instance-below t,
+  instance.Post,
+) (visits-at t) visits.Post visits-Inv-loop visits-μ-loop
+visits-context-in-requires t c κs = (c .before .before .loop .inv .1 .a-table, c .before .next-instance .ensures .small (c .if2 .taken))
 
 visits-sub-instance : (t : ℕ) → visits-lts.Need-sub-instance (
   tally-reads.Asked,
@@ -961,6 +987,8 @@ visits-sub-instance : (t : ℕ) → visits-lts.Need-sub-instance (
   instances-reads.Learnt,
   next-instance-reads.Asked,
   next-instance-reads.Learnt,
+  context-in-reads.Asked,
+  context-in-reads.Learnt,
   instance-below t,
   instance.Post,
 ) (visits-at t) visits.Post visits-Inv-loop visits-μ-loop
@@ -973,6 +1001,8 @@ visits-instance-requires : (t : ℕ) → visits-lts.Need-instance-requires (
   instances-reads.Learnt,
   next-instance-reads.Asked,
   next-instance-reads.Learnt,
+  context-in-reads.Asked,
+  context-in-reads.Learnt,
   instance-below t,
   instance.Post,
 ) (visits-at t) visits.Post visits-Inv-loop visits-μ-loop
@@ -981,8 +1011,8 @@ visits-instance-requires t c κs =
     let a = c .before .before .before .before .before .before .before .loop .inv .0 in (
       omega (arith, c .before .before .before .before .before .before .before .before .before .before .before .before .before .before .before .before .before, c .before .before .before .before .before .before .before .before .before .if1 .left),
       (
-        record { nested = w .nested; small = far-small (a .far); sound = c .before .before .before .before .before .before .next-instance .ensures .sound (c .before .before .before .before .before .if2 .taken); loop = w .loop },
-        instance-fits _ _ _ _ _ (c .before .before .before .before .before .before .before .before .instances .ensures .0) _ _ _ (c .before .before .before .before .before .before .next-instance .ensures .came (c .before .before .before .before .before .if2 .taken)) a (visits-within _ _ _ _ _ (c .before .before .before .before .before .before .before .before .instances .ensures .0) (c .before .before .before .before .before .before .before .before .before .if1 .left) (c .before .before .before .before .before .before .before .before .before .before .before .before .before .before .before .before .before .pre .1 .1)),
+        record { nested = w .nested; small = far-small (a .far); sound = sound-in (c .before .before .before .before .before .before .next-instance .ensures) (c .before .before .before .before .before .if2 .taken) (c .before .before .before .before .context-in .ensures); loop = w .loop },
+        instance-fits _ _ _ _ _ (c .before .before .before .before .before .before .before .before .instances .ensures .0) _ _ _ (came-in (c .before .before .before .before .before .before .next-instance .ensures) (c .before .before .before .before .before .if2 .taken) (c .before .before .before .before .context-in .ensures)) a (visits-within _ _ _ _ _ (c .before .before .before .before .before .before .before .before .instances .ensures .0) (c .before .before .before .before .before .before .before .before .before .if1 .left) (c .before .before .before .before .before .before .before .before .before .before .before .before .before .before .before .before .before .pre .1 .1)),
       ),
     )
 
@@ -993,11 +1023,13 @@ visits-add-written : (t : ℕ) → visits-lts.Need-add-written (
   instances-reads.Learnt,
   next-instance-reads.Asked,
   next-instance-reads.Learnt,
+  context-in-reads.Asked,
+  context-in-reads.Learnt,
   instance-below t,
   instance.Post,
 ) (visits-at t) visits.Post visits-Inv-loop visits-μ-loop
 visits-add-written t c =
-    let r = sum-fits _ _ _ _ _ (c .before .before .before .before .before .before .before .before .before .before .before .before .before .before .before .before .before .before .before .instances .ensures .0) _ _ _ (c .before .before .before .before .before .before .before .before .before .before .before .before .before .before .before .before .before .next-instance .ensures .came (c .before .before .before .before .before .before .before .before .before .before .before .before .before .before .before .before .if2 .taken)) (c .before .before .before .before .before .before .before .before .before .before .before .before .before .before .before .before .before .before .loop .inv .0) (c .before .before .before .before .before .before .before .before .before .before .instance .ensures) (visits-within _ _ _ _ _ (c .before .before .before .before .before .before .before .before .before .before .before .before .before .before .before .before .before .before .before .instances .ensures .0) (c .before .before .before .before .before .before .before .before .before .before .before .before .before .before .before .before .before .before .before .before .if1 .left) (c .before .before .before .before .before .before .before .before .before .before .before .before .before .before .before .before .before .before .before .before .before .before .before .before .before .before .before .before .pre .1 .1)) in
+    let r = sum-fits _ _ _ _ _ (c .before .before .before .before .before .before .before .before .before .before .before .before .before .before .before .before .before .before .before .instances .ensures .0) _ _ _ (came-in (c .before .before .before .before .before .before .before .before .before .before .before .before .before .before .before .before .before .next-instance .ensures) (c .before .before .before .before .before .before .before .before .before .before .before .before .before .before .before .before .if2 .taken) (c .before .before .before .before .before .before .before .before .before .before .before .before .before .before .before .context-in .ensures)) (c .before .before .before .before .before .before .before .before .before .before .before .before .before .before .before .before .before .before .loop .inv .0) (c .before .before .before .before .before .before .before .before .before .before .instance .ensures) (visits-within _ _ _ _ _ (c .before .before .before .before .before .before .before .before .before .before .before .before .before .before .before .before .before .before .before .instances .ensures .0) (c .before .before .before .before .before .before .before .before .before .before .before .before .before .before .before .before .before .before .before .before .if1 .left) (c .before .before .before .before .before .before .before .before .before .before .before .before .before .before .before .before .before .before .before .before .before .before .before .before .before .before .before .before .pre .1 .1)) in
     omega (arith, r)
 
 visits-add-n : (t : ℕ) → visits-lts.Need-add-n (
@@ -1007,11 +1039,13 @@ visits-add-n : (t : ℕ) → visits-lts.Need-add-n (
   instances-reads.Learnt,
   next-instance-reads.Asked,
   next-instance-reads.Learnt,
+  context-in-reads.Asked,
+  context-in-reads.Learnt,
   instance-below t,
   instance.Post,
 ) (visits-at t) visits.Post visits-Inv-loop visits-μ-loop
 visits-add-n t c =
-    let r = fewer _ _ _ _ _ (c .before .before .before .before .before .before .before .before .before .before .before .before .before .before .before .before .before .before .before .instances .ensures .0) _ _ _ (c .before .before .before .before .before .before .before .before .before .before .before .before .before .before .before .before .before .next-instance .ensures .came (c .before .before .before .before .before .before .before .before .before .before .before .before .before .before .before .before .if2 .taken)) (c .before .before .before .before .before .before .before .before .before .before .before .before .before .before .before .before .before .before .loop .inv .0) in
+    let r = fewer _ _ _ _ _ (c .before .before .before .before .before .before .before .before .before .before .before .before .before .before .before .before .before .before .before .instances .ensures .0) _ _ _ (came-in (c .before .before .before .before .before .before .before .before .before .before .before .before .before .before .before .before .before .next-instance .ensures) (c .before .before .before .before .before .before .before .before .before .before .before .before .before .before .before .before .if2 .taken) (c .before .before .before .before .before .before .before .before .before .before .before .before .before .before .before .context-in .ensures)) (c .before .before .before .before .before .before .before .before .before .before .before .before .before .before .before .before .before .before .loop .inv .0) in
     omega (arith, r, ap length (c .before .before .before .before .before .before .before .before .before .before .before .before .before .before .before .before .before .before .before .instances .ensures .0), few-instances (c .before .before .before .before .before .before .before .before .before .before .before .before .before .before .before .before .before .before .before .before .before .before .before .before .before .before .before .before .pre .1 .0 .nested) (c .before .before .before .before .before .before .before .before .before .before .before .before .before .before .before .before .before .before .before .before .before .before .before .before .before .before .before .before .args .height) (c .before .before .before .before .before .before .before .before .before .before .before .before .before .before .before .before .before .before .before .before .before .before .before .before .before .before .before .before .args .l .0) (contextBy (c .before .before .before .before .before .before .before .before .before .before .before .before .before .before .before .before .before .before .before .before .before .before .before .before .before .before .before .before .args .c)))
 
 visits-loop-less : (t : ℕ) → visits-lts.Need-loop-less (
@@ -1021,10 +1055,12 @@ visits-loop-less : (t : ℕ) → visits-lts.Need-loop-less (
   instances-reads.Learnt,
   next-instance-reads.Asked,
   next-instance-reads.Learnt,
+  context-in-reads.Asked,
+  context-in-reads.Learnt,
   instance-below t,
   instance.Post,
 ) (visits-at t) visits.Post visits-Inv-loop visits-μ-loop
-visits-loop-less t c = shorter _ _ _ _ _ (c .before .before .before .before .before .before .before .before .before .before .before .before .before .before .before .before .before .before .before .before .instances .ensures .0) _ _ _ (c .before .before .before .before .before .before .before .before .before .before .before .before .before .before .before .before .before .before .next-instance .ensures .came (c .before .before .before .before .before .before .before .before .before .before .before .before .before .before .before .before .before .if2 .taken)) (c .before .before .before .before .before .before .before .before .before .before .before .before .before .before .before .before .before .before .before .loop .inv .0)
+visits-loop-less t c = shorter _ _ _ _ _ (c .before .before .before .before .before .before .before .before .before .before .before .before .before .before .before .before .before .before .before .instances .ensures .0) _ _ _ (came-in (c .before .before .before .before .before .before .before .before .before .before .before .before .before .before .before .before .before .next-instance .ensures) (c .before .before .before .before .before .before .before .before .before .before .before .before .before .before .before .before .if2 .taken) (c .before .before .before .before .before .before .before .before .before .before .before .before .before .before .before .context-in .ensures)) (c .before .before .before .before .before .before .before .before .before .before .before .before .before .before .before .before .before .before .loop .inv .0)
 
 visits-loop-again : (t : ℕ) → visits-lts.Need-loop-again (
   tally-reads.Asked,
@@ -1033,12 +1069,14 @@ visits-loop-again : (t : ℕ) → visits-lts.Need-loop-again (
   instances-reads.Learnt,
   next-instance-reads.Asked,
   next-instance-reads.Learnt,
+  context-in-reads.Asked,
+  context-in-reads.Learnt,
   instance-below t,
   instance.Post,
 ) (visits-at t) visits.Post visits-Inv-loop visits-μ-loop
 visits-loop-again t c = (
-  visits-next _ _ _ _ _ (c .before .before .before .before .before .before .before .before .before .before .before .before .before .before .before .before .before .before .before .before .instances .ensures .0) _ _ _ (c .before .before .before .before .before .before .before .before .before .before .before .before .before .before .before .before .before .before .next-instance .ensures .came (c .before .before .before .before .before .before .before .before .before .before .before .before .before .before .before .before .before .if2 .taken)) (c .before .before .before .before .before .before .before .before .before .before .before .before .before .before .before .before .before .before .before .loop .inv .0) (c .before .before .before .before .before .before .before .before .before .before .before .instance .ensures) (record { document = omega (arith, c .before .before .before .before .before .before .before .before .before .before .before .before .before .before .before .before .before .before .before .before .before .before .before .before .before .before .before .before .before); segments = omega (arith, c .before .before .before .before .before .before .before .before .before .before .before .before .before .before .before .before .before .before .before .before .before .before .before .before .before .before .before .before .before); findings = omega (arith, c .before .before .before .before .before .before .before .before .before .before .before .before .before .before .before .before .before .before .before .before .before .before .before .before .before .before .before .before .before); stops = omega (arith, c .before .before .before .before .before .before .before .before .before .before .before .before .before .before .before .before .before .before .before .before .before .before .before .before .before .before .before .before .before) }),
-  c .before .before .before .before .before .before .before .before .before .before .before .before .before .before .before .before .before .before .next-instance .ensures .still (c .before .before .before .before .before .before .before .before .before .before .before .before .before .before .before .before .before .if2 .taken),
+  visits-next _ _ _ _ _ (c .before .before .before .before .before .before .before .before .before .before .before .before .before .before .before .before .before .before .before .instances .ensures .0) _ _ _ (came-in (c .before .before .before .before .before .before .before .before .before .before .before .before .before .before .before .before .before .next-instance .ensures) (c .before .before .before .before .before .before .before .before .before .before .before .before .before .before .before .before .if2 .taken) (c .before .before .before .before .before .before .before .before .before .before .before .before .before .before .before .context-in .ensures)) (c .before .before .before .before .before .before .before .before .before .before .before .before .before .before .before .before .before .before .loop .inv .0) (c .before .before .before .before .before .before .before .before .before .before .instance .ensures) (record { document = omega (arith, c .before .before .before .before .before .before .before .before .before .before .before .before .before .before .before .before .before .before .before .before .before .before .before .before .before .before .before .before); segments = omega (arith, c .before .before .before .before .before .before .before .before .before .before .before .before .before .before .before .before .before .before .before .before .before .before .before .before .before .before .before .before); findings = omega (arith, c .before .before .before .before .before .before .before .before .before .before .before .before .before .before .before .before .before .before .before .before .before .before .before .before .before .before .before .before); stops = omega (arith, c .before .before .before .before .before .before .before .before .before .before .before .before .before .before .before .before .before .before .before .before .before .before .before .before .before .before .before .before) }),
+  c .before .before .before .before .before .before .before .before .before .before .before .before .before .before .before .before .before .next-instance .ensures .still (c .before .before .before .before .before .before .before .before .before .before .before .before .before .before .before .before .if2 .taken),
 )
 
 visits-tally-requires-2 : (t : ℕ) → visits-lts.Need-tally-requires-2 (
@@ -1048,6 +1086,8 @@ visits-tally-requires-2 : (t : ℕ) → visits-lts.Need-tally-requires-2 (
   instances-reads.Learnt,
   next-instance-reads.Asked,
   next-instance-reads.Learnt,
+  context-in-reads.Asked,
+  context-in-reads.Learnt,
   instance-below t,
   instance.Post,
 ) (visits-at t) visits.Post visits-Inv-loop visits-μ-loop
@@ -1060,6 +1100,8 @@ visits-same-length : (t : ℕ) → visits-lts.Need-same-length (
   instances-reads.Learnt,
   next-instance-reads.Asked,
   next-instance-reads.Learnt,
+  context-in-reads.Asked,
+  context-in-reads.Learnt,
   instance-below t,
   instance.Post,
 ) (visits-at t) visits.Post visits-Inv-loop visits-μ-loop
@@ -1072,6 +1114,8 @@ visits-same-length-2 : (t : ℕ) → visits-lts.Need-same-length-2 (
   instances-reads.Learnt,
   next-instance-reads.Asked,
   next-instance-reads.Learnt,
+  context-in-reads.Asked,
+  context-in-reads.Learnt,
   instance-below t,
   instance.Post,
 ) (visits-at t) visits.Post visits-Inv-loop visits-μ-loop
@@ -1084,6 +1128,8 @@ visits-same-length-3 : (t : ℕ) → visits-lts.Need-same-length-3 (
   instances-reads.Learnt,
   next-instance-reads.Asked,
   next-instance-reads.Learnt,
+  context-in-reads.Asked,
+  context-in-reads.Learnt,
   instance-below t,
   instance.Post,
 ) (visits-at t) visits.Post visits-Inv-loop visits-μ-loop
@@ -1096,6 +1142,8 @@ visits-same-length-4 : (t : ℕ) → visits-lts.Need-same-length-4 (
   instances-reads.Learnt,
   next-instance-reads.Asked,
   next-instance-reads.Learnt,
+  context-in-reads.Asked,
+  context-in-reads.Learnt,
   instance-below t,
   instance.Post,
 ) (visits-at t) visits.Post visits-Inv-loop visits-μ-loop
@@ -1108,6 +1156,8 @@ visits-returns-2 : (t : ℕ) → visits-lts.Need-returns-2 (
   instances-reads.Learnt,
   next-instance-reads.Asked,
   next-instance-reads.Learnt,
+  context-in-reads.Asked,
+  context-in-reads.Learnt,
   instance-below t,
   instance.Post,
 ) (visits-at t) visits.Post visits-Inv-loop visits-μ-loop
@@ -1198,6 +1248,8 @@ pub +instance+items+visits-spec : {M : Type 1} → statement M
       instances-reads.Learnt,
       next-instance-reads.Asked,
       next-instance-reads.Learnt,
+      context-in-reads.Asked,
+      context-in-reads.Learnt,
       instance-below t,
       instance.Post,
     )
@@ -1210,6 +1262,7 @@ pub +instance+items+visits-spec : {M : Type 1} → statement M
     (visits-instances-requires t)
     (visits-loop-holds t)
     (visits-next-instance-requires t)
+    (visits-context-in-requires t)
     (visits-sub-instance t)
     (visits-instance-requires t)
     (visits-add-written t)
