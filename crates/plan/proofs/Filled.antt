@@ -9,9 +9,9 @@ use lib.ListN.{length, getD, set, List·getD-eq-default}
 use lib.Seq.{getD-set-same}
 use lib.Dec.{ltb}
 use borrow.Author.Tests.{ltb-true, ltb-false}
-use Rattle.codec.specs.Codec.{listC}
+use Rattle.codec.specs.Codec.{leC, listC}
 use Rattle.codec.specs.Forms.{numC, optC, flagC}
-use Rattle.codec.specs.Skip.{skip, countAt, Is}
+use Rattle.codec.specs.Skip.{skip, countAt, Is, skip-le, skip-map, skip-pair}
 use Rattle.codec.specs.Field.{is-list, count-list}
 use Rattle.codec.specs.Rows.{small, is-small}
 use Rattle.codec.specs.Limits.{none-of, none-in}
@@ -25,26 +25,21 @@ use Rattle.format.specs.Passed.{Passed}
 use Rattle.format.specs.Ask.{planOf}
 use Rattle.spec.specs.Kept.{Kept, kept-same, kept-set, kept-then, kept-wide}
 use Rattle.spec.specs.Region.{Stored, Listed}
-use Rattle.spec.proofs.Storing.{Lists, stored-kept, listed}
+use Rattle.spec.proofs.Storing.{stored-kept, listed, lists-more, lists-all}
 use Rattle.plan.specs.Index.{PlanIndexed, PlanFilled}
-use Rattle.plan.specs.Filling.{PlanInto, LayoutInto}
-
--- ---- the planned segments of the loops, one after the other
-abbrev pub Segments : List ℕ → ℕ → ℕ → List ℕ → List ℕ → Type 0
-Segments b e = Lists segmentPlanC b e (λ p. skip instancesC b p e) 1025 1222 2278
+use Rattle.plan.specs.Filling.{PlanLists, PlanInto, LayoutInto}
 
 module _ (b : List ℕ) (e : ℕ) where
-  -- the list stands behind the instances, which stand at q
-  pub segments-at : (at p q k : ℕ) (new : List ℕ) → p ≡ q → at ≡ skip instancesC b p e → Stored segmentPlanC b e at k new → Stored segmentPlanC b e (skip instancesC b q e) k new
-  segments-at at p q k new h i s = rw (← h, ← i) s
+  -- ---- a loop's plan, whose planned segments stand behind its instances
+  pub loop-plan-more : (start l p at q : ℕ) (old d mid new : List ℕ) → l < 32 → mid ≡ set d (1025 + l) (small p) → at ≡ skip instancesC b p e → (q ≡ skip (listC segmentPlanC) b at e) × Kept (1222 + l * 33) (1222 + l * 33 + 33) mid new × Stored segmentPlanC b e at (1222 + l * 33) new → PlanLists b e start l p old d → PlanLists b e start (l + 1) q old new
+  unfolding loopPlanC
+  loop-plan-more start l p at q old d mid new m w i x h = lists-more loopPlanC segmentPlanC b e (λ r. skip instancesC b r e) 1024 1222 2278 start l p q old d mid new m (omega arith) (omega arith) h w (x .1) (rw i at (x .2)) (x .0 ∙ rw i (simp (skip-map, skip-pair)))
 
   -- ---- the plan
-  pub plan-into : (at m : ℕ) (old d new : List ℕ) → Kept 1024 1057 old d → Stored loopPlanC b e at 1024 d → Segments b e m d new → ((l : ℕ) → l < countAt b at e → l < 32 → l < m) → PlanInto b e at old new
-  plan-into at m old d new k s h f = record {
-    kept = kept-then 1024 2278 1222 2278 old d new (kept-wide 1024 1057 1024 2278 old d (omega arith) (omega arith) k) (h .kept) (omega arith) (omega arith);
-    plan = stored-kept loopPlanC b e at 1024 1222 2278 d new s (h .kept) (inl (omega arith));
-    segments = λ l i j. let y : getD new (1025 + l) 0 ≡ getD d (1025 + l) 0 = h .kept .below (1025 + l) (omega arith) in rw y (h .stored l (f l i j));
-  }
+  pub plan-into : (at n start p l : ℕ) (old d new : List ℕ) → n ≡ countAt b at e → start ≡ skip (leC 4) b at e → l ≡ n → PlanLists b e start l p old d → new ≡ set d 1024 (small at) → PlanInto b e at old new
+  plan-into at n start p l old d new c f x h w =
+      let y = lists-all loopPlanC segmentPlanC b e (λ r. skip instancesC b r e) 1024 1222 2278 start at n p l old d new c f x (omega arith) (omega arith) h w in
+      record { kept = y .0; plan = y .1; segments = λ j i m. y .2 j (omega arith) m }
 
   -- ---- the layout
   module _ (at f g d c : ℕ) (x₀ x₁ x₂ x₃ x₄ x₅ : List ℕ)
@@ -111,10 +106,11 @@ module _ (b old d new : List ℕ) (x : Passed b) (p : PlanInto b (layoutStart b)
     listed-segments : (l : ℕ) → l < length (jobOf b .plan) → l < 32 → Listed segmentPlanC b (layoutStart b) new (1222 + l * 33) ((planOf (jobOf b) l) .segments)
     unfolding planOf
     listed-segments l m n =
-        let c : length (jobOf b .plan) ≡ countAt b (planStart b) (layoutStart b) = count-list loopPlanC b (layoutStart b) (planStart b) _ (is-list loopPlanC b (layoutStart b) (planStart b) _ plan-there) in
+        let z = is-list loopPlanC b (layoutStart b) (planStart b) _ plan-there in
+        let c : length (jobOf b .plan) ≡ countAt b (planStart b) (layoutStart b) = count-list loopPlanC b (layoutStart b) (planStart b) _ z in
+        let f : skip (leC 4) b (planStart b) (layoutStart b) ≡ planStart b + 4 = skip-le 4 b _ (layoutStart b) (z .room) in
         let s = stored-kept segmentPlanC b (layoutStart b) _ (1222 + l * 33) 1057 1222 d new (p .segments l (rw c at m) n) (q .kept) (inr (omega arith)) in
-        let y : getD new (1025 + l) 0 ≡ getD d (1025 + l) 0 = q .kept .below (1025 + l) (omega arith) in
-        listed segmentPlanC b (layoutStart b) _ (1222 + l * 33) new _ fits (omega (arith, long)) s (rw y at (is-loopPlan b (layoutStart b) _ _ (listed-plan .item l noLoopPlan m n) .segments))
+        listed segmentPlanC b (layoutStart b) _ (1222 + l * 33) new _ fits (omega (arith, long)) s (rw f (is-loopPlan b (layoutStart b) _ _ (z .item l noLoopPlan m) .segments))
 
     pub plan-indexed : PlanIndexed b new
     plan-indexed = record {

@@ -3,20 +3,24 @@ use Prim.Native.Nat.{ℕ, _+_, _*_, _<_}
 use mathlib.Core.Path.{_≡_}
 use mathlib.Core.List.{List}
 use lib.ListN.{length, getD}
-use Rattle.codec.specs.Codec.{listC}
+use Rattle.codec.specs.Codec.{leC, listC}
 use Rattle.codec.specs.Forms.{numC, optC, flagC}
-use Rattle.codec.specs.Skip.{skip, countAt}
+use Rattle.codec.specs.Skip.{skip, steps, countAt}
 use Rattle.codec.specs.Rows.{small}
 use Rattle.format.specs.Plan.{instancesC, loopPlanC, segmentPlanC}
 use Rattle.format.specs.Layout.{itemC}
 use Rattle.format.specs.Fields.{layoutForced, layoutGroupColumns, layoutDepth, layoutCapacity}
 use Rattle.spec.specs.Kept.{Kept}
-use Rattle.spec.specs.Region.{Stored}
+use Rattle.spec.specs.Region.{Stored, Lists}
+
+-- the plans of the loops, and the planned segments of each
+abbrev pub PlanLists : List ℕ → ℕ → ℕ → ℕ → ℕ → List ℕ → List ℕ → Type 0
+PlanLists b e = Lists loopPlanC segmentPlanC b e (λ p. skip instancesC b p e) 1024 1222 2278
 
 pub record PlanInto (b : List ℕ) (e at : ℕ) (old new : List ℕ) : Type 0 where
   pub kept : Kept 1024 2278 old new
   pub plan : Stored loopPlanC b e at 1024 new
-  pub segments : (l : ℕ) → l < countAt b at e → l < 32 → Stored segmentPlanC b e (skip instancesC b (getD new (1025 + l) 0) e) (1222 + l * 33) new
+  pub segments : (l : ℕ) → l < countAt b at e → l < 32 → Stored segmentPlanC b e (skip instancesC b (steps loopPlanC b e l (skip (leC 4) b at e)) e) (1222 + l * 33) new
 
 pub record LayoutInto (b : List ℕ) (e at : ℕ) (old new : List ℕ) : Type 0 where
   pub kept : Kept 1057 1222 old new

@@ -1,15 +1,12 @@
 // The region of the index that belongs to plan and layout, and how it is filled.
 ghost use mathlib.Core.Path.{_≡_};
-ghost use Prim.Native.Nat.{ℕ, _+_, _*_, _≤_, _<_};
+ghost use mathlib.Core.List.{List};
+ghost use Prim.Native.Nat.{ℕ, _+_};
 ghost use lib.ListN.{getD};
 ghost use Rattle.codec.specs.Codec.{le};
-ghost use Rattle.codec.specs.Skip.{skip};
-ghost use Rattle.format.specs.Plan.{instancesC, segmentPlanC};
 ghost use Rattle.format.specs.Passed.{Passed};
-ghost use Rattle.spec.specs.Kept.{Kept};
-ghost use Rattle.spec.specs.Region.{Stored};
 ghost use Rattle.plan.specs.Index.{PlanFilled};
-ghost use Rattle.plan.specs.Filling.{PlanInto, LayoutInto};
+ghost use Rattle.plan.specs.Filling.{PlanLists, PlanInto, LayoutInto};
 use spec::region::Part;
 use spec::region::list_into;
 
@@ -28,39 +25,30 @@ pub const CAPACITY: usize = 1189;
 // The planned segments of loop 0; those of each other loop begin 33 later.
 pub const SEGMENTS: usize = 1222;
 
-// Stores the places of the planned segments of loop l, whose plan's place is stored.
-pub fn segments_into(job: &[u8], index: &mut [u32], l: usize, end: u32)
-    requires { ⌜ l < 32 ⌝ }
-    ensures { λ r. ⌜ Kept (1222 + l * 33) (1222 + l * 33 + 33) (now (index .entry)) (now (index .exit)) × Stored segmentPlanC (now (job .entry)) end (skip instancesC (now (job .entry)) (getD (now (index .entry)) (1025 + l) 0) end) (1222 + l * 33) (now (index .exit)) ⌝ }
+// Stores the place of the plan of loop l and those of its planned segments, if it is among the first 32; answers the place behind it.
+pub fn loop_plan_into(job: &[u8], index: &mut [u32], l: usize, p: usize, end: u32) -> usize
+    ensures { λ r. ⌜ ((start : ℕ) (old : List ℕ) → PlanLists (now (job .entry)) end start l p old (now (index .entry)) → PlanLists (now (job .entry)) end start (l + 1) r old (now (index .exit))) ⌝ }
 {
-    let p = codec::place(index, PLAN + 1 + l);
-    let at = format::instances_at(job, p, end);
-    list_into(job, index, Part::SegmentPlan, SEGMENTS + l * 33, at, end);
-}
-
-// The same for the first n loops.
-pub fn all_segments_into(job: &[u8], index: &mut [u32], n: usize, end: u32)
-    requires { ⌜ n ≤ 32 ⌝ }
-    ensures { λ r. ⌜ Kept 1222 2278 (now (index .entry)) (now (index .exit)) × ((l : ℕ) → l < n → Stored segmentPlanC (now (job .entry)) end (skip instancesC (now (job .entry)) (getD (now (index .entry)) (1025 + l) 0) end) (1222 + l * 33) (now (index .exit))) ⌝ }
-{
-    let mut l: usize = 0;
-    while l < n {
-        segments_into(job, index, l, end);
-        l = l + 1;
+    if l < 32 {
+        codec::put(index, PLAN + 1 + l, p);
+        let at = format::instances_at(job, p, end);
+        return list_into(job, index, Part::SegmentPlan, SEGMENTS + l * 33, at, end);
     }
+    format::loop_plan_at(job, p, end)
 }
 
 // Stores the places of the plan that stands at a place.
 pub fn plan_into(job: &[u8], index: &mut [u32], at: usize, end: u32)
     ensures { λ r. ⌜ PlanInto (now (job .entry)) end at (now (index .entry)) (now (index .exit)) ⌝ }
 {
-    list_into(job, index, Part::LoopPlan, PLAN, at, end);
     let n = codec::count_at(job, at, end);
-    if n < 32 {
-        all_segments_into(job, index, n, end);
-        return;
+    let mut p = codec::le_at(job, 4, at, end);
+    let mut l: usize = 0;
+    while l < n {
+        p = loop_plan_into(job, index, l, p, end);
+        l = l + 1;
     }
-    all_segments_into(job, index, 32, end);
+    codec::put(index, PLAN, at);
 }
 
 // Stores the places of the layout that stands at a place.

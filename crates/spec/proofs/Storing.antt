@@ -16,7 +16,7 @@ use Rattle.codec.specs.Rows.{small, is-small}
 use Rattle.spec.specs.declared.region.Part.{Part}
 use Rattle.spec.specs.Parts.{partC}
 use Rattle.spec.specs.Kept.{Kept, kept-same, kept-set, kept-then, kept-wide}
-use Rattle.spec.specs.Region.{Stored, Listed, putItem}
+use Rattle.spec.specs.Region.{Stored, Listed, Lists, putItem}
 
 -- the part by its case
 pub part-is : (p q : Part) (b : List ℕ) (at e r : ℕ) → p ≡ q → r ≡ skip (partC q) b at e → r ≡ skip (partC p) b at e
@@ -41,11 +41,6 @@ pub record Items {A : Type 0} (C : Codec A) (b : List ℕ) (e from k i p : ℕ) 
   pub place : p ≡ steps C b e i from
   pub kept : Kept (k + 1) (k + 33) old new
   pub item : (j : ℕ) → j < i → j < 32 → k + 1 + j < length old → getD new (k + 1 + j) 0 ≡ small (steps C b e j from)
-
--- lists one after the other: the first n of them are stored, and list j stands where the number at heads + j says
-pub record Lists {A : Type 0} (C : Codec A) (b : List ℕ) (e : ℕ) (at : ℕ → ℕ) (heads from to n : ℕ) (old new : List ℕ) : Type 0 where
-  pub kept : Kept from to old new
-  pub stored : (j : ℕ) → j < n → Stored C b e (at (getD old (heads + j) 0)) (from + j * 33) new
 
 module _ {A : Type 0} (C : Codec A) (b : List ℕ) (e : ℕ) where
   pub items-none : (from k p : ℕ) (l : List ℕ) → p ≡ from → Items C b e from k 0 p l l
@@ -97,20 +92,6 @@ module _ {A : Type 0} (C : Codec A) (b : List ℕ) (e : ℕ) where
     item = λ j r s t. q .above (k + 1 + j) (omega arith) ∙ h .item j r s (omega (arith, q .long));
   }
 
-  pub lists-none : (at : ℕ → ℕ) (heads from to : ℕ) (idx : List ℕ) → Lists C b e at heads from to 0 idx idx
-  lists-none at heads from to idx = record { kept = kept-same _ _ idx; stored = λ j m. absurd (omega arith) }
-
-  pub lists-more : (at : ℕ → ℕ) (heads from to n : ℕ) (old d new : List ℕ) → heads + n < from → from + n * 33 + 33 ≤ to → Lists C b e at heads from to n old d → Kept (from + n * 33) (from + n * 33 + 33) d new → Stored C b e (at (getD d (heads + n) 0)) (from + n * 33) new → Lists C b e at heads from to (n + 1) old new
-  lists-more at heads from to n old d new i m h k s = record { kept = kept-then from to _ _ old d new (h .kept) k (omega arith) m; stored = λ j q. go j q (ltb j n) refl }
-    where
-      go : (j : ℕ) → j < n + 1 → (u : Bool) → ltb j n ≡ u → Stored C b e (at (getD old (heads + j) 0)) (from + j * 33) new
-      go j q true r = let o : j < n = ltb-true _ _ r in stored-kept _ (from + j * 33) _ _ d new (h .stored j o) k (inl (omega arith))
-      go j q false r =
-          let o : n ≤ j = ltb-false _ _ r in
-          let z : j ≡ n = omega arith in
-          let y : getD d (heads + n) 0 ≡ getD old (heads + n) 0 = h .kept .below (heads + n) i in
-          rw (z, ← y) s
-
   -- where the list stands, the places are those of the list and its items
   pub listed : (at k : ℕ) (idx : List ℕ) (vs : List A) → e < 4294967296 → k + 33 ≤ length idx → Stored C b e at k idx → Is (listC C) b e at vs → Listed C b e idx k vs
   listed at k idx vs m l h i =
@@ -121,3 +102,59 @@ module _ {A : Type 0} (C : Codec A) (b : List ℕ) (e : ℕ) where
         list = is-small (listC C) b e at _ vs m (h .list (omega arith)) i;
         item = λ j d q r. is-small C b e (steps C b e j (at + 4)) _ _ m (rw f at (h .item j (omega arith) r (omega arith))) (z .item j d q);
       }
+
+-- ---- lists within a list
+module _ {A B : Type 0} (C : Codec A) (D : Codec B) (b : List ℕ) (e : ℕ) (at : ℕ → ℕ) (k from to start : ℕ) where
+  pub lists-none : (p : ℕ) (idx : List ℕ) → p ≡ start → Lists C D b e at k from to start 0 p idx idx
+  unfolding steps
+  lists-none p idx h = record { place = h; kept = kept-same _ _ idx; item = λ j m. absurd (omega arith); inner = λ j m. absurd (omega arith) }
+
+  -- one more item and its list
+  pub lists-more : (n p q : ℕ) (old d mid new : List ℕ) → n < 32 → k + 33 ≤ from → from + n * 33 + 33 ≤ to → Lists C D b e at k from to start n p old d → mid ≡ set d (k + 1 + n) (small p) → Kept (from + n * 33) (from + n * 33 + 33) mid new → Stored D b e (at p) (from + n * 33) new → q ≡ skip C b p e → Lists C D b e at k from to start (n + 1) q old new
+  lists-more n p q old d mid new m i t h w y s r = record {
+    place = r ∙ rw (h .place) (sym (steps-more C b e n start));
+    kept = kept-then (k + 1) to _ _ old mid new (kept-set (k + 1) to old d mid (k + 1 + n) (small p) (h .kept) w (omega arith) (omega arith)) y (omega arith) t;
+    item = λ j u v l. y .below (k + 1 + j) (omega arith) ∙ rw w (item′ j u v l (ltb j n) refl);
+    inner = λ j u v. inner′ j u v (ltb j n) refl;
+  }
+    where
+      item′ : (j : ℕ) → j < n + 1 → j < 32 → k + 1 + j < length old → (u : Bool) → ltb j n ≡ u → getD (set d (k + 1 + n) (small p)) (k + 1 + j) 0 ≡ small (steps C b e j start)
+      item′ j u v l true z = let o : j < n = ltb-true _ _ z in getD-set-other d (k + 1 + n) (k + 1 + j) (small p) 0 (omega arith) ∙ h .item j o v l
+      item′ j u v l false z =
+          let o : n ≤ j = ltb-false _ _ z in
+          let x : j ≡ n = omega arith in
+          let g : k + 1 + n < length d = omega (arith, h .kept .long) in
+          rw x (getD-set-same d (k + 1 + n) (small p) 0 g ∙ rw (h .place))
+
+      one : Kept (k + 1 + n) (k + 1 + n + 1) d mid
+      one = kept-set _ _ d d mid (k + 1 + n) (small p) (kept-same _ _ d) w (omega arith) (omega arith)
+
+      inner′ : (j : ℕ) → j < n + 1 → j < 32 → (u : Bool) → ltb j n ≡ u → Stored D b e (at (steps C b e j start)) (from + j * 33) new
+      inner′ j u v true z = let o : j < n = ltb-true _ _ z in stored-kept D b e _ (from + j * 33) _ _ mid new (stored-kept D b e _ (from + j * 33) _ _ d mid (h .inner j o v) one (inr (omega arith))) y (inl (omega arith))
+      inner′ j u v false z =
+          let o : n ≤ j = ltb-false _ _ z in
+          let x : j ≡ n = omega arith in
+          rw (x, ← h .place) s
+
+  -- an item past the first 32
+  pub lists-past : (n p q : ℕ) (old d : List ℕ) → 32 ≤ n → Lists C D b e at k from to start n p old d → q ≡ skip C b p e → Lists C D b e at k from to start (n + 1) q old d
+  lists-past n p q old d m h r = record {
+    place = r ∙ rw (h .place) (sym (steps-more C b e n start));
+    kept = h .kept;
+    item = λ j u v. h .item j (omega arith) v;
+    inner = λ j u v. h .inner j (omega arith) v;
+  }
+
+  -- all n items, then the place of the list
+  pub lists-all : (i n p q : ℕ) (old d new : List ℕ) → n ≡ countAt b i e → start ≡ skip (leC 4) b i e → q ≡ n → k + 1 ≤ from → k + 1 ≤ to → Lists C D b e at k from to start q p old d → new ≡ set d k (small i) → Kept k to old new × Stored C b e i k new × ((j : ℕ) → j < n → j < 32 → Stored D b e (at (steps C b e j (skip (leC 4) b i e))) (from + j * 33) new)
+  lists-all i n p q old d new c f x o t h w =
+      let m : Kept k to old d = kept-wide (k + 1) to k to old d (omega arith) (omega arith) (h .kept) in
+      let g : length new ≡ length old = rw w (length-set d k (small i)) ∙ m .long in
+      let one : Kept k (k + 1) d new = kept-set k (k + 1) d d new k (small i) (kept-same _ _ d) w (omega arith) (omega arith) in (
+        kept-set k to old d new k (small i) m w (omega arith) (omega arith),
+        record {
+          list = λ r. rw w (getD-set-same d k (small i) 0 (omega (arith, m .long)));
+          item = λ j r s y. rw w (getD-set-other d k (k + 1 + j) (small i) 0 (omega arith) ∙ h .item j (omega arith) s (omega arith) ∙ rw f);
+        },
+        λ j r s. stored-kept D b e _ (from + j * 33) k (k + 1) d new (rw f at (h .inner j (omega arith) s)) one (inr (omega arith)),
+      )

@@ -7,11 +7,10 @@ use native.Mathlib.Nat.{zero-add}
 use lib.ListN.{length, getD}
 use Rattle.codec.specs.Codec.{leC, listC}
 use Rattle.codec.specs.Skip.{skip, steps, countAt, skip-le}
-use Rattle.codec.specs.Maps.{bytesMapC}
 use Rattle.codec.specs.Forms.{numC, bytesC, optC, flagC}
 use Rattle.codec.specs.Field.{is-list, count-list}
 use Rattle.codec.specs.Rows.{stored, small, is-small, rows-length}
-use Rattle.format.specs.Spec.{noLoop, loopC, noTable, tableC, usageC, controlC, repeatC, versionC, segmentC, specC}
+use Rattle.format.specs.Spec.{noLoop, loopC, noTable, tableC, usageC, controlC, repeatC, versionC, specC}
 use Rattle.format.specs.Sections.{planStart, jobOf}
 use Rattle.format.specs.Fields.{LoopIs, is-loop, TableIs, is-table, SpecIs, is-spec, specTables}
 use Rattle.format.specs.Decoding.{is-read}
@@ -19,7 +18,7 @@ use Rattle.format.specs.Passed.{Passed, few}
 use Rattle.format.specs.Ask.{loopOf, tableOf}
 use Rattle.spec.specs.Index.{SpecIndexed}
 use Rattle.spec.specs.Rows.{loopRow, tableRow, headRow, loopRows, tableRows}
-use Rattle.spec.specs.Kept.{Kept, Has, kept-stored, kept-then, kept-wide, has-stored, has-below, row-has}
+use Rattle.spec.specs.Kept.{Kept, Has, kept-stored, kept-then, kept-wide, has-stored, has-below, has-above, row-has}
 
 module _ (b : List ℕ) (w : Passed b) where
   pub spec-is : SpecIs b (planStart b) 0 (jobOf b .spec)
@@ -116,46 +115,43 @@ module _ (b : List ℕ) (w : Passed b) where
       ancestors = λ i q. is-small (listC numC) b (planStart b) _ _ _ low (table-number i 5 q (omega arith)) (table-is i q .ancestors);
     }
 
-  -- ---- storing them one after the other
-  module _ (e roots segments tables version : ℕ) (i₀ : e ≡ planStart b) (i₁ : roots ≡ skip (listC loopC) b 0 e) (i₂ : segments ≡ skip (listC numC) b roots e) (i₃ : tables ≡ skip (bytesMapC segmentC) b segments e) (i₄ : version ≡ skip (listC tableC) b tables e) where
-    pub heads-are : small 0 ∷ small roots ∷ small tables ∷ small version ∷ [] ≡ headRow b
-    unfolding headRow
-    heads-are = rw (i₄, i₃, i₂, i₁, i₀)
+  -- ---- storing them one after the other, the segments in between
+  pub few-at : (e tables : ℕ) → e ≡ planStart b → tables ≡ specTables b e 0 → countAt b tables e ≤ 16
+  few-at e tables i₀ i = rw (i, i₀) few-tables
 
-    pub tables-place : tables ≡ specTables b (planStart b) 0
-    tables-place = rw (i₃, i₂, i₁, i₀)
-
-    pub few-at : countAt b tables e ≤ 16
-    few-at = rw (tables-place, i₀) few-tables
-
-  module _ (d₀ d₁ d₂ d₃ : List ℕ) (e₁ : d₁ ≡ stored d₀ 0 (headRow b)) (e₂ : d₂ ≡ stored d₁ 8 (loopRows b (planStart b) 0)) (e₃ : d₃ ≡ stored d₂ 232 (tableRows b (planStart b) (specTables b (planStart b) 0))) where
-    k₁ : Kept 0 4 d₀ d₁
-    k₁ = kept-stored 0 4 d₀ d₁ (headRow b) 0 e₁ (omega arith) (rw heads-long (omega arith))
-
-    k₂ : Kept 8 232 d₁ d₂
-    k₂ = kept-stored 8 232 d₁ d₂ (loopRows b (planStart b) 0) 8 e₂ (omega arith) (omega (arith, loops-long))
+  module _ (d₀ d₁ d₂ d₃ d₄ : List ℕ) (e₁ : d₁ ≡ stored d₀ 8 (loopRows b (planStart b) 0)) (k₂ : Kept 4096 10752 d₁ d₂) (e₃ : d₃ ≡ stored d₂ 232 (tableRows b (planStart b) (specTables b (planStart b) 0))) (e₄ : d₄ ≡ stored d₃ 0 (headRow b)) where
+    k₁ : Kept 8 232 d₀ d₁
+    k₁ = kept-stored 8 232 d₀ d₁ (loopRows b (planStart b) 0) 8 e₁ (omega arith) (omega (arith, loops-long))
 
     k₃ : Kept 232 328 d₂ d₃
     k₃ = kept-stored 232 328 d₂ d₃ (tableRows b (planStart b) (specTables b (planStart b) 0)) 232 e₃ (omega arith) (omega (arith, tables-long))
 
-    pub spec-kept : Kept 0 1024 d₀ d₃
-    spec-kept = kept-then 0 1024 232 328 d₀ d₂ d₃ (kept-then 0 1024 8 232 d₀ d₁ d₂ (kept-wide 0 4 0 1024 d₀ d₁ (omega arith) (omega arith) k₁) k₂ (omega arith) (omega arith)) k₃ (omega arith) (omega arith)
+    k₄ : Kept 0 4 d₃ d₄
+    k₄ = kept-stored 0 4 d₃ d₄ (headRow b) 0 e₄ (omega arith) (rw heads-long (omega arith))
 
-    pub spec-filled : 10752 ≤ length d₀ → SpecIndexed b d₃
+    pub before-kept : Kept 0 1024 d₀ d₁
+    before-kept = kept-wide 8 232 0 1024 d₀ d₁ (omega arith) (omega arith) k₁
+
+    pub behind-kept : Kept 0 1024 d₂ d₄
+    behind-kept = kept-then 0 1024 0 4 d₂ d₃ d₄ (kept-wide 232 328 0 1024 d₂ d₃ (omega arith) (omega arith) k₃) k₄ (omega arith) (omega arith)
+
+    pub spec-filled : 10752 ≤ length d₀ → SpecIndexed b d₄
     spec-filled m =
         let n₁ = k₁ .long in
         let n₂ = k₂ .long in
-        spec-indexed d₃
-        (has-below d₂ d₃ (headRow b) 0 232 328 (has-below d₁ d₂ (headRow b) 0 8 232 (has-stored d₀ d₁ (headRow b) 0 e₁ (omega (arith, heads-long))) k₂ (omega (arith, heads-long))) k₃ (omega (arith, heads-long)))
-        (has-below d₂ d₃ (loopRows b (planStart b) 0) 8 232 328 (has-stored d₁ d₂ (loopRows b (planStart b) 0) 8 e₂ (omega (arith, loops-long))) k₃ (omega (arith, loops-long)))
-        (has-stored d₂ d₃ (tableRows b (planStart b) (specTables b (planStart b) 0)) 232 e₃ (omega (arith, tables-long)))
+        let n₃ = k₃ .long in
+        spec-indexed d₄
+        (has-stored d₃ d₄ (headRow b) 0 e₄ (omega (arith, heads-long)))
+        (has-above d₃ d₄ (loopRows b (planStart b) 0) 8 0 4 (has-below d₂ d₃ (loopRows b (planStart b) 0) 8 232 328 (has-below d₁ d₂ (loopRows b (planStart b) 0) 8 4096 10752 (has-stored d₀ d₁ (loopRows b (planStart b) 0) 8 e₁ (omega (arith, loops-long))) k₂ (omega (arith, loops-long))) k₃ (omega (arith, loops-long))) k₄ (omega arith))
+        (has-above d₃ d₄ (tableRows b (planStart b) (specTables b (planStart b) 0)) 232 0 4 (has-stored d₂ d₃ (tableRows b (planStart b) (specTables b (planStart b) 0)) 232 e₃ (omega (arith, tables-long))) k₄ (omega arith))
 
   -- the same, by what is read and stored on the way
-  pub fill-done : (e roots segments tables version : ℕ) → e ≡ planStart b → roots ≡ skip (listC loopC) b 0 e → segments ≡ skip (listC numC) b roots e → tables ≡ skip (bytesMapC segmentC) b segments e → version ≡ skip (listC tableC) b tables e
-      → (d₀ d₁ d₂ d₃ : List ℕ) → d₁ ≡ stored d₀ 0 (small 0 ∷ small roots ∷ small tables ∷ small version ∷ []) → d₂ ≡ stored d₁ 8 (loopRows b e 0) → d₃ ≡ stored d₂ 232 (tableRows b e tables)
-      → (10752 ≤ length d₀ → SpecIndexed b d₃) × Kept 0 1024 d₀ d₃
-  fill-done e roots segments tables version i₀ i₁ i₂ i₃ i₄ d₀ d₁ d₂ d₃ f₁ f₂ f₃ =
-      let e₁ : d₁ ≡ stored d₀ 0 (headRow b) = f₁ ∙ rw (heads-are e roots segments tables version i₀ i₁ i₂ i₃ i₄) in
-      let e₂ : d₂ ≡ stored d₁ 8 (loopRows b (planStart b) 0) = f₂ ∙ rw i₀ in
-      let e₃ : d₃ ≡ stored d₂ 232 (tableRows b (planStart b) (specTables b (planStart b) 0)) = f₃ ∙ rw (tables-place e roots segments tables version i₀ i₁ i₂ i₃ i₄, i₀) in
-      (spec-filled d₀ d₁ d₂ d₃ e₁ e₂ e₃, spec-kept d₀ d₁ d₂ d₃ e₁ e₂ e₃)
+  pub fill-done : (e roots tables version : ℕ) → e ≡ planStart b → roots ≡ skip (listC loopC) b 0 e → tables ≡ specTables b e 0 → version ≡ skip (listC tableC) b tables e
+      → (d₀ d₁ d₂ d₃ d₄ : List ℕ) → d₁ ≡ stored d₀ 8 (loopRows b e 0) → Kept 4096 10752 d₁ d₂ → d₃ ≡ stored d₂ 232 (tableRows b e tables) → d₄ ≡ stored d₃ 0 (small 0 ∷ small roots ∷ small tables ∷ small version ∷ [])
+      → (10752 ≤ length d₀ → SpecIndexed b d₄) × Kept 0 1024 d₀ d₁ × Kept 0 1024 d₂ d₄
+  unfolding headRow
+  fill-done e roots tables version i₀ i₁ i₃ i₄ d₀ d₁ d₂ d₃ d₄ f₁ k f₃ f₄ =
+      let e₁ : d₁ ≡ stored d₀ 8 (loopRows b (planStart b) 0) = f₁ ∙ rw i₀ in
+      let e₃ : d₃ ≡ stored d₂ 232 (tableRows b (planStart b) (specTables b (planStart b) 0)) = f₃ ∙ rw (i₃, i₀) in
+      let e₄ : d₄ ≡ stored d₃ 0 (headRow b) = f₄ ∙ rw (i₄, i₃, i₁, i₀) in
+      (spec-filled d₀ d₁ d₂ d₃ d₄ e₁ k e₃ e₄, before-kept d₀ d₁ d₂ d₃ d₄ e₁ k e₃ e₄, behind-kept d₀ d₁ d₂ d₃ d₄ e₁ k e₃ e₄)

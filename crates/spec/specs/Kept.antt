@@ -55,6 +55,9 @@ has-stored l m vs p e h = rw e (λ i q. getD-sets-in vs l p i q (omega arith))
 pub has-below : (l m vs : List ℕ) (at from to : ℕ) → Has l at vs → Kept from to l m → at + length vs ≤ from → Has m at vs
 has-below l m vs at from to h k q = λ i r. k .below (at + i) (omega arith) ∙ h i r
 
+pub has-above : (l m vs : List ℕ) (at from to : ℕ) → Has l at vs → Kept from to l m → to ≤ at → Has m at vs
+has-above l m vs at from to h k q = λ i r. k .above (at + i) (omega arith) ∙ h i r
+
 -- more numbers behind those that were stored
 pub stored-more : (l d d′ xs ys : List ℕ) (k n : ℕ) → d ≡ stored l k xs → n ≡ k + length xs → d′ ≡ stored d n ys → d′ ≡ stored l k (xs ++ ys)
 unfolding stored

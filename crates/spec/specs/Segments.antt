@@ -1,6 +1,6 @@
 -- The index over the segment map: at 4096 the place of the map, behind it the place of each entry.
 use Prim.Native.Nat.{ℕ, suc, _+_, _*_, _≤_, _<_}
-use mathlib.Core.Path.{_≡_, refl, ap, _∙_}
+use mathlib.Core.Path.{_≡_, refl, sym, ap, _∙_}
 use mathlib.Core.List.{List, [], _∷_}
 use mathlib.Core.Bool.{Bool, true, false, not}
 use native.Mathlib.Omega.{arith}
@@ -11,14 +11,14 @@ use borrow.Author.Tests.{leb-true}
 use Rattle.codec.specs.Codec.{Codec, pick, Bytes, leC, encLe, depC, _⊗_, whenC, listC, itemsEnc}
 use Rattle.codec.specs.Skip.{Is, skip, steps, countAt, skip-le}
 use Rattle.codec.specs.Forms.{numC, byteC, bytesC}
-use Rattle.codec.specs.Maps.{numMapC, is-bytes-map}
+use Rattle.codec.specs.Maps.{numMapC, bytesMapC, is-bytes-map}
 use Rattle.codec.specs.Field.{is-list, is-at, count-list}
 use Rattle.codec.specs.Limits.{anyOf, none-of}
 use Rattle.codec.specs.Rows.{stored, small, is-small, rows-length}
-use Rattle.format.specs.Spec.{elementC, SegmentDef, segmentC, loopC}
+use Rattle.format.specs.Spec.{elementC, SegmentDef, segmentC}
 use Rattle.format.specs.Sections.{planStart, jobOf}
 use Rattle.format.specs.Refusal.{unfit, unfitSpec, unfitSegment, unnamed, identifier}
-use Rattle.format.specs.Fields.{specSegments}
+use Rattle.format.specs.Fields.{specSegments, specTables}
 use Rattle.format.specs.Passed.{Passed}
 use Rattle.spec.specs.Rows.{entryRow, entryRows}
 use Rattle.spec.specs.Kept.{Kept, Has, kept-stored, kept-then, kept-wide, has-stored, has-below, row-has}
@@ -111,8 +111,16 @@ module _ (b : List ℕ) (w : Passed b) where
       let i = spec-within b w in
       omega (arith, s .next, s .within, l, m, o .most, i)
 
-  pub few-entries : Bytes b → (e roots segments : ℕ) → e ≡ planStart b → roots ≡ skip (listC loopC) b 0 e → segments ≡ skip (listC numC) b roots e → countAt b segments e ≤ 6553
-  few-entries bs e roots segments i₀ i₁ i₂ = rw (i₂, i₁, i₀, ← entries-counted) (few-segments bs)
+  pub few-entries : Bytes b → (e at : ℕ) → e ≡ planStart b → at ≡ specSegments b e 0 → countAt b at e ≤ 6553
+  few-entries bs e at i₀ i = rw (i, i₀, ← entries-counted) (few-segments bs)
+
+  -- the place behind the map is that behind its entries: both are as long as what they encode
+  pub entries-end : Bytes b → (e at r : ℕ) → e ≡ planStart b → at ≡ specSegments b e 0 → r ≡ skip (listC (bytesC ⊗ segmentC)) b at e → r ≡ specTables b e 0
+  unfolding bytesMapC whenC
+  entries-end bs e at r i₀ i j =
+      let s = listC (bytesC ⊗ segmentC) .back b (specSegments b (planStart b) 0) (planStart b) (jobOf b .spec .segments) _ bs entries-is in
+      let t = bytesMapC segmentC .back b (specSegments b (planStart b) 0) (planStart b) (jobOf b .spec .segments) _ bs (spec-is b w .segments) in
+      j ∙ rw (i, i₀) (s .next ∙ sym (t .next))
 
   -- ---- from the numbers to the index
   module _ (idx : List ℕ) (h : Has idx 4096 (small (specSegments b (planStart b) 0) ∷ [])) (l : Has idx 4097 (entryRows b (planStart b) (specSegments b (planStart b) 0))) where
@@ -141,11 +149,11 @@ module _ (b : List ℕ) (w : Passed b) where
       entry = λ i q. is-small (bytesC ⊗ segmentC) b (planStart b) _ _ _ low (number i q) (entry-is i q);
     }
 
-  pub segments-filled : Bytes b → (e roots segments : ℕ) → e ≡ planStart b → roots ≡ skip (listC loopC) b 0 e → segments ≡ skip (listC numC) b roots e
+  pub segments-filled : Bytes b → (e segments : ℕ) → e ≡ planStart b → segments ≡ specSegments b e 0
       → (d₀ d₁ d₂ : List ℕ) → d₁ ≡ stored d₀ 4096 (small segments ∷ []) → d₂ ≡ stored d₁ 4097 (entryRows b e segments) → (10752 ≤ length d₀ → SegmentsIndexed b d₂) × Kept 4096 10752 d₀ d₂
   unfolding entryRows
-  segments-filled bs e roots segments i₀ i₁ i₂ d₀ d₁ d₂ f₁ f₂ =
-      let p : segments ≡ specSegments b (planStart b) 0 = rw (i₂, i₁, i₀) in
+  segments-filled bs e segments i₀ i d₀ d₁ d₂ f₁ f₂ =
+      let p : segments ≡ specSegments b (planStart b) 0 = rw (i, i₀) in
       let e₁ : d₁ ≡ stored d₀ 4096 (small (specSegments b (planStart b) 0) ∷ []) = f₁ ∙ rw p in
       let e₂ : d₂ ≡ stored d₁ 4097 (entryRows b (planStart b) (specSegments b (planStart b) 0)) = f₂ ∙ rw (p, i₀) in
       let n = rows-length (bytesC ⊗ segmentC) b (planStart b) entryRow 1 (λ p. refl) (countAt b (specSegments b (planStart b) 0) (planStart b)) (skip (leC 4) b (specSegments b (planStart b) 0) (planStart b)) in

@@ -2,14 +2,17 @@
 ghost use Prim.Native.Nat.{_≤_, _<_};
 ghost use mathlib.Core.Path.{_≡_};
 ghost use mathlib.Core.List.{[], _∷_};
+ghost use Rattle.codec.specs.Codec.{_⊗_, listC};
+ghost use Rattle.codec.specs.Forms.{bytesC};
 ghost use Rattle.codec.specs.Skip.{skip, countAt};
 ghost use Rattle.codec.specs.Rows.{stored, small};
-ghost use Rattle.format.specs.Spec.{loopC, tableC};
+ghost use Rattle.format.specs.Spec.{loopC, segmentC, tableC};
+ghost use Rattle.format.specs.Sections.{planStart};
+ghost use Rattle.format.specs.Fields.{specSegments, specTables};
 ghost use Rattle.format.specs.Passed.{Passed};
 ghost use lib.ListN.{length};
 ghost use Rattle.spec.specs.EnvelopeIndex.{EnvelopeIndexed, envelopeRow};
-ghost use Rattle.spec.specs.Filled.{Filled};
-ghost use Rattle.spec.specs.Index.{SpecIndexed};
+ghost use Rattle.spec.specs.Filled.{Filled, SpecFilled};
 ghost use Rattle.spec.specs.Segments.{SegmentsIndexed};
 ghost use Rattle.spec.specs.Kept.{Kept};
 ghost use Rattle.spec.specs.Rows.{loopRow, tableRow, loopRows, tableRows, entryRows};
@@ -62,9 +65,10 @@ pub fn table_into(b: &[u8], index: &mut [u32], k: u32, at: usize, end: u32) -> u
     codec::les_at(b, 4, ancestors, end)
 }
 
-pub fn loops_into(b: &[u8], index: &mut [u32], end: u32)
+// Stores the loops' rows; answers the place behind them.
+pub fn loops_into(b: &[u8], index: &mut [u32], end: u32) -> usize
     requires { ⌜ countAt (now b) 0 end ≤ 32 ⌝ }
-    ensures { λ r. ⌜ now (index .exit) ≡ stored (now (index .entry)) 8 (loopRows (now (b .entry)) end 0) ⌝ }
+    ensures { λ r. ⌜ (r ≡ skip (listC loopC) (now (b .entry)) 0 end) × (now (index .exit) ≡ stored (now (index .entry)) 8 (loopRows (now (b .entry)) end 0)) ⌝ }
 {
     let mut left = codec::count_at(b, 0, end);
     let mut p = codec::le_at(b, 4, 0, end);
@@ -74,11 +78,13 @@ pub fn loops_into(b: &[u8], index: &mut [u32], end: u32)
         k = k + 7;
         left = left - 1;
     }
+    p
 }
 
-pub fn tables_into(b: &[u8], index: &mut [u32], at: usize, end: u32)
+// Stores the tables' rows; answers the place behind them.
+pub fn tables_into(b: &[u8], index: &mut [u32], at: usize, end: u32) -> usize
     requires { ⌜ countAt (now b) at end ≤ 16 ⌝ }
-    ensures { λ r. ⌜ now (index .exit) ≡ stored (now (index .entry)) 232 (tableRows (now (b .entry)) end at) ⌝ }
+    ensures { λ r. ⌜ (r ≡ skip (listC tableC) (now (b .entry)) at end) × (now (index .exit) ≡ stored (now (index .entry)) 232 (tableRows (now (b .entry)) end at)) ⌝ }
 {
     let mut left = codec::count_at(b, at, end);
     let mut p = codec::le_at(b, 4, at, end);
@@ -88,11 +94,13 @@ pub fn tables_into(b: &[u8], index: &mut [u32], at: usize, end: u32)
         k = k + 6;
         left = left - 1;
     }
+    p
 }
 
-pub fn entries_into(b: &[u8], index: &mut [u32], at: usize, end: u32)
+// Stores the places of the segments; answers the place behind them.
+pub fn entries_into(b: &[u8], index: &mut [u32], at: usize, end: u32) -> usize
     requires { ⌜ countAt (now b) at end ≤ 6655 ⌝ }
-    ensures { λ r. ⌜ now (index .exit) ≡ stored (now (index .entry)) 4097 (entryRows (now (b .entry)) end at) ⌝ }
+    ensures { λ r. ⌜ (r ≡ skip (listC (bytesC ⊗ segmentC)) (now (b .entry)) at end) × (now (index .exit) ≡ stored (now (index .entry)) 4097 (entryRows (now (b .entry)) end at)) ⌝ }
 {
     let mut left = codec::count_at(b, at, end);
     let mut p = codec::le_at(b, 4, at, end);
@@ -104,6 +112,7 @@ pub fn entries_into(b: &[u8], index: &mut [u32], at: usize, end: u32)
         k = k + 1;
         left = left - 1;
     }
+    p
 }
 
 pub fn heads_into(index: &mut [u32], roots: usize, tables: usize, version: usize)
@@ -113,20 +122,26 @@ pub fn heads_into(index: &mut [u32], roots: usize, tables: usize, version: usize
     codec::put2(index, 2, tables, version);
 }
 
-// The region of the spec.
+// The region of the segments, whose list stands at a place; answers the place behind it.
+pub fn fill_segments(job: &[u8], index: &mut [u32], at: usize, end: u32) -> usize
+    requires { ⌜ Passed (now job) × (end ≡ planStart (now job)) × (at ≡ specSegments (now job) end 0) ⌝ }
+    ensures { λ r. ⌜ (r ≡ specTables (now (job .entry)) end 0) × (10752 ≤ length (now (index .entry)) → SegmentsIndexed (now (job .entry)) (now (index .exit))) × Kept 4096 10752 (now (index .entry)) (now (index .exit)) ⌝ }
+{
+    codec::put(index, 4096, at);
+    entries_into(job, index, at, end)
+}
+
+// The regions of the spec and of the segments.
 pub fn fill_spec(job: &[u8], index: &mut [u32])
     requires { ⌜ Passed (now job) ⌝ }
-    ensures { λ r. ⌜ (10752 ≤ length (now (index .entry)) → SpecIndexed (now (job .entry)) (now (index .exit))) ⌝ }
-    ensures { λ r. ⌜ Kept 0 1024 (now (index .entry)) (now (index .exit)) ⌝ }
+    ensures { λ r. ⌜ SpecFilled (now (job .entry)) (now (index .entry)) (now (index .exit)) ⌝ }
 {
     let end = spec_end(job);
-    let roots = format::loops_at(job, 0, end);
+    let roots = loops_into(job, index, end);
     let segments = codec::les_at(job, 4, roots, end);
-    let tables = format::segments_at(job, segments, end);
-    let version = format::tables_at(job, tables, end);
+    let tables = fill_segments(job, index, segments, end);
+    let version = tables_into(job, index, tables, end);
     heads_into(index, roots, tables, version);
-    loops_into(job, index, end);
-    tables_into(job, index, tables, end);
 }
 
 pub fn envelope_into(b: &[u8], index: &mut [u32], at: usize, end: u32)
@@ -181,25 +196,11 @@ pub fn fill_envelope(job: &[u8], index: &mut [u32])
     envelope_into(job, index, at, end as u32);
 }
 
-// The region of the segments.
-pub fn fill_segments(job: &[u8], index: &mut [u32])
-    requires { ⌜ Passed (now job) ⌝ }
-    ensures { λ r. ⌜ (10752 ≤ length (now (index .entry)) → SegmentsIndexed (now (job .entry)) (now (index .exit))) ⌝ }
-    ensures { λ r. ⌜ Kept 4096 10752 (now (index .entry)) (now (index .exit)) ⌝ }
-{
-    let end = spec_end(job);
-    let roots = format::loops_at(job, 0, end);
-    let segments = codec::les_at(job, 4, roots, end);
-    codec::put(index, 4096, segments);
-    entries_into(job, index, segments, end);
-}
-
 // All three regions.
 pub fn fill(job: &[u8], index: &mut [u32])
     requires { ⌜ Passed (now job) ⌝ }
     ensures { λ r. ⌜ Filled (now (job .entry)) (now (index .entry)) (now (index .exit)) ⌝ }
 {
     fill_spec(job, index);
-    fill_segments(job, index);
     fill_envelope(job, index);
 }

@@ -9,13 +9,11 @@ ghost use Rattle.spec.specs.Region.{putItem, Stored};
 
 // The lists whose places are stored, by what their items are.
 pub enum Part {
-    LoopPlan,
     SegmentPlan,
     Order,
     Forced,
     Columns,
     Depth,
-    Table,
     Column,
 }
 
@@ -24,13 +22,11 @@ pub fn part_at(job: &[u8], part: Part, at: usize, end: u32) -> usize
     ensures { λ r. ⌜ r ≡ skip (partC part) (now (job .entry)) at end ⌝ }
 {
     match part {
-        Part::LoopPlan => format::loop_plan_at(job, at, end),
         Part::SegmentPlan => format::segment_plan_at(job, at, end),
         Part::Order => format::items_at(job, at, end),
         Part::Forced => format::flags_at(job, at, end),
         Part::Columns => codec::les_at(job, 4, at, end),
         Part::Depth => codec::opt_num_at(job, at, end),
-        Part::Table => format::table_data_at(job, at, end),
         Part::Column => format::opt_column_at(job, at, end),
     }
 }

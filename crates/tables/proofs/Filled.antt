@@ -10,9 +10,9 @@ use lib.ListN.{length, getD, set, List·getD-eq-default}
 use lib.Seq.{getD-set-same, getD-set-other}
 use lib.Dec.{ltb}
 use borrow.Author.Tests.{ltb-true, ltb-false}
-use Rattle.codec.specs.Codec.{le, leC}
+use Rattle.codec.specs.Codec.{le, leC, listC}
 use Rattle.codec.specs.Forms.{optC}
-use Rattle.codec.specs.Skip.{skip, countAt, Is, skip-le}
+use Rattle.codec.specs.Skip.{skip, steps, countAt, Is, skip-le, skip-map, skip-pair}
 use Rattle.codec.specs.Field.{is-list, count-list, is-le}
 use Rattle.codec.specs.Rows.{small, is-small}
 use Rattle.codec.specs.Limits.{none-of, none-in}
@@ -25,18 +25,23 @@ use Rattle.format.specs.Ask.{dataOf}
 use Rattle.column.specs.Parts.{refsC, is-table-data}
 use Rattle.spec.specs.Kept.{Kept, kept-same, kept-set, kept-then, kept-wide}
 use Rattle.spec.specs.Region.{Stored, Listed}
-use Rattle.spec.proofs.Storing.{Lists, stored-kept, listed}
+use Rattle.spec.proofs.Storing.{stored-kept, listed, lists-more, lists-all}
 use Rattle.tables.specs.Parts.{refsFrom, columnsFrom, rowsBefore, rowsBy}
-use Rattle.tables.specs.Index.{TablesIndexed, RefsStored, TablesFilled}
+use Rattle.tables.specs.Index.{DataLists, DataInto, TablesIndexed, RefsStored, TablesFilled}
 
--- ---- the columns of the tables, one table after the other
-abbrev pub Columns : List ℕ → ℕ → ℕ → List ℕ → List ℕ → Type 0
-Columns b e = Lists (optC columnC) b e (columnsFrom b e) 2625 2674 3202
-
+-- ---- the tables and their columns, one table after the other
 module _ (b : List ℕ) (e : ℕ) where
-  -- the list stands behind rows, row, segment and refs
-  pub columns-at : (p q r s t at k : ℕ) (new : List ℕ) → p ≡ q → r ≡ skip (leC 4) b p e → s ≡ skip (optC columnC) b r e → t ≡ skip (optC columnC) b s e → at ≡ skip refsC b t e → Stored (optC columnC) b e at k new → Stored (optC columnC) b e (columnsFrom b e q) k new
-  columns-at p q r s t at k new h i j m n w = rw (← h, ← i, ← j, ← m, ← n) w
+  -- the columns stand behind rows, row, segment and refs
+  pub table-more : (start t p r s f at q : ℕ) (old d mid new : List ℕ) → t < 16 → mid ≡ set d (2625 + t) (small p) → r ≡ skip (leC 4) b p e → s ≡ skip (optC columnC) b r e → f ≡ skip (optC columnC) b s e → at ≡ skip refsC b f e → (q ≡ skip (listC (optC columnC)) b at e) × Kept (2674 + t * 33) (2674 + t * 33 + 33) mid new × Stored (optC columnC) b e at (2674 + t * 33) new → DataLists b e start t p old d → DataLists b e start (t + 1) q old new
+  unfolding tableDataC
+  table-more start t p r s f at q old d mid new m w i j k l x h =
+      let z : at ≡ columnsFrom b e p = rw (l, k, j, i) in
+      lists-more tableDataC (optC columnC) b e (columnsFrom b e) 2624 2674 3202 start t p q old d mid new (omega arith) (omega arith) (omega arith) h w (x .1) (rw z at (x .2)) (x .0 ∙ rw z (simp (skip-map, skip-pair)))
+
+  pub data-into : (at n start p t : ℕ) (old d new : List ℕ) → n ≤ 16 → n ≡ countAt b at e → start ≡ skip (leC 4) b at e → t ≡ n → DataLists b e start t p old d → new ≡ set d 2624 (small at) → DataInto b e at old new
+  data-into at n start p t old d new m c f x h w =
+      let y = lists-all tableDataC (optC columnC) b e (columnsFrom b e) 2624 2674 3202 start at n p t old d new c f x (omega arith) (omega arith) h w in
+      record { kept = y .0; tables = y .1; columns = λ j i. y .2 j (omega arith) (omega arith) }
 
 -- ---- the references of the tables
 -- the places of the first t tables' references are stored
@@ -139,19 +144,14 @@ rows-by b idx e ts h m (suc t) q =
     rw z (rw (i, ← k) (sym n))
 
 -- ---- all together
-module _ (b x₀ y₀ x₁ x₂ x₃ : List ℕ) (w : Passed b) (k₀ : Kept 2624 2657 x₀ y₀) (s₀ : Stored tableDataC b (trailer b) (dataStart b) 2624 y₀)
-    (r₁ : RefsStored b (trailer b) (countAt b (dataStart b) (trailer b)) y₀ x₁)
-    (k₂ : Kept 2674 3202 x₁ x₂) (s₂ : (t : ℕ) → t < countAt b (dataStart b) (trailer b) → Stored (optC columnC) b (trailer b) (columnsFrom b (trailer b) (getD x₁ (2625 + t) 0)) (2674 + t * 33) x₂)
+module _ (b x₀ x₁ x₂ x₃ : List ℕ) (w : Passed b) (i₁ : DataInto b (trailer b) (dataStart b) x₀ x₁)
+    (r₂ : RefsStored b (trailer b) (countAt b (dataStart b) (trailer b)) x₁ x₂)
     (k₃ : Kept 2657 2674 x₂ x₃) (s₃ : (t : ℕ) → t ≤ countAt b (dataStart b) (trailer b) → 2657 + t < length x₂ → getD x₃ (2657 + t) 0 ≡ small (rowsBy b x₂ t)) where
-  k₁ : Kept 2624 4096 x₀ x₁
-  k₁ = kept-then 2624 4096 3202 3219 x₀ y₀ x₁ (kept-wide 2624 2657 2624 4096 x₀ y₀ (omega arith) (omega arith) k₀) (r₁ .kept) (omega arith) (omega arith)
+  k₂ : Kept 2624 4096 x₀ x₂
+  k₂ = kept-then 2624 4096 3202 3219 x₀ x₁ x₂ (kept-wide 2624 3202 2624 4096 x₀ x₁ (omega arith) (omega arith) (i₁ .kept)) (r₂ .kept) (omega arith) (omega arith)
 
-  s₁ : Stored tableDataC b (trailer b) (dataStart b) 2624 x₁
-  s₁ = stored-kept tableDataC b (trailer b) _ 2624 3202 3219 y₀ x₁ s₀ (r₁ .kept) (inl (omega arith))
-
-  -- what stands behind the columns stays
-  behind : (i : ℕ) → 3202 ≤ i → getD x₃ i 0 ≡ getD x₁ i 0
-  behind i h = k₃ .above i (omega arith) ∙ k₂ .above i h
+  s₂ : Stored tableDataC b (trailer b) (dataStart b) 2624 x₂
+  s₂ = stored-kept tableDataC b (trailer b) _ 2624 3202 3219 x₁ x₂ (i₁ .tables) (r₂ .kept) (inl (omega arith))
 
   data-there : Is dataC b (trailer b) (dataStart b) (jobOf b .tables)
   data-there = is-read dataC b (dataStart b) (trailer b) _ (w .read .tables)
@@ -172,7 +172,7 @@ module _ (b x₀ y₀ x₁ x₂ x₃ : List ℕ) (w : Passed b) (k₀ : Kept 262
 
   module _ (room : 4096 ≤ length x₀) where
     long₂ : length x₂ ≡ length x₀
-    long₂ = k₂ .long ∙ k₁ .long
+    long₂ = k₂ .long
 
     long₃ : length x₃ ≡ length x₀
     long₃ = k₃ .long ∙ long₂
@@ -184,13 +184,13 @@ module _ (b x₀ y₀ x₁ x₂ x₃ : List ℕ) (w : Passed b) (k₀ : Kept 262
     few-rows = few (jobOf b) (w .limits) .rows
 
     listed₁ : Listed tableDataC b (trailer b) x₁ 2624 (jobOf b .tables)
-    listed₁ = listed tableDataC b (trailer b) (dataStart b) 2624 x₁ _ fits (omega (arith, k₁ .long)) s₁ data-there
+    listed₁ = listed tableDataC b (trailer b) (dataStart b) 2624 x₁ _ fits (omega (arith, i₁ .kept .long)) (i₁ .tables) data-there
 
     listed₂ : Listed tableDataC b (trailer b) x₂ 2624 (jobOf b .tables)
-    listed₂ = listed tableDataC b (trailer b) (dataStart b) 2624 x₂ _ fits (omega (arith, long₂)) (stored-kept tableDataC b (trailer b) _ 2624 2674 3202 x₁ x₂ s₁ k₂ (inl (omega arith))) data-there
+    listed₂ = listed tableDataC b (trailer b) (dataStart b) 2624 x₂ _ fits (omega (arith, long₂)) s₂ data-there
 
     listed₃ : Listed tableDataC b (trailer b) x₃ 2624 (jobOf b .tables)
-    listed₃ = listed tableDataC b (trailer b) (dataStart b) 2624 x₃ _ fits (omega (arith, long₃)) (stored-kept tableDataC b (trailer b) _ 2624 2657 2674 x₂ x₃ (stored-kept tableDataC b (trailer b) _ 2624 2674 3202 x₁ x₂ s₁ k₂ (inl (omega arith))) k₃ (inl (omega arith))) data-there
+    listed₃ = listed tableDataC b (trailer b) (dataStart b) 2624 x₃ _ fits (omega (arith, long₃)) (stored-kept tableDataC b (trailer b) _ 2624 2657 2674 x₂ x₃ s₂ k₃ (inl (omega arith))) data-there
 
     firsts : (t : ℕ) → t ≤ length (jobOf b .tables) → getD x₃ (2657 + t) 0 ≡ rowsBefore (jobOf b .tables) t
     firsts t q =
@@ -205,13 +205,16 @@ module _ (b x₀ y₀ x₁ x₂ x₃ : List ℕ) (w : Passed b) (k₀ : Kept 262
     unfolding dataOf
     listed-columns t m =
         let n = few-tables in
-        let s = stored-kept (optC columnC) b (trailer b) _ (2674 + t * 33) 2657 2674 x₂ x₃ (s₂ t (omega (arith, counted))) k₃ (inr (omega arith)) in
-        let i = is-table-data b (trailer b) _ _ (listed₁ .item t noTableData m (omega arith)) in
-        let y : skip (leC 4) b (getD x₁ (2625 + t) 0) (trailer b) ≡ getD x₁ (2625 + t) 0 + 4 = skip-le 4 b _ (trailer b) (is-le 4 b (trailer b) _ _ (i .rows) .0) in
+        let z = is-list tableDataC b (trailer b) (dataStart b) _ data-there in
+        let f : skip (leC 4) b (dataStart b) (trailer b) ≡ dataStart b + 4 = skip-le 4 b _ (trailer b) (z .room) in
+        let c = rw f at (i₁ .columns t (omega (arith, counted))) in
+        let s = stored-kept (optC columnC) b (trailer b) _ (2674 + t * 33) 2657 2674 x₂ x₃ (stored-kept (optC columnC) b (trailer b) _ (2674 + t * 33) 3202 3219 x₁ x₂ c (r₂ .kept) (inl (omega arith))) k₃ (inr (omega arith)) in
+        let i = is-table-data b (trailer b) _ _ (z .item t noTableData m) in
+        let y : skip (leC 4) b (steps tableDataC b (trailer b) t (dataStart b + 4)) (trailer b) ≡ steps tableDataC b (trailer b) t (dataStart b + 4) + 4 = skip-le 4 b _ (trailer b) (is-le 4 b (trailer b) _ _ (i .rows) .0) in
         listed (optC columnC) b (trailer b) _ (2674 + t * 33) x₃ _ fits (omega (arith, long₃)) s (rw y (i .columns))
 
     count : getD x₃ 3202 0 ≡ length (jobOf b .tables)
-    count = omega (arith, few-tables, counted, behind 3202 (omega arith), r₁ .count (omega (arith, k₀ .long)))
+    count = omega (arith, few-tables, counted, k₃ .above 3202 (omega arith), r₂ .count (omega (arith, i₁ .kept .long)))
 
     listed-refs : (t : ℕ) → t < length (jobOf b .tables) → Is refsC b (trailer b) (getD x₃ (3203 + t) 0) ((dataOf (jobOf b) t) .refs)
     unfolding dataOf
@@ -219,18 +222,14 @@ module _ (b x₀ y₀ x₁ x₂ x₃ : List ℕ) (w : Passed b) (k₀ : Kept 262
         let n = few-tables in
         let i = is-table-data b (trailer b) _ _ (listed₁ .item t noTableData m (omega arith)) in
         let y : skip (leC 4) b (getD x₁ (2625 + t) 0) (trailer b) ≡ getD x₁ (2625 + t) 0 + 4 = skip-le 4 b _ (trailer b) (is-le 4 b (trailer b) _ _ (i .rows) .0) in
-        let h : getD x₁ (2625 + t) 0 ≡ getD y₀ (2625 + t) 0 = r₁ .kept .below (2625 + t) (omega arith) in
-        let z : getD x₃ (3203 + t) 0 ≡ small (refsFrom b (trailer b) (getD x₁ (2625 + t) 0)) = rw h (behind (3203 + t) (omega arith) ∙ r₁ .place t (omega (arith, counted)) (omega (arith, k₀ .long))) in
+        let z : getD x₃ (3203 + t) 0 ≡ small (refsFrom b (trailer b) (getD x₁ (2625 + t) 0)) = k₃ .above (3203 + t) (omega arith) ∙ r₂ .place t (omega (arith, counted)) (omega (arith, i₁ .kept .long)) in
         is-small refsC b (trailer b) (refsFrom b (trailer b) (getD x₁ (2625 + t) 0)) _ _ fits z (rw y (i .refs))
 
     pub tables-indexed : TablesIndexed b x₃
     tables-indexed = record { short = w .sound .most; few = few-tables; few-rows = few-rows; few-columns = few-columns; tables = listed₃; first = firsts; count = count; refs = listed-refs; columns = listed-columns }
 
   pub tables-filled : TablesFilled b x₀ x₃
-  tables-filled = record {
-    kept = kept-then 2624 4096 2657 2674 x₀ x₂ x₃ (kept-then 2624 4096 2674 3202 x₀ x₁ x₂ k₁ k₂ (omega arith) (omega arith)) k₃ (omega arith) (omega arith);
-    indexed = tables-indexed;
-  }
+  tables-filled = record { kept = kept-then 2624 4096 2657 2674 x₀ x₂ x₃ k₂ k₃ (omega arith) (omega arith); indexed = tables-indexed }
 
 -- how many tables there are, as counted at a place
 pub few-counted : (b : List ℕ) (n at e : ℕ) → Passed b → at ≡ dataStart b → e ≡ trailer b → n ≡ countAt b at e → n ≤ 16
@@ -242,9 +241,8 @@ few-counted b n at e w p q c =
     omega arith
 
 -- the numbers of the trailer, as they were read
-pub filled : (b x₀ y₀ x₁ x₂ x₃ : List ℕ) (n at e : ℕ) → Passed b → at ≡ dataStart b → e ≡ trailer b → n ≡ countAt b at e → Kept 2624 2657 x₀ y₀ → Stored tableDataC b e at 2624 y₀ → RefsStored b e n y₀ x₁
-    → Kept 2674 3202 x₁ x₂ → ((t : ℕ) → t < n → Stored (optC columnC) b e (columnsFrom b e (getD x₁ (2625 + t) 0)) (2674 + t * 33) x₂)
+pub filled : (b x₀ x₁ x₂ x₃ : List ℕ) (n at e : ℕ) → Passed b → at ≡ dataStart b → e ≡ trailer b → n ≡ countAt b at e → DataInto b e at x₀ x₁ → RefsStored b e n x₁ x₂
     → Kept 2657 2674 x₂ x₃ → ((t : ℕ) → t ≤ n → 2657 + t < length x₂ → getD x₃ (2657 + t) 0 ≡ small (rowsBy b x₂ t)) → TablesFilled b x₀ x₃
-filled b x₀ y₀ x₁ x₂ x₃ n at e w p q c k₀ s₀ r₁ k₂ s₂ k₃ s₃ =
+filled b x₀ x₁ x₂ x₃ n at e w p q c i₁ r₂ k₃ s₃ =
     let m : n ≡ countAt b (dataStart b) (trailer b) = rw (← p, ← q) c in
-    tables-filled b x₀ y₀ x₁ x₂ x₃ w k₀ (rw (← p, ← q) s₀) (rw (← m, ← q) r₁) k₂ (λ t h. rw (← q) (s₂ t (omega arith))) k₃ (λ t h. s₃ t (omega arith))
+    tables-filled b x₀ x₁ x₂ x₃ w (rw (← p, ← q) i₁) (rw (← m, ← q) r₂) k₃ (λ t h. s₃ t (omega arith))

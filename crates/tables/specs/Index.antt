@@ -6,8 +6,9 @@ use mathlib.Core.Path.{_≡_, _∙_}
 use mathlib.Core.List.{List}
 use native.Mathlib.Omega.{arith}
 use lib.ListN.{length, getD}
+use Rattle.codec.specs.Codec.{leC}
 use Rattle.codec.specs.Forms.{optC}
-use Rattle.codec.specs.Skip.{Is}
+use Rattle.codec.specs.Skip.{skip, steps, countAt, Is}
 use Rattle.codec.specs.Rows.{small}
 use Rattle.format.specs.Data.{columnC, tableDataC}
 use Rattle.format.specs.Sections.{jobOf, trailer}
@@ -15,8 +16,8 @@ use Rattle.format.specs.Refusal.{rowsOfAll}
 use Rattle.format.specs.Ask.{dataOf}
 use Rattle.column.specs.Parts.{refsC}
 use Rattle.spec.specs.Kept.{Kept}
-use Rattle.spec.specs.Region.{Listed, listed-kept}
-use Rattle.tables.specs.Parts.{refsFrom, rowsBefore}
+use Rattle.spec.specs.Region.{Stored, Listed, Lists, listed-kept}
+use Rattle.tables.specs.Parts.{refsFrom, columnsFrom, rowsBefore}
 
 -- from here on, the columns of a table
 abbrev pub columnsAt : ℕ → ℕ
@@ -48,6 +49,16 @@ tables-indexed-kept b idx new q h =
       refs = λ t m. rw (q (3203 + t) (omega arith) (omega arith)) (h .refs t m);
       columns = λ t m. listed-kept _ _ _ (columnsAt t) idx new _ (λ i o p. q i (omega arith) (omega arith)) (h .columns t m);
     }
+
+-- the tables, and the columns of each
+abbrev pub DataLists : List ℕ → ℕ → ℕ → ℕ → ℕ → List ℕ → List ℕ → Type 0
+DataLists b e = Lists tableDataC (optC columnC) b e (columnsFrom b e) 2624 2674 3202
+
+-- the places of the tables that stand at a place and those of their columns are stored, and nothing else
+pub record DataInto (b : List ℕ) (e at : ℕ) (old new : List ℕ) : Type 0 where
+  pub kept : Kept 2624 3202 old new
+  pub tables : Stored tableDataC b e at 2624 new
+  pub columns : (t : ℕ) → t < countAt b at e → Stored (optC columnC) b e (columnsFrom b e (steps tableDataC b e t (skip (leC 4) b at e))) (2674 + t * 33) new
 
 -- the count n of the tables and the places of their references are stored, and nothing else
 pub record RefsStored (b : List ℕ) (e n : ℕ) (old new : List ℕ) : Type 0 where

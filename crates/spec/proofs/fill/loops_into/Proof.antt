@@ -1,6 +1,8 @@
 -- `spec::fill::loops_into` meets its contract. Assumes nothing.
 use Rattle.spec.specs.Rows.{loopRow, loopRows}
 use Rattle.format.specs.Spec.{loopC}
+use Rattle.codec.specs.Codec.{listC}
+use Rattle.codec.specs.Skip.{skip, steps, list-start, list-again, list-done}
 use Rattle.codec.specs.Rows.{rows, stored, rows-next, rows-done, rows-long}
 use Prim.Native.Nat.{_+_, _*_, _≤_}
 use native.Mathlib.Omega.{arith}
@@ -10,23 +12,23 @@ use Rattle.spec.proofs.fill.loops_into.Statement.{statement}
 use Rattle.spec.proofs.fill.loops_into.Tie as tie
 
 abbrev Inv-loop : tie.InvT-loop
-Inv-loop b index₀ end left₀ p₀ k₀ index left p k = (stored index₀ 8 (loopRows b end 0) ≡ stored index k (rows loopC b end (loopRow b end) left p)) × (k + 7 * left ≤ 232)
+Inv-loop b index₀ end left₀ p₀ k₀ index left p k = (stored index₀ 8 (loopRows b end 0) ≡ stored index k (rows loopC b end (loopRow b end) left p)) × (k + 7 * left ≤ 232) × (skip (listC loopC) b 0 end ≡ steps loopC b end left p)
 
 abbrev μ-loop : tie.MeasureT-loop
 μ-loop b index₀ end left₀ p₀ k₀ index left p k = left
 
 loop-holds : tie.Need-loop-holds Inv-loop μ-loop
 unfolding loopRows
-loop-holds c = (cc, omega arith)
+loop-holds c = (cc, omega arith, list-start _ _ _ _ _ _ (c .before .count-at .ensures .0) (c .le-at .ensures))
 
 loop-again : tie.Need-loop-again Inv-loop μ-loop
-loop-again c = (rows-next _ _ _ _ _ _ _ _ _ _ _ _ (c .before .before .before .before .before .loop .inv .0) (c .before .before .before .before .loop-test .taken) refl (c .before .before .loop-into .ensures .0) (c .before .before .loop-into .ensures .1), omega arith)
+loop-again c = (rows-next _ _ _ _ _ _ _ _ _ _ _ _ (c .before .before .before .before .before .loop .inv .0) (c .before .before .before .before .loop-test .taken) refl (c .before .before .loop-into .ensures .0) (c .before .before .loop-into .ensures .1), omega arith, list-again _ _ _ _ _ _ _ (c .before .before .before .before .before .loop .inv .2) (c .before .before .before .before .loop-test .taken) (c .before .before .loop-into .ensures .0))
 
 same-length : tie.Need-same-length Inv-loop μ-loop
 same-length c = rows-long _ _ _ _ _ _ _ _ _ _ _ (c .before .loop .inv .0)
 
 returns : tie.Need-returns Inv-loop μ-loop
-returns c = rows-done _ _ _ _ _ _ _ _ _ (c .before .loop .inv .0) (c .loop-test .left)
+returns c = (list-done _ _ _ _ _ _ (c .before .loop .inv .2) (c .loop-test .left), rows-done _ _ _ _ _ _ _ _ _ (c .before .loop .inv .0) (c .loop-test .left))
 
 pub loops-into-spec : {M : Type 1} → statement M
 loops-into-spec = tie.close (tie.spec Inv-loop μ-loop (λ c κs. search needs) (λ c κs. search needs) loop-holds (λ c κs. search needs) (λ c. search needs) (λ c. search needs) (λ c. search needs) loop-again same-length returns)

@@ -5,17 +5,17 @@ use borrow.Author.Needs.{needs}
 use Rattle.tables.proofs.fill.fill.Statement.{statement}
 use Rattle.tables.proofs.fill.fill.Tie as tie
 
-refs-into-requires : tie.Need-refs-into-requires
-refs-into-requires c κs = few-counted _ _ _ _ (c .before .before .before .before .before .before .before .before .before .pre) (c .before .before .before .before .before .before .num .ensures .0) (omega arith) (c .before .count-at .ensures .0)
+tables-into-requires : tie.Need-tables-into-requires
+tables-into-requires c κs = (few-counted _ _ _ _ (c .before .before .before .before .before .pre) (c .before .before .num .ensures .0) (omega arith) (c .before .count-at .ensures .0), c .before .count-at .ensures .0)
 
-all-columns-into-requires : tie.Need-all-columns-into-requires
-all-columns-into-requires c κs = few-counted _ _ _ _ (c .before .before .before .before .before .before .before .before .before .before .before .before .before .pre) (c .before .before .before .before .before .before .before .before .before .before .num .ensures .0) (omega arith) (c .before .before .before .before .before .count-at .ensures .0)
+refs-into-requires : tie.Need-refs-into-requires
+refs-into-requires c κs = few-counted _ _ _ _ (c .before .before .before .before .before .before .before .before .before .pre) (c .before .before .before .before .before .before .num .ensures .0) (omega arith) (c .before .before .before .before .before .count-at .ensures .0)
 
 firsts-into-requires : tie.Need-firsts-into-requires
-firsts-into-requires c κs = few-counted _ _ _ _ (c .before .before .before .before .before .before .before .before .before .before .before .before .before .before .before .before .before .pre) (c .before .before .before .before .before .before .before .before .before .before .before .before .before .before .num .ensures .0) (omega arith) (c .before .before .before .before .before .before .before .before .before .count-at .ensures .0)
+firsts-into-requires c κs = few-counted _ _ _ _ (c .before .before .before .before .before .before .before .before .before .before .before .before .before .pre) (c .before .before .before .before .before .before .before .before .before .before .num .ensures .0) (omega arith) (c .before .before .before .before .before .before .before .before .before .count-at .ensures .0)
 
 returns : tie.Need-returns
-returns c = filled _ _ _ _ _ _ _ _ _ (c .before .before .before .before .before .before .before .before .before .before .before .before .before .before .before .before .before .before .before .before .pre) (c .before .before .before .before .before .before .before .before .before .before .before .before .before .before .before .before .before .num .ensures .0) (omega arith) (c .before .before .before .before .before .before .before .before .before .before .before .before .count-at .ensures .0) (c .before .before .before .before .before .before .before .before .before .before .before .before .before .before .before .list-into .ensures .1) (c .before .before .before .before .before .before .before .before .before .before .before .before .before .before .before .list-into .ensures .2) (c .before .before .before .before .before .before .before .before .before .before .refs-into .ensures) (c .before .before .before .before .before .before .all-columns-into .ensures .0) (c .before .before .before .before .before .before .all-columns-into .ensures .1) (c .before .before .firsts-into .ensures .0) (c .before .before .firsts-into .ensures .1)
+returns c = filled _ _ _ _ _ _ _ _ (c .before .before .before .before .before .before .before .before .before .before .before .before .before .before .before .before .pre) (c .before .before .before .before .before .before .before .before .before .before .before .before .before .num .ensures .0) (omega arith) (c .before .before .before .before .before .before .before .before .before .before .before .before .count-at .ensures .0) (c .before .before .before .before .before .before .before .before .before .before .tables-into .ensures) (c .before .before .before .before .before .before .refs-into .ensures) (c .before .before .firsts-into .ensures .0) (c .before .before .firsts-into .ensures .1)
 
 pub fill-spec : {M : Type 1} → statement M
-fill-spec = tie.close (tie.spec (λ c. search needs) (λ c. search needs) (λ c κs. search needs) (λ c. search needs) (λ c κs. search needs) (λ c κs. search needs) (λ c. search needs) refs-into-requires (λ c. search needs) all-columns-into-requires (λ c. search needs) firsts-into-requires (λ c. search needs) returns)
+fill-spec = tie.close (tie.spec (λ c. search needs) (λ c. search needs) (λ c κs. search needs) (λ c. search needs) (λ c κs. search needs) (λ c. search needs) tables-into-requires (λ c. search needs) refs-into-requires (λ c. search needs) firsts-into-requires (λ c. search needs) returns)
