@@ -283,6 +283,9 @@ inside-is r b x l c e q = e ∙ ap (λ v. rowless (once v) l c) (sym q)
 pub kind-of : (j : Job) (l : ℕ) (k : Instances) → instancesOf k ≡ (A.planOf j l) .instances → kindOf (outlineOf j) l ≡ kindIn (instancesOf k)
 kind-of j l k e = kind-is j l ∙ ap kindIn (sym e)
 
+pub implied-of : (j : Job) (l : ℕ) (k : Instances) (x : Bool) → instancesOf k ≡ (A.planOf j l) .instances → x ≡ isImplied (kindIn (instancesOf k)) → x ≡ isImplied (kindOf (outlineOf j) l)
+implied-of j l k x e q = q ∙ ap isImplied (sym (kind-of j l k e))
+
 module _ (o : Outline) (n : List ℕ) (l : LoopId) (c : Kept) (s : Sound o (contextBy c)) (small : l .0 < 32) (r : Cursor) where
   pub of-absent : kindOf o (l .0) ≡ absent → r ≡ rowless 0 l c → OfLoop o n (l .0) (contextBy c) r
   of-absent k q = record { all = λ h. ap (coming o n) q ∙ coming-none o n (rowless 0 l c) refl ∙ sym (inst-absent o h (l .0) (contextBy c) k); going = subst (Going o n) (sym q) (going-rowless o n 0 l c small s) }

@@ -8,8 +8,9 @@ ghost use Rattle.plan.specs.Answers.{instancesOf};
 ghost use Rattle.nest.specs.Found.{foundBy};
 ghost use Rattle.nest.specs.OfJob.{kindIn};
 ghost use Rattle.nest.specs.Ready.{Ready, outlineAt};
-ghost use Rattle.nest.specs.Outline.{kindOf, tableParent, plain, rowCount};
+ghost use Rattle.nest.specs.Outline.{tableParent, plain, rowCount};
 ghost use Rattle.format.specs.Sections.{jobOf};
+ghost use Rattle.format.specs.Ask.{planOf};
 ghost use Rattle.tables.specs.Parts.{rowsBefore};
 ghost use Rattle.walk.specs.Nested.{Nested, Sound};
 ghost use Rattle.walk.specs.Contexts.{contextBy};
@@ -230,7 +231,7 @@ fn inside_itself(job: &[u8], index: &[u32], l: LoopId, t: TableId, c: Context) -
 }
 
 // Whether a loop of this kind has an instance where one of its children has.
-fn by_children(kind: Instances) -> bool
+pub fn by_children(kind: Instances) -> bool
     ensures { λ b. ⌜ b ≡ isImplied (kindIn (instancesOf kind)) ⌝ }
 {
     match kind {
@@ -243,20 +244,18 @@ fn by_children(kind: Instances) -> bool
     }
 }
 
-// The same of loop l.
-pub fn implied(job: &[u8], index: &[u32], l: LoopId) -> bool
-    requires { ⌜ Ready (now job) (now index) × (l .0 < 32) ⌝ }
-    ensures { λ b. ⌜ b ≡ isImplied (kindOf (outlineAt (now (job .entry))) (l .0)) ⌝ }
-{
-    by_children(plan::planned::instances(job, index, l))
-}
-
 // The instances of a loop of another kind.
-pub fn by_kind(job: &[u8], index: &[u32], nest: &[u32], l: LoopId, c: Context) -> Cursor
-    requires { ⌜ Nested (now job) (now index) (now nest) × Sound (outlineAt (now job)) (contextBy c) × (l .0 < 32) × (isImplied (kindOf (outlineAt (now job)) (l .0)) ≡ false) ⌝ }
+pub fn by_kind(
+    job: &[u8],
+    index: &[u32],
+    nest: &[u32],
+    kind: Instances,
+    l: LoopId,
+    c: Context,
+) -> Cursor
+    requires { ⌜ Nested (now job) (now index) (now nest) × Sound (outlineAt (now job)) (contextBy c) × (l .0 < 32) × (instancesOf kind ≡ (planOf (jobOf (now job)) (l .0)) .instances) × (isImplied (kindIn (instancesOf kind)) ≡ false) ⌝ }
     ensures { λ r. ⌜ OfLoop (outlineAt (now (job .entry))) (now (nest .entry)) (l .0) (contextBy c) r ⌝ }
 {
-    let kind = plan::planned::instances(job, index, l);
     match kind {
         Instances::Absent => no_instance(l, c),
         Instances::Envelope => context_itself(l, c),

@@ -8,9 +8,9 @@ ghost use Rattle.walk.specs.Nested.{Nested, Sound};
 ghost use Rattle.walk.specs.Contexts.{contextBy};
 ghost use Rattle.walk.specs.Instances.{instances};
 ghost use Rattle.instances.specs.Cursor.{coming, contextIn, Came, Going};
+use crate::kinds::by_children;
 use crate::kinds::by_kind;
 use crate::kinds::context_itself;
-use crate::kinds::implied;
 use crate::kinds::no_instance;
 use crate::pieces::next_piece;
 use crate::rows::ended;
@@ -100,8 +100,9 @@ fn has_instance(job: &[u8], index: &[u32], nest: &[u32], l: LoopId, c: Context, 
     if height == 0 {
         return false;
     }
-    let by_children = implied(job, index, l);
-    if by_children {
+    let kind = plan::planned::instances(job, index, l);
+    let implied = by_children(kind);
+    if implied {
         let n = spec::loops::child_count(job, index, l);
         let mut i: u32 = 0;
         while i < n {
@@ -114,7 +115,7 @@ fn has_instance(job: &[u8], index: &[u32], nest: &[u32], l: LoopId, c: Context, 
         }
         return false;
     }
-    let cur = by_kind(job, index, nest, l, c);
+    let cur = by_kind(job, index, nest, kind, l, c);
     let first = next_instance(job, index, nest, cur);
     first.more
 }
@@ -134,13 +135,14 @@ pub fn instances(
     if height == 0 {
         return no_instance(l, c);
     }
-    let by_children = implied(job, index, l);
-    if by_children {
+    let kind = plan::planned::instances(job, index, l);
+    let implied = by_children(kind);
+    if implied {
         let some = has_instance(job, index, nest, l, c, height);
         if some {
             return context_itself(l, c);
         }
         return no_instance(l, c);
     }
-    by_kind(job, index, nest, l, c)
+    by_kind(job, index, nest, kind, l, c)
 }
