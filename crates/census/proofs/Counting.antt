@@ -1,8 +1,8 @@
 -- The count of instances, one law for each way that code takes.
 use Prim.Native.Nat.{ℕ, zero, suc, _+_, _-_, _≤_, _<_, min}
 use mathlib.Core.Path.{_≡_, refl, sym, ap, _∙_, subst}
-use mathlib.Core.Bool.{true, false}
-use mathlib.Core.List.{List, _∷_}
+use mathlib.Core.Bool.{Bool, true, false, false≢true}
+use mathlib.Core.List.{List, [], _∷_}
 use native.Mathlib.Numerals.{sub-one}
 use native.Mathlib.Omega.{arith}
 use lib.ListN.{length, drop, getD, drop-of-length-le}
@@ -37,27 +37,29 @@ use Rattle.census.specs.Entered.{enteredBy, enteredBelow, enteredWith}
 unfoldable pub belowFrom : Outline → ℕ → ℕ → Context → ℕ → ℕ
 belowFrom o h l c i = sum (enteredBy o h c) (itemLoops (drop i (orderOf o l)))
 
-pub record Below (o : Outline) (h l : ℕ) (c : Context) (n i m : ℕ) : Type 0 where
+pub record Below (o : Outline) (h l : ℕ) (c : Context) (n i m : ℕ) (leaf : Bool) : Type 0 where
   pub rest : min (n + enteredBelow o h l c) tooMany ≡ min (m + belowFrom o h l c i) tooMany
   pub few : m ≤ tooMany
+  pub alone : leaf ≡ true → itemLoops (orderOf o l) ≡ itemLoops (drop i (orderOf o l))
 
-pub below-start : (o : Outline) (h l : ℕ) (c : Context) (n : ℕ) → n ≤ tooMany → Below o h l c n 0 n
+pub below-start : (o : Outline) (h l : ℕ) (c : Context) (n : ℕ) → n ≤ tooMany → Below o h l c n 0 n true
 unfolding belowFrom enteredBelow
-below-start o h l c n f = record { rest = refl; few = f }
+below-start o h l c n f = record { rest = refl; few = f; alone = λ z. refl }
 
-module _ (j : Job) (h l : ℕ) (c : Context) (n i m : ℕ) (s : Below (outlineOf j) h l c n i m) (count : ℕ) (e : count ≡ length (A.orderOf j l)) where
+module _ (j : Job) (h l : ℕ) (c : Context) (n i m : ℕ) (leaf : Bool) (s : Below (outlineOf j) h l c n i m leaf) (count : ℕ) (e : count ≡ length (A.orderOf j l)) where
   abbrev o : Outline
   o = outlineOf j
 
   items : count ≡ length (orderOf o l)
   items = e ∙ sym (order-length j l)
 
-  pub below-end : count ≤ i → m ≡ min (n + enteredBelow o h l c) tooMany
+  pub below-end : count ≤ i → (m ≡ min (n + enteredBelow o h l c) tooMany) × (leaf ≡ true → itemLoops (orderOf o l) ≡ [])
   unfolding belowFrom
   below-end z =
       let past : length (orderOf o l) ≤ i = omega (arith, items) in
-      let q : belowFrom o h l c i ≡ 0 = ap (λ xs. sum (enteredBy o h c) (itemLoops xs)) (drop-of-length-le (orderOf o l) past) in
-      sym (s .rest ∙ omega (arith, q, s .few))
+      let none-left : itemLoops (drop i (orderOf o l)) ≡ [] = ap itemLoops (drop-of-length-le (orderOf o l) past) in
+      let q : belowFrom o h l c i ≡ 0 = ap (sum (enteredBy o h c)) none-left in
+      (sym (s .rest ∙ omega (arith, q, s .few)), λ y. s .alone y ∙ none-left)
 
   module _ (x : Answer) (z : i < count) (a : itemOf x ≡ getD (A.orderOf j l) i noItem) where
     item-is : getD (orderOf o l) i (segment 0) ≡ itemIn (itemOf x)
@@ -66,30 +68,31 @@ module _ (j : Job) (h l : ℕ) (c : Context) (n i m : ℕ) (s : Below (outlineOf
     here : drop i (orderOf o l) ≡ itemIn (itemOf x) ∷ drop (i + 1) (orderOf o l)
     here = drop-next (orderOf o l) i (segment 0) (omega (arith, items)) ∙ ap (λ v. v ∷ drop (i + 1) (orderOf o l)) item-is
 
-    pub below-segment : (k : ℕ) → x ≡ Segment k → Below o h l c n (i + 1) m
+    pub below-segment : (k : ℕ) → x ≡ Segment k → Below o h l c n (i + 1) m leaf
     unfolding belowFrom
     below-segment k q =
-        let same : belowFrom o h l c i ≡ belowFrom o h l c (i + 1) = ap (λ xs. sum (enteredBy o h c) (itemLoops xs)) (here ∙ ap (λ v. itemIn (itemOf v) ∷ drop (i + 1) (orderOf o l)) q) in
-        record { rest = s .rest ∙ ap (λ v. min (m + v) tooMany) same; few = s .few }
+        let same : itemLoops (drop i (orderOf o l)) ≡ itemLoops (drop (i + 1) (orderOf o l)) = ap itemLoops (here ∙ ap (λ v. itemIn (itemOf v) ∷ drop (i + 1) (orderOf o l)) q) in
+        record { rest = s .rest ∙ ap (λ xs. min (m + sum (enteredBy o h c) xs) tooMany) same; few = s .few; alone = λ y. s .alone y ∙ same }
 
-    pub below-loop : (k : LoopId) (r : ℕ) → x ≡ Loop k → r ≡ min (m + entersIn (visits o h (k .0) c)) tooMany → Below o h l c n (i + 1) r
+    pub below-loop : (k : LoopId) (r : ℕ) → x ≡ Loop k → r ≡ min (m + entersIn (visits o h (k .0) c)) tooMany → Below o h l c n (i + 1) r false
     unfolding belowFrom
     below-loop k r q g =
         let more : belowFrom o h l c i ≡ enteredBy o h c (k .0) + belowFrom o h l c (i + 1) = ap (λ xs. sum (enteredBy o h c) (itemLoops xs)) (here ∙ ap (λ v. itemIn (itemOf v) ∷ drop (i + 1) (orderOf o l)) q) in
-        record { rest = s .rest ∙ omega (arith, more, g, s .few); few = omega (arith, g) }
+        record { rest = s .rest ∙ omega (arith, more, g, s .few); few = omega (arith, g); alone = λ y. absurd (false≢true y) }
 
 -- ---- the instances of a loop: `from` gave all of them, and `cur` gives those that are left
 
 abbrev pub enteredAt : Outline → List ℕ → ℕ → ℕ → Cursor → ℕ
 enteredAt o nest h l cur = sum (enteredWith o (h - 1) l) (coming o nest cur)
 
-pub record Entering (o : Outline) (nest : List ℕ) (h l n : ℕ) (from : Cursor) (m : ℕ) (cur : Cursor) : Type 0 where
+pub record Entering (o : Outline) (nest : List ℕ) (h l n : ℕ) (from : Cursor) (m : ℕ) (leaf : Bool) (cur : Cursor) : Type 0 where
   pub rest : min (n + enteredAt o nest h l from) tooMany ≡ min (m + enteredAt o nest h l cur) tooMany
   pub few : m ≤ tooMany
+  pub alone : leaf ≡ true → itemLoops (orderOf o l) ≡ []
   pub going : Going o nest cur
 
-pub entering : (o : Outline) (nest : List ℕ) (h l n : ℕ) (cur : Cursor) → n ≤ tooMany → Going o nest cur → Entering o nest h l n cur n cur
-entering o nest h l n cur f g = record { rest = refl; few = f; going = g }
+pub entering : (o : Outline) (nest : List ℕ) (h l n : ℕ) (cur : Cursor) → n ≤ tooMany → Going o nest cur → Entering o nest h l n cur n false cur
+entering o nest h l n cur f g = record { rest = refl; few = f; alone = λ z. absurd (false≢true z); going = g }
 
 pub entered-deep : (o : Outline) (h l : ℕ) (c : Context) (n : ℕ) → n ≤ tooMany → h ≡ 0 → n ≡ min (n + entersIn (visits o h l c)) tooMany
 entered-deep o h l c n f e = let q : entersIn (visits o h l c) ≡ 0 = rw e (enters-deep o l c) in omega (arith, q)
@@ -99,7 +102,7 @@ unfolding enteredBelow
 all-entered o zero l c d = absurd (d refl)
 all-entered o (suc h) l c d = rw sub-one (enters-visits o h l c)
 
-module _ (o : Outline) (nest : List ℕ) (h l n : ℕ) (from : Cursor) (m : ℕ) (cur : Cursor) (s : Entering o nest h l n from m cur) where
+module _ (o : Outline) (nest : List ℕ) (h l n : ℕ) (from : Cursor) (m : ℕ) (leaf : Bool) (cur : Cursor) (s : Entering o nest h l n from m leaf cur) where
   -- nothing is left, or nothing that counts
   module _ (c : Context) (deep : h ≡ 0 → ⊥) (whole : coming o nest from ≡ instances o h l c) where
     counted-all : enteredAt o nest h l from ≡ entersIn (visits o h l c)
@@ -116,10 +119,17 @@ module _ (o : Outline) (nest : List ℕ) (h l n : ℕ) (from : Cursor) (m : ℕ)
         omega (arith, over, q, w, s .few)
 
   module _ (r : Next) (came : Came o nest cur r) (z : r .more ≡ true) where
-    pub entered-next : (d : Kept) (w k : ℕ) → d ≡ contextIn cur r → w ≡ counted m → k ≡ min (w + enteredBelow o (h - 1) l (contextBy d)) tooMany → Entering o nest h l n from k (behind cur r)
-    entered-next d w k f e g =
+    pub entered-next : (d : Kept) (w k : ℕ) (x : Bool) → d ≡ contextIn cur r → w ≡ counted m → (k ≡ min (w + enteredBelow o (h - 1) l (contextBy d)) tooMany) × (x ≡ true → itemLoops (orderOf o l) ≡ [])
+        → Entering o nest h l n from k x (behind cur r)
+    entered-next d w k x f e g =
         let q : enteredAt o nest h l cur ≡ suc (enteredBelow o (h - 1) l (contextBy d)) + enteredAt o nest h l (behind cur r) = ap (sum (enteredWith o (h - 1) l)) (came-in came z f) in
-        record { rest = s .rest ∙ omega (arith, q, e, g, s .few); few = omega (arith, g); going = came .still z }
+        record { rest = s .rest ∙ omega (arith, q, e, g .0, s .few); few = omega (arith, g .0); alone = g .1; going = came .still z }
+
+    pub entered-leaf : (w : ℕ) → w ≡ counted m → leaf ≡ true → Entering o nest h l n from w leaf (behind cur r)
+    unfolding enteredBelow
+    entered-leaf w e y =
+        let none-below : enteredBelow o (h - 1) l (contextBy (contextIn cur r)) ≡ 0 = ap (sum (enteredBy o (h - 1) (contextBy (contextIn cur r)))) (s .alone y) in
+        entered-next (contextIn cur r) w w leaf refl e (omega (arith, none-below, e), s .alone)
 
     pub entered-less : length (coming o nest (behind cur r)) < length (coming o nest cur)
     entered-less = let q : length (coming o nest cur) ≡ suc (length (coming o nest (behind cur r))) = ap length (came .came z) in omega (arith, q)

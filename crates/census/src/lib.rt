@@ -1,7 +1,10 @@
 // How many instances the walk enters, up to one more than the limit of refusal 6. A level of loops is a level of calls: the instances of a loop and the
 // items of an order are gone through by loops.
 ghost use mathlib.Core.Path.{_≡_};
+ghost use mathlib.Core.Bool.{true};
+ghost use mathlib.Core.List.{[]};
 ghost use Prim.Native.Nat.{_+_, _≤_, _<_, min};
+ghost use Rattle.nest.specs.Outline.{itemLoops, orderOf};
 ghost use Rattle.nest.specs.Ready.{outlineAt};
 ghost use Rattle.walk.specs.Nested.{Nested, Sound};
 ghost use Rattle.walk.specs.Contexts.{contextBy};
@@ -13,13 +16,28 @@ use plan::answers::Item;
 use spec::ids::LoopId;
 use walk::Context;
 
+// A count, and whether the loop is a leaf: its order names no loop.
+struct Count {
+    n: u32,
+    leaf: bool,
+}
+
 // The count n, and the instances that are entered below an instance of loop l in context c, `height` levels deep.
-fn below(job: &[u8], index: &[u32], nest: &[u32], l: LoopId, c: Context, height: u32, n: u32) -> u32
+fn below(
+    job: &[u8],
+    index: &[u32],
+    nest: &[u32],
+    l: LoopId,
+    c: Context,
+    height: u32,
+    n: u32,
+) -> Count
     requires { ⌜ Nested (now job) (now index) (now nest) × Sound (outlineAt (now job)) (contextBy c) × (l .0 < 32) × (n ≤ tooMany) ⌝ }
-    ensures { λ r. ⌜ r ≡ min (n + enteredBelow (outlineAt (now (job .entry))) height (l .0) (contextBy c)) tooMany ⌝ }
+    ensures { λ r. ⌜ (r .n ≡ min (n + enteredBelow (outlineAt (now (job .entry))) height (l .0) (contextBy c)) tooMany) × (r .leaf ≡ true → itemLoops (orderOf (outlineAt (now (job .entry))) (l .0)) ≡ []) ⌝ }
 {
     let count = plan::layout::order_count(job, index, l);
     let mut m = n;
+    let mut leaf = true;
     let mut i: u32 = 0;
     while i < count {
         let item = plan::layout::item(job, index, l, i);
@@ -29,14 +47,16 @@ fn below(job: &[u8], index: &[u32], nest: &[u32], l: LoopId, c: Context, height:
             }
             Item::Loop(k) => {
                 m = entered(job, index, nest, k, c, height, m);
+                leaf = false;
                 i = i + 1;
             }
         }
     }
-    m
+    Count { n: m, leaf: leaf }
 }
 
-// The count n, and the instances that are entered by loop l in context c, `height` levels deep. Past the limit it looks no further.
+// The count n, and the instances that are entered by loop l in context c, `height` levels deep. Past the limit it looks no further. Below a leaf nothing is entered,
+// which its first instance shows.
 fn entered(
     job: &[u8],
     index: &[u32],
@@ -53,14 +73,21 @@ fn entered(
         return n;
     }
     let mut m = n;
+    let mut leaf = false;
     let mut cur = instances::instances(job, index, nest, l, c, height);
     while m < 65537 {
         let next = instances::next_instance(job, index, nest, cur);
         let more = next.more;
         if more {
-            let inner = instances::context_in(cur, next);
             let with = walk::one_more(m);
-            m = below(job, index, nest, l, inner, height - 1, with);
+            if leaf {
+                m = with;
+            } else {
+                let inner = instances::context_in(cur, next);
+                let b = below(job, index, nest, l, inner, height - 1, with);
+                m = b.n;
+                leaf = b.leaf;
+            }
             cur.kind = next.kind;
             cur.seen = next.seen;
             cur.next = next.next;
