@@ -203,7 +203,34 @@ module _ (b : List ℕ) (at t n element : ℕ) (component : Number) (h : t ≡ g
         within = omega arith;
       }
 
+value-room : (b : List ℕ) (e at : ℕ) (v : Value) → Is valueC b e at v → at + 5 ≤ e
+value-room b e at (fromColumn x) j = case-number b e at x (is-fromColumn b e at x j)
+value-room b e at (fromGroup x) j = case-number b e at x (is-fromGroup b e at x j)
+value-room b e at (fromCode x) j = omega (arith, bytes-room b e (at + 1) x (is-fromCode b e at x j))
+
 -- ---- planned elements
+-- the component and the value of one stand behind its number
+element-behind : (b : List ℕ) (e at : ℕ) (v : ElementPlanIn) → Is elementPlanC b e at v → Is (optC numC) b e (at + 4) (v .component) × Is valueC b e (skip (optC numC) b (at + 4) e) (v .value)
+element-behind b e at v j =
+    let g : ElementPlanIs b e at v = is-elementPlan b e at v j in
+    let a : skip numC b at e ≡ at + 4 = skip-number b e at (v .element) (g .element) in
+    (rw a at (g .component), rw a at (g .value))
+
+-- it takes ten bytes, and four more with a component
+element-room : (b : List ℕ) (e at : ℕ) (v : ElementPlanIn) → Is elementPlanC b e at v → (at + 10 ≤ e) × ((getD b (at + 4) 0 ≡ 0 → ⊥) → at + 14 ≤ e)
+element-room b e at v j = let f = element-behind b e at v j in go (v .component) (f .0) (value-room b e _ (v .value) (f .1))
+  where
+    go : (o : Option ℕ) → Is (optC numC) b e (at + 4) o → skip (optC numC) b (at + 4) e + 5 ≤ e → (at + 10 ≤ e) × ((getD b (at + 4) 0 ≡ 0 → ⊥) → at + 14 ≤ e)
+    go none z m = let s = skip-none b e (at + 4) z in (omega arith, λ q. absurd (q (is-none numC b e (at + 4) z)))
+    go (some y) z m = let s = skip-some b e (at + 4) y z in (omega arith, λ q. omega arith)
+
+-- there is none where fewer are left
+pub element-past : (b : List ℕ) (at : ℕ) (r : ElementPlan) → length b < at + 10 → (e : ℕ) (v : ElementPlanIn) → e ≤ length b → Is elementPlanC b e at v → ElementRead b e at v r
+element-past b at r h e v m j = absurd (omega (arith, element-room b e at v j .0))
+
+pub element-cut : (b : List ℕ) (at t : ℕ) (r : ElementPlan) → t ≡ getD b (at + 4) 0 → (t ≡ 0 → ⊥) → length b < at + 14 → (e : ℕ) (v : ElementPlanIn) → e ≤ length b → Is elementPlanC b e at v → ElementRead b e at v r
+element-cut b at t r i q h e v m j = absurd (omega (arith, element-room b e at v j .1 (λ z. q (i ∙ z))))
+
 module _ (b : List ℕ) (at n t : ℕ) (r : ElementPlan) (h : n ≡ le 4 b at) (i : t ≡ getD b (at + 4) 0) (k : r .element ≡ n) where
   joined : (e p : ℕ) (v : ElementPlanIn) → Is elementPlanC b e at v → numberOf (r .component) ≡ v .component → skip (optC numC) b (at + 4) e ≡ p → ((w : Value) → Is valueC b e p w → ValueRead b e p w r) → ElementRead b e at v r
   unfolding elementPlanC
@@ -215,14 +242,8 @@ module _ (b : List ℕ) (at n t : ℕ) (r : ElementPlan) (h : n ≡ le 4 b at) (
       let y : skip elementPlanC b at e ≡ skip valueC b p e = skip-map _ _ _ _ _ b at e ∙ skip-pair _ _ b at e ∙ skip-pair _ _ b _ e ∙ rw (a, s) in
       record { plan = λ l. record { element = x l; component = c l; value = u .value l }; next = u .next ∙ sym y; within = u .within }
 
-  component-is : (e : ℕ) (v : ElementPlanIn) → Is elementPlanC b e at v → Is (optC numC) b e (at + 4) (v .component)
-  component-is e v j =
-      let g : ElementPlanIs b e at v = is-elementPlan b e at v j in
-      let a : skip numC b at e ≡ at + 4 = skip-number b e at (v .element) (g .element) in
-      rw a at (g .component)
-
   pub element-0 : t ≡ 0 → r .component ≡ None → ((e : ℕ) (w : Value) → e ≤ length b → Is valueC b e (at + 5) w → ValueRead b e (at + 5) w r) → (e : ℕ) (v : ElementPlanIn) → e ≤ length b → Is elementPlanC b e at v → ElementRead b e at v r
-  element-0 q c f e v m j = go (v .component) refl (component-is e v j)
+  element-0 q c f e v m j = go (v .component) refl (element-behind b e at v j .0)
     where
       go : (o : Option ℕ) → v .component ≡ o → Is (optC numC) b e (at + 4) o → ElementRead b e at v r
       go none p z =
@@ -231,7 +252,7 @@ module _ (b : List ℕ) (at n t : ℕ) (r : ElementPlan) (h : n ≡ le 4 b at) (
       go (some x) p z = absurd (omega (arith, is-some numC b e (at + 4) x z .0))
 
   pub element-1 : (t ≡ 0 → ⊥) → (x : ℕ) → x ≡ le 4 b (at + 5) → r .component ≡ IsNumber x → ((e : ℕ) (w : Value) → e ≤ length b → Is valueC b e (at + 9) w → ValueRead b e (at + 9) w r) → (e : ℕ) (v : ElementPlanIn) → e ≤ length b → Is elementPlanC b e at v → ElementRead b e at v r
-  element-1 q x a c f e v m j = go (v .component) refl (component-is e v j)
+  element-1 q x a c f e v m j = go (v .component) refl (element-behind b e at v j .0)
     where
       go : (o : Option ℕ) → v .component ≡ o → Is (optC numC) b e (at + 4) o → ElementRead b e at v r
       go none p z = absurd (q (i ∙ is-none numC b e (at + 4) z))

@@ -103,15 +103,31 @@ pub fn value_at(job: &[u8], element: u32, component: Number, at: usize) -> Eleme
     }
 }
 
-// The planned element that stands at a place, and the place behind it.
+// What stands for a planned element that is not there.
+fn unplanned_element() -> ElementPlan {
+    ElementPlan {
+        element: 0,
+        component: Number::None,
+        value: ValueSource::Column(0),
+        next: 0,
+    }
+}
+
+// The planned element that stands at a place, and the place behind it. Two tests of the job's length spare those of each read.
 pub fn element_at(job: &[u8], at: usize) -> ElementPlan
     requires { ⌜ at < 4294967296 ⌝ }
     ensures { λ r. ⌜ ((e : ℕ) (v : ElementPlanIn) → e ≤ length (now (job .entry)) → Is elementPlanC (now (job .entry)) e at v → ElementRead (now (job .entry)) e at v r) ⌝ }
 {
+    if job.len() < at + 10 {
+        return unplanned_element();
+    }
     let element = codec::num(job, at) as u32;
     let mark = codec::byte_at(job, at + 4);
     if mark == 0 {
         return value_at(job, element, Number::None, at + 5);
+    }
+    if job.len() < at + 14 {
+        return unplanned_element();
     }
     let component = codec::num(job, at + 5) as u32;
     value_at(job, element, Number::Is(component), at + 9)
