@@ -95,10 +95,10 @@ pub fn columns_differ(
     requires { ⌜ Ready (now job) (now index) × (l .0 < 32) ⌝ }
     ensures { λ x. ⌜ x ≡ some-of (differ (jobOf (now (job .entry))) (t .0) (a .0) (b .0)) (columnsIn (plannedOf (jobOf (now (job .entry))) (l .0) i)) ⌝ }
 {
-    let n = plan::planned::element_count(job, index, l, i);
-    let mut p = plan::planned::first_element(job, index, l, i);
+    let s = plan::planned::segment(job, index, l, i);
+    let mut p = s.first;
     let mut k: u32 = 0;
-    while k < n {
+    while k < s.count {
         let e = element(job, index, l, i, k, p);
         let v = e.value;
         let apart = sets_apart(job, index, t, a, b, v);

@@ -4,6 +4,7 @@ ghost use Prim.Native.Nat.{_<_};
 ghost use lib.Dec.{ltb};
 ghost use mathlib.Core.Bool.{_&&_};
 ghost use Rattle.plan.specs.Answers.{itemOf};
+ghost use Rattle.plan.specs.Planned.{PlannedIs};
 ghost use Rattle.nest.specs.Lists.{is};
 ghost use Rattle.nest.specs.Outline.{sourceTable, insideTable, kindOf, segmentOf, planned, hasOccurrence};
 ghost use Rattle.nest.specs.OfJob.{itemIn};
@@ -21,21 +22,29 @@ use crate::cells::repeat_table;
 use crate::cells::same_segment;
 use crate::cells::stands_inside;
 use plan::answers::Item;
+use plan::answers::Planned;
 use spec::ids::LoopId;
 use spec::ids::RowId;
 use spec::ids::TableId;
 
 pub mod cells;
 
-// Whether one of the column cells that planned segment i of loop l names is not null.
-pub fn filled(job: &[u8], index: &[u32], l: LoopId, i: u32, t: TableId, r: RowId) -> bool
-    requires { ⌜ Ready (now job) (now index) × (l .0 < 32) ⌝ }
+// Whether one of the column cells that planned segment i of loop l, which is s, names is not null.
+pub fn filled(
+    job: &[u8],
+    index: &[u32],
+    l: LoopId,
+    i: u32,
+    s: Planned,
+    t: TableId,
+    r: RowId,
+) -> bool
+    requires { ⌜ Ready (now job) (now index) × PlannedIs (now job) (l .0) i s ⌝ }
     ensures { λ b. ⌜ b ≡ outlineAt (now (job .entry)) .filled (l .0) i (t .0) (r .0) ⌝ }
 {
-    let n = plan::planned::element_count(job, index, l, i);
-    let mut p = plan::planned::first_element(job, index, l, i);
+    let mut p = s.first;
     let mut k: u32 = 0;
-    while k < n {
+    while k < s.count {
         let e = element(job, index, l, i, k, p);
         let v = e.value;
         let found = gives_value(job, index, t, r, v);
@@ -49,8 +58,16 @@ pub fn filled(job: &[u8], index: &[u32], l: LoopId, i: u32, t: TableId, r: RowId
 }
 
 // Whether a row segment is written: data has the table, and the segment is forced or filled.
-pub fn due_row(job: &[u8], index: &[u32], l: LoopId, i: u32, t: TableId, r: RowId) -> bool
-    requires { ⌜ Ready (now job) (now index) × (l .0 < 32) ⌝ }
+pub fn due_row(
+    job: &[u8],
+    index: &[u32],
+    l: LoopId,
+    i: u32,
+    s: Planned,
+    t: TableId,
+    r: RowId,
+) -> bool
+    requires { ⌜ Ready (now job) (now index) × (l .0 < 32) × PlannedIs (now job) (l .0) i s ⌝ }
     ensures { λ b. ⌜ b ≡ dueRow (outlineAt (now (job .entry))) (l .0) i (t .0) (r .0) ⌝ }
 {
     let n = tables::data::data_count(job, index);
@@ -61,17 +78,16 @@ pub fn due_row(job: &[u8], index: &[u32], l: LoopId, i: u32, t: TableId, r: RowI
     if forced {
         return true;
     }
-    filled(job, index, l, i, t, r)
+    filled(job, index, l, i, s, t, r)
 }
 
 // Whether the spec has the occurrence that a planned segment names.
-pub fn has_occurrence(job: &[u8], index: &[u32], l: LoopId, i: u32) -> bool
-    requires { ⌜ Ready (now job) (now index) × (l .0 < 32) ⌝ }
+pub fn has_occurrence(job: &[u8], index: &[u32], l: LoopId, i: u32, s: Planned) -> bool
+    requires { ⌜ Ready (now job) (now index) × PlannedIs (now job) (l .0) i s ⌝ }
     ensures { λ b. ⌜ b ≡ hasOccurrence (outlineAt (now (job .entry))) (l .0) i ⌝ }
 {
-    let k = plan::planned::occurrence_of(job, index, l, i);
     let n = spec::loops::occurrence_count(job, index, l);
-    k < n
+    s.occurrence < n
 }
 
 // Whether planned segment i of loop l is a row segment of table t that row r fills.
@@ -79,10 +95,11 @@ fn row_fills(job: &[u8], index: &[u32], l: LoopId, i: u32, t: TableId, r: RowId)
     requires { ⌜ Ready (now job) (now index) × (l .0 < 32) ⌝ }
     ensures { λ b. ⌜ b ≡ is (sourceTable ((segmentOf (outlineAt (now (job .entry))) (l .0) i) .source)) (t .0) && outlineAt (now (job .entry)) .filled (l .0) i (t .0) (r .0) ⌝ }
 {
-    let s = plan::planned::source(job, index, l, i);
-    let mine = filled_by(s, t);
+    let s = plan::planned::segment(job, index, l, i);
+    let source = s.source;
+    let mine = filled_by(source, t);
     if mine {
-        return filled(job, index, l, i, t, r);
+        return filled(job, index, l, i, s, t, r);
     }
     false
 }

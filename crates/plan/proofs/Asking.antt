@@ -7,7 +7,7 @@ use mathlib.Core.Bool.{Bool, true, false}
 use native.Mathlib.Omega.{arith}
 use lib.ListN.{length, getD, List·getD-eq-default}
 use lib.Dec.{leb, ltb, eqb}
-use borrow.Author.Tests.{le-leb, lt-leb, leb-true, leb-false, ltb-true, ltb-false}
+use borrow.Author.Tests.{le-leb, lt-leb, le-ltb, lt-ltb, leb-true, leb-false, ltb-true, ltb-false}
 use Rattle.codec.specs.Codec.{Codec, le, listC}
 use Rattle.codec.specs.Skip.{skip, Is}
 use Rattle.codec.specs.Forms.{numC, optC, flagC}
@@ -20,7 +20,10 @@ use Rattle.format.specs.Ask.{on, planOf, plannedOf, orderOf, forcedOf, groupCol
 use Rattle.plan.specs.Answers.{noItem}
 use Rattle.spec.specs.Region.{Listed}
 use Rattle.plan.specs.Index.{PlanIndexed, segmentsAt, innerCount}
-use Rattle.plan.specs.Elements.{Run, run-none}
+use Rattle.plan.specs.Elements.{run-none}
+use Rattle.plan.specs.declared.answers.Planned.{Planned}
+use Rattle.plan.specs.declared.answers.Order.{Order}
+use Rattle.plan.specs.Planned.{unplanned, SegmentIs, SegmentRead, PlannedIs, OrderIs}
 use Rattle.plan.proofs.Reading.{number-is, wide-item, wide-number, wide-order, wide-flag, flag-is}
 
 -- past the last item
@@ -82,8 +85,14 @@ module _ (b idx : List ℕ) (x : PlanIndexed b idx) where
     unfolding plannedOf
     planned-lacks q = past ((planOf (jobOf b) l) .segments) noSegmentPlan i n h q
 
-    pub no-elements : (p : ℕ) → n ≤ i → Run elementPlanC b (layoutStart b) p ((plannedOf (jobOf b) l i) .elements)
-    no-elements p q = subst (λ (s : SegmentPlan). Run elementPlanC b (layoutStart b) p (s .elements)) (planned-lacks q) (run-none elementPlanC b (layoutStart b) p)
+    pub unplanned-is : (r : Planned) → r ≡ unplanned → n ≤ i → PlannedIs b l i r
+    unplanned-is r z q = rw z (record {
+      there = sym (simp (le-ltb _ _ (rw h at q)));
+      segment = subst (λ (s : SegmentPlan). SegmentIs b (layoutStart b) s unplanned) (planned-lacks q) (record { source = refl; occurrence = refl; count = refl; first = run-none elementPlanC b (layoutStart b) 0 });
+    })
+
+    pub planned-read : (r : Planned) → i < n → SegmentRead b (layoutStart b) (plannedOf (jobOf b) l i) r → PlannedIs b l i r
+    planned-read r q f = record { there = f .there ∙ sym (simp (lt-ltb _ _ (rw h at q))); segment = f .segment }
 
     module _ (p : ℕ) (m : i < n) (o : l < 32) (q : p ≡ getD idx (1222 + l * 33 + 1 + i) 0) where
       pub planned-is : Is segmentPlanC b (layoutStart b) p (plannedOf (jobOf b) l i)
@@ -115,6 +124,9 @@ module _ (b idx : List ℕ) (x : PlanIndexed b idx) where
     pub order-is : (k n p : ℕ) → n ≡ length (orderOf (jobOf b) l) → k < n → p ≡ getD idx (1058 + l) 0 → Is itemC b (envelopeStart b) (p + 4 + k * 5) (getD (orderOf (jobOf b) l) k noItem)
     unfolding orderOf
     order-is k n p h q i = wide-item itemC 5 b (envelopeStart b) p _ k noItem (wide-order b (envelopeStart b)) (inner-is itemC b (envelopeStart b) idx 1057 _ (x .order) l m k p (rw h at q) i) (rw h at q)
+
+    pub order-at : (r : Order) (n p : ℕ) → n ≡ length (orderOf (jobOf b) l) → p ≡ getD idx (1058 + l) 0 → p < 4294967296 → r .count ≡ n → r .first ≡ p + 4 → OrderIs b l r
+    order-at r n p h i s c f = record { count = c ∙ h; low = omega arith; within = x .layoutEnd; item = λ k q. rw f (order-is k n p h (rw c at q) i) }
 
     pub forced-lacks : (i n : ℕ) → n ≡ innerCount b idx 1090 l → n ≤ i → false ≡ forcedOf (jobOf b) l i
     unfolding forcedOf

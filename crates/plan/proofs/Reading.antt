@@ -12,7 +12,7 @@ use lib.Dec.{eqb}
 use Rattle.codec.specs.Codec.{Codec, _⊕_, le, leC, listC}
 use Rattle.codec.specs.Skip.{skip, steps, Is, skip-le, skip-map, skip-pair, tagAt}
 use Rattle.codec.specs.Forms.{numC, bytesC, optC, flagC}
-use Rattle.codec.specs.Field.{is-map, is-enum, is-le, is-none, is-some, is-list, room-of}
+use Rattle.codec.specs.Field.{is-map, is-enum, is-le, is-none, is-some, is-list, room-of, count-of}
 use Rattle.codec.specs.Ways.{tag-in, skip-opt, opt-none, opt-some, skip-flag, case-in}
 use Rattle.codec.specs.Answers.{skip-les, byte-item}
 use Rattle.format.specs.Plan.{Instances, absent, enveloped, rowsOf, inside, groupsOf, implied, instancesC, Source, fromEnvelope, fromRow, fromRepeat, sourceC, Value, fromColumn, fromGroup, fromCode, valueC, ElementPlan as ElementPlanIn, elementPlanC, SegmentPlan, segmentPlanC}
@@ -24,7 +24,11 @@ use Rattle.spec.specs.declared.ids.Number.{Number}
 use Rattle.spec.specs.declared.ids.Number.the-variants.{None, Is as IsNumber}
 use Rattle.plan.specs.declared.answers.ElementPlan.{ElementPlan}
 use Rattle.plan.specs.declared.answers.ValueSource.the-variants.{Column, Group, Code}
-use Rattle.plan.specs.Answers.{ValueRead, ElementRead}
+use Rattle.plan.specs.declared.answers.Planned.{Planned}
+use Rattle.plan.specs.declared.answers.Source.the-variants.{Envelope, Row, Repeat}
+use Rattle.plan.specs.Answers.{sourceOf, ValueRead, ElementRead}
+use Rattle.plan.specs.Elements.{run-list}
+use Rattle.plan.specs.Planned.{SegmentRead}
 use Rattle.spec.proofs.Storing.{steps-more}
 
 -- ---- numbers, options, byte strings
@@ -118,6 +122,10 @@ module _ (b : List ℕ) (at t n : ℕ) (h : t ≡ getD b at 0) (i : n ≡ le 4 b
   item-1 q e (segmentItem x) j = absurd (q (h ∙ item-tag b e at _ j))
   item-1 q e (loopItem x) j = ap loopItem (number-is b e (at + 1) n x i (is-loopItem b e at x j))
 
+pub item-past : (b : List ℕ) (at : ℕ) (r : Item) → length b < at + 5 → (e : ℕ) (v : Item) → e ≤ length b → Is itemC b e at v → r ≡ v
+item-past b at r h e (segmentItem x) m j = absurd (omega (arith, is-le 4 b e (at + 1) x (is-segmentItem b e at x j) .0))
+item-past b at r h e (loopItem x) m j = absurd (omega (arith, is-le 4 b e (at + 1) x (is-loopItem b e at x j) .0))
+
 -- ---- where an enum ends
 -- a number behind the byte of a case
 module _ (b : List ℕ) (e at x : ℕ) (i : Is numC b e (at + 1) x) where
@@ -169,6 +177,50 @@ module _ (b : List ℕ) (at t : ℕ) (h : t ≡ getD b (at + 4) 0) where
           let k = is-fromRepeat b e (at + 4) x j in
           let g : getD b (at + 4) 0 ≡ 2 = source-tag b e (at + 4) _ j in
           r ∙ source-table b (at + 4) e _ _ (case-tag b e (at + 4) x k) (case-behind b e (at + 4) x k) _ (case-end b e (at + 4) x k) (omega arith) (omega arith)
+
+-- it takes nine bytes, and four more with a table
+segment-room : (b : List ℕ) (e at : ℕ) (v : SegmentPlan) → Is segmentPlanC b e at v → (at + 9 ≤ e) × ((getD b (at + 4) 0 ≡ 0 → ⊥) → at + 13 ≤ e)
+segment-room b e at v j = go (getD b (at + 4) 0) refl
+  where
+    go : (t : ℕ) → getD b (at + 4) 0 ≡ t → (at + 9 ≤ e) × ((getD b (at + 4) 0 ≡ 0 → ⊥) → at + 13 ≤ e)
+    go zero q = let m = is-list elementPlanC b e (at + 5) (v .elements) (elements-0 b at _ refl q e v j) .room in (omega arith, λ p. absurd (p q))
+    go (suc k) q =
+        let p : getD b (at + 4) 0 ≡ 0 → ⊥ = λ z. omega arith in
+        let m = is-list elementPlanC b e (at + 9) (v .elements) (elements-1 b at _ refl p e v j) .room in
+        (omega arith, λ p. omega arith)
+
+-- there is none where fewer are left
+pub segment-past : (b : List ℕ) (at : ℕ) (r : Planned) → length b < at + 9 → (e : ℕ) (v : SegmentPlan) → e ≤ length b → Is segmentPlanC b e at v → SegmentRead b e v r
+segment-past b at r h e v m j = absurd (omega (arith, segment-room b e at v j .0))
+
+pub segment-cut : (b : List ℕ) (at t : ℕ) (r : Planned) → t ≡ getD b (at + 4) 0 → (t ≡ 0 → ⊥) → length b < at + 13 → (e : ℕ) (v : SegmentPlan) → e ≤ length b → Is segmentPlanC b e at v → SegmentRead b e v r
+segment-cut b at t r i q h e v m j = absurd (omega (arith, segment-room b e at v j .1 (λ z. q (i ∙ z))))
+
+-- o is its occurrence, x the number behind the byte of its source
+module _ (b : List ℕ) (at o t x : ℕ) (h : o ≡ le 4 b at) (i : t ≡ getD b (at + 4) 0) (k : x ≡ le 4 b (at + 5)) where
+  number-behind : x ≡ le 4 b (at + 4 + 1)
+  number-behind = let s : at + 4 + 1 ≡ at + 5 = omega arith in rw s k
+
+  segment-read : (r : Planned) (p n : ℕ) → r .there ≡ true → r .occurrence ≡ o → r .count ≡ n → r .first ≡ p + 4 → n ≡ le 4 b p → (e : ℕ) (v : SegmentPlan) → sourceOf (r .source) ≡ v .source → Is (listC elementPlanC) b e p (v .elements) → Is segmentPlanC b e at v → SegmentRead b e v r
+  segment-read r p n t′ o′ n′ p′ c e v s l j = record {
+    there = t′;
+    segment = record {
+      source = s;
+      occurrence = o′ ∙ number-is b e at o _ h (is-segmentPlan b e at v j .occurrence);
+      count = n′ ∙ count-of b e n p p elementPlanC _ c refl l;
+      first = rw p′ (run-list elementPlanC b e p _ l);
+    };
+  }
+
+  pub segment-0 : t ≡ 0 → (e : ℕ) (v : SegmentPlan) → e ≤ length b → Is segmentPlanC b e at v → SegmentRead b e v (record { there = true; source = Envelope; occurrence = o; count = x; first = at + 9 })
+  segment-0 q e v m j = segment-read _ (at + 5) x refl refl refl (omega arith) k e v (source-0 b (at + 4) t x i number-behind q e _ (elements-behind b at t i e v j .0)) (elements-0 b at t i q e v j) j
+
+  module _ (n : ℕ) (c : n ≡ le 4 b (at + 9)) where
+    pub segment-1 : t ≡ 1 → (e : ℕ) (v : SegmentPlan) → e ≤ length b → Is segmentPlanC b e at v → SegmentRead b e v (record { there = true; source = Row (record { 0 = x }); occurrence = o; count = n; first = at + 13 })
+    segment-1 q e v m j = segment-read _ (at + 9) n refl refl refl (omega arith) c e v (source-1 b (at + 4) t x i number-behind q e _ (elements-behind b at t i e v j .0)) (elements-1 b at t i (λ z. omega arith) e v j) j
+
+    pub segment-2 : (t ≡ 0 → ⊥) → (t ≡ 1 → ⊥) → (e : ℕ) (v : SegmentPlan) → e ≤ length b → Is segmentPlanC b e at v → SegmentRead b e v (record { there = true; source = Repeat (record { 0 = x }); occurrence = o; count = n; first = at + 13 })
+    segment-2 p q e v m j = segment-read _ (at + 9) n refl refl refl (omega arith) c e v (source-2 b (at + 4) t x i number-behind p q e _ (elements-behind b at t i e v j .0)) (elements-1 b at t i p e v j) j
 
 -- ---- values
 module _ (b : List ℕ) (at t n element : ℕ) (component : Number) (h : t ≡ getD b at 0) (i : n ≡ le 4 b (at + 1)) where

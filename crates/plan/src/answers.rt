@@ -21,6 +21,15 @@ pub enum Source {
     Repeat(TableId),
 }
 
+// A planned segment: whether the plan has it, what fills it, which occurrence of its loop it is, how many elements it has and from where on they stand.
+pub struct Planned {
+    pub there: bool,
+    pub source: Source,
+    pub occurrence: u32,
+    pub count: u32,
+    pub first: usize,
+}
+
 // What gives the text of a place.
 pub enum ValueSource {
     Column(u32),
@@ -34,6 +43,12 @@ pub struct ElementPlan {
     pub component: Number,
     pub value: ValueSource,
     pub next: usize,
+}
+
+// The order of a loop: how many items it has, and where the first stands.
+pub struct Order {
+    pub count: u32,
+    pub first: usize,
 }
 
 // An item of an order: a planned segment of the loop, or a child loop.

@@ -1,13 +1,15 @@
 // What is asked of the layout.
 ghost use mathlib.Core.Path.{_≡_};
-ghost use Prim.Native.Nat.{_<_};
+ghost use Prim.Native.Nat.{ℕ, _<_};
 ghost use mathlib.Core.Bool.{false};
 ghost use lib.ListN.{length, getD};
 ghost use Rattle.format.specs.Sections.{jobOf};
 ghost use Rattle.format.specs.Ask.{orderOf, forcedOf, groupColumnsOf, depthOf, capacityOf};
 ghost use Rattle.plan.specs.Answers.{itemOf, noItem};
 ghost use Rattle.plan.specs.Index.{PlanIndexed};
+ghost use Rattle.plan.specs.Planned.{OrderIs};
 use crate::answers::Item;
+use crate::answers::Order;
 use crate::index::CAPACITY;
 use crate::index::COLUMNS;
 use crate::index::DEPTH;
@@ -25,17 +27,37 @@ pub fn order_count(job: &[u8], index: &[u32], l: LoopId) -> u32
     read::inner_count(job, index, ORDER, l.0)
 }
 
+// The order of a loop.
+pub fn order(job: &[u8], index: &[u32], l: LoopId) -> Order
+    requires { ⌜ PlanIndexed (now job) (now index) × (l .0 < 32) ⌝ }
+    ensures { λ r. ⌜ OrderIs (now (job .entry)) (l .0) r ⌝ }
+{
+    let count = order_count(job, index, l);
+    let p = codec::place(index, ORDER + 1 + l.0 as usize);
+    Order {
+        count,
+        first: p + 4,
+    }
+}
+
+// Item k of an order.
+pub fn order_item(job: &[u8], o: Order, k: u32) -> Item
+    requires { ⌜ o .first < 4294967300 ⌝ }
+    ensures { λ r. ⌜ ((l : ℕ) → OrderIs (now (job .entry)) l o → k < o .count → itemOf r ≡ getD (orderOf (jobOf (now (job .entry))) l) k noItem) ⌝ }
+{
+    read::item_at(job, o.first + k as usize * 5)
+}
+
 // Item k of the order of a loop.
 pub fn item(job: &[u8], index: &[u32], l: LoopId, k: u32) -> Item
     requires { ⌜ PlanIndexed (now job) (now index) × (l .0 < 32) ⌝ }
     ensures { λ r. ⌜ itemOf r ≡ getD (orderOf (jobOf (now (job .entry))) (l .0)) k noItem ⌝ }
 {
-    let n = order_count(job, index, l);
-    if n <= k {
+    let o = order(job, index, l);
+    if o.count <= k {
         return Item::Segment(0);
     }
-    let p = codec::place(index, ORDER + 1 + l.0 as usize);
-    read::item_at(job, p + 4 + k as usize * 5)
+    order_item(job, o, k)
 }
 
 // Whether planned segment i of a loop is written also where none of its columns has a value.

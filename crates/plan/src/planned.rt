@@ -6,8 +6,9 @@ ghost use Rattle.format.specs.Sections.{jobOf};
 ghost use Rattle.format.specs.Ask.{planOf, plannedOf};
 ghost use Rattle.plan.specs.Answers.{instancesOf, sourceOf};
 ghost use Rattle.plan.specs.Index.{PlanIndexed};
-ghost use Rattle.plan.specs.Elements.{Elements};
+ghost use Rattle.plan.specs.Planned.{PlannedIs};
 use crate::answers::Instances;
+use crate::answers::Planned;
 use crate::answers::Source;
 use crate::index::PLAN;
 use crate::index::SEGMENTS;
@@ -70,29 +71,15 @@ pub fn occurrence_of(job: &[u8], index: &[u32], l: LoopId, i: u32) -> u32
     codec::num(job, p) as u32
 }
 
-// How many elements planned segment i of a loop has.
-pub fn element_count(job: &[u8], index: &[u32], l: LoopId, i: u32) -> u32
+// Planned segment i of a loop.
+pub fn segment(job: &[u8], index: &[u32], l: LoopId, i: u32) -> Planned
     requires { ⌜ PlanIndexed (now job) (now index) × (l .0 < 32) ⌝ }
-    ensures { λ r. ⌜ r ≡ length ((plannedOf (jobOf (now (job .entry))) (l .0) i) .elements) ⌝ }
+    ensures { λ r. ⌜ PlannedIs (now (job .entry)) (l .0) i r ⌝ }
 {
     let n = planned_count(job, index, l);
     if n <= i {
-        return 0;
+        return read::unplanned();
     }
     let p = codec::place(index, SEGMENTS + l.0 as usize * 33 + 1 + i as usize);
-    let elements = read::elements_at(job, p);
-    codec::num(job, elements) as u32
-}
-
-// The place from which on the elements of planned segment i stand, to be read by read::element_at.
-pub fn first_element(job: &[u8], index: &[u32], l: LoopId, i: u32) -> usize
-    requires { ⌜ PlanIndexed (now job) (now index) × (l .0 < 32) ⌝ }
-    ensures { λ r. ⌜ Elements (now (job .entry)) r ((plannedOf (jobOf (now (job .entry))) (l .0) i) .elements) ⌝ }
-{
-    let n = planned_count(job, index, l);
-    if n <= i {
-        return 0;
-    }
-    let p = codec::place(index, SEGMENTS + l.0 as usize * 33 + 1 + i as usize);
-    read::elements_at(job, p) + 4
+    read::segment_at(job, p)
 }

@@ -2,15 +2,16 @@
 ghost use mathlib.Core.Path.{_≡_};
 ghost use Prim.Native.Nat.{ℕ, _+_, _≤_, _<_};
 ghost use lib.ListN.{length};
-ghost use Rattle.codec.specs.Codec.{listC};
 ghost use Rattle.codec.specs.Skip.{Is};
 ghost use Rattle.format.specs.Plan.{Instances as InstancesIn, instancesC, Source as SourceIn, sourceC, Value as ValueIn, valueC, ElementPlan as ElementPlanIn, elementPlanC, SegmentPlan as SegmentPlanIn, segmentPlanC};
 ghost use Rattle.format.specs.Layout.{Item as ItemIn, itemC};
 ghost use Rattle.plan.specs.Answers.{instancesOf, sourceOf, itemOf, ElementRead, ValueRead};
 ghost use Rattle.plan.specs.Index.{innerCount};
+ghost use Rattle.plan.specs.Planned.{unplanned, SegmentRead};
 use crate::answers::ElementPlan;
 use crate::answers::Instances;
 use crate::answers::Item;
+use crate::answers::Planned;
 use crate::answers::Source;
 use crate::answers::ValueSource;
 use spec::ids::LoopId;
@@ -57,16 +58,59 @@ pub fn source_at(job: &[u8], at: usize) -> Source
     Source::Repeat(TableId(n as u32))
 }
 
-// The place of the elements of the planned segment that stands at a place.
-pub fn elements_at(job: &[u8], at: usize) -> usize
-    requires { ⌜ at < 4294967296 ⌝ }
-    ensures { λ r. ⌜ ((e : ℕ) (v : SegmentPlanIn) → Is segmentPlanC (now (job .entry)) e at v → Is (listC elementPlanC) (now (job .entry)) e r (v .elements)) × (r < 4294967305) ⌝ }
+// What stands for a planned segment that is not there.
+pub fn unplanned() -> Planned
+    ensures { λ r. ⌜ r ≡ unplanned ⌝ }
 {
-    let t = codec::byte_at(job, at + 4);
-    if t == 0 {
-        return at + 5;
+    Planned {
+        there: false,
+        source: Source::Envelope,
+        occurrence: 0,
+        count: 0,
+        first: 0,
     }
-    at + 9
+}
+
+// The planned segment that stands at a place. Two tests of the job's length spare those of each read.
+pub fn segment_at(job: &[u8], at: usize) -> Planned
+    requires { ⌜ at < 4294967296 ⌝ }
+    ensures { λ r. ⌜ ((e : ℕ) (v : SegmentPlanIn) → e ≤ length (now (job .entry)) → Is segmentPlanC (now (job .entry)) e at v → SegmentRead (now (job .entry)) e v r) ⌝ }
+{
+    if job.len() < at + 9 {
+        return unplanned();
+    }
+    let occurrence = codec::num(job, at) as u32;
+    let t = codec::byte_at(job, at + 4);
+    let n = codec::num(job, at + 5) as u32;
+    if t == 0 {
+        return Planned {
+            there: true,
+            source: Source::Envelope,
+            occurrence,
+            count: n,
+            first: at + 9,
+        };
+    }
+    if job.len() < at + 13 {
+        return unplanned();
+    }
+    let count = codec::num(job, at + 9) as u32;
+    if t == 1 {
+        return Planned {
+            there: true,
+            source: Source::Row(TableId(n)),
+            occurrence,
+            count,
+            first: at + 13,
+        };
+    }
+    Planned {
+        there: true,
+        source: Source::Repeat(TableId(n)),
+        occurrence,
+        count,
+        first: at + 13,
+    }
 }
 
 // The value that stands at a place, as that of an element and component.
@@ -135,8 +179,11 @@ pub fn element_at(job: &[u8], at: usize) -> ElementPlan
 
 pub fn item_at(job: &[u8], at: usize) -> Item
     requires { ⌜ at < 1099511627776 ⌝ }
-    ensures { λ r. ⌜ ((e : ℕ) (v : ItemIn) → Is itemC (now (job .entry)) e at v → itemOf r ≡ v) ⌝ }
+    ensures { λ r. ⌜ ((e : ℕ) (v : ItemIn) → e ≤ length (now (job .entry)) → Is itemC (now (job .entry)) e at v → itemOf r ≡ v) ⌝ }
 {
+    if job.len() < at + 5 {
+        return Item::Segment(0);
+    }
     let t = codec::byte_at(job, at);
     let n = codec::num(job, at + 1);
     if t == 0 {

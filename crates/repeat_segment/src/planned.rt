@@ -24,18 +24,16 @@ pub fn planned_segment(job: &[u8], index: &[u32], l: LoopId, i: u32, t: TableId)
     requires { ⌜ Ready (now job) (now index) × (l .0 < 32) ⌝ }
     ensures { λ s. ⌜ Of (now (job .entry)) s × (s .l ≡ l) × (s .i ≡ i) × (s .table ≡ t) ⌝ }
 {
-    let k = planned::occurrence_of(job, index, l, i);
-    let id = loops::occurrence(job, index, l, k);
+    let s = planned::segment(job, index, l, i);
+    let id = loops::occurrence(job, index, l, s.occurrence);
     let step = spec::tables::step(job, index, t);
-    let first = planned::first_element(job, index, l, i);
-    let count = planned::element_count(job, index, l, i);
     Planned {
         l,
         i,
         table: t,
         step,
         id,
-        first,
-        count,
+        first: s.first,
+        count: s.count,
     }
 }

@@ -15,7 +15,7 @@ use Rattle.emit.proofs.NameLaws.{name-short, holds-length}
 use Rattle.spec.specs.Answers.{numberOf, Holds}
 use Rattle.plan.specs.declared.answers.ElementPlan.{ElementPlan}
 use Rattle.plan.specs.Answers.{elementOf, ElementRead}
-use Rattle.plan.specs.Elements.{ElementStep, element-place, element-step}
+use Rattle.plan.specs.Elements.{Elements, ElementStep, element-place, element-step}
 use Rattle.segment.specs.Parts.{Part}
 use Rattle.emit.specs.Puts.{Put, nothing, andPut, partAt, putCell, rowPut}
 use Rattle.emit.proofs.PutLaws.{put-next, put-end}
@@ -28,12 +28,12 @@ use Rattle.row_segment.specs.Stream.{idOf, plans, Lined, elementPut, put
 
 -- ---- a line
 
-pub lined : (b idx : List ℕ) (x : Line) → Ready b idx → x .l .0 < 32 → x .count ≡ length (plans b x) → {k : ℕ} → k ≡ (plannedOf (jobOf b) (x .l .0) (x .i)) .occurrence
+pub lined : (b idx : List ℕ) (x : Line) → Ready b idx → x .l .0 < 32 → x .count ≡ length (plans b x) → Elements b (x .first) (plans b x) → {k : ℕ} → k ≡ (plannedOf (jobOf b) (x .l .0) (x .i)) .occurrence
     → Holds b (x .id) (getD ((loopOf (jobOf b) (x .l .0)) .occurrences) k []) → Lined b idx x
 unfolding identifierOf
-lined b idx x r m n {k} e h =
+lined b idx x r m n p {k} e h =
     let h′ : Holds b (x .id) (idOf b x) = rw (← e) h in
-    record { ready = r; low = m; count = n; id = h′; named = let a = holds-length b (x .id) _ h in let c = name-short b (r .passed) (x .l .0) k in omega (arith, a, c) }
+    record { ready = r; low = m; count = n; first = p; id = h′; named = let a = holds-length b (x .id) _ h in let c = name-short b (r .passed) (x .l .0) k in omega (arith, a, c) }
 
 -- ---- planned element by planned element
 

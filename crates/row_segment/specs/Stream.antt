@@ -33,6 +33,7 @@ pub record Lined (b idx : List ℕ) (x : Line) : Type 0 where
   pub ready : Ready b idx
   pub low : x .l .0 < 32
   pub count : x .count ≡ length (plans b x)
+  pub first : Elements b (x .first) (plans b x)
   pub id : Holds b (x .id) (idOf b x)
   pub named : x .id .len ≤ 3
 

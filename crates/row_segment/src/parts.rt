@@ -20,11 +20,12 @@ ghost use Rattle.segment.specs.Pen.{valueText};
 ghost use Rattle.emit.specs.Written.{Writes};
 ghost use Rattle.row_segment.specs.Stream.{Lined, Stands, Looks, elementPut, lookPut, outcomeOf};
 
-// A planned segment of a loop, with its identifier and how many elements it has, and the row that fills it.
+// A planned segment of a loop, with its identifier, how many elements it has and from where on they stand, and the row that fills it.
 pub struct Line {
     pub l: LoopId,
     pub i: u32,
     pub count: u32,
+    pub first: usize,
     pub id: Stretch,
     pub t: TableId,
     pub r: RowId,
@@ -55,13 +56,13 @@ pub fn line_of(job: &[u8], index: &[u32], l: LoopId, i: u32, t: TableId, r: RowI
     requires { ⌜ Ready (now job) (now index) × (l .0 < 32) ⌝ }
     ensures { λ x. ⌜ Lined (now (job .entry)) (now (index .entry)) x × (x .l ≡ l) × (x .i ≡ i) × (x .t ≡ t) × (x .r ≡ r) ⌝ }
 {
-    let count = plan::planned::element_count(job, index, l, i);
-    let k = plan::planned::occurrence_of(job, index, l, i);
-    let id = spec::loops::occurrence(job, index, l, k);
+    let s = plan::planned::segment(job, index, l, i);
+    let id = spec::loops::occurrence(job, index, l, s.occurrence);
     Line {
         l,
         i,
-        count,
+        count: s.count,
+        first: s.first,
         id,
         t,
         r,
@@ -138,9 +139,7 @@ pub fn first_part(job: &[u8], index: &[u32], x: Line) -> Look
     requires { ⌜ Lined (now job) (now index) x ⌝ }
     ensures { λ r. ⌜ Looks (now (job .entry)) x 0 r ⌝ }
 {
-    let l = x.l;
-    let at = plan::planned::first_element(job, index, l, x.i);
-    next_part(job, index, x, 0, at)
+    next_part(job, index, x, 0, x.first)
 }
 
 // The text of a part, and the reason why it has none.

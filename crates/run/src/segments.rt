@@ -2,6 +2,7 @@
 use crate::own;
 use crate::own::Owner;
 use nest::Found;
+use plan::answers::Planned;
 use plan::answers::Source;
 use spec::ids::Controls;
 use spec::ids::LoopId;
@@ -13,6 +14,7 @@ ghost use mathlib.Core.Bool.{cond, _&&_};
 ghost use mathlib.Core.List.{[], _∷_};
 ghost use Prim.Native.Nat.{ℕ, _<_};
 ghost use Rattle.nest.specs.Outline.{ofRow, ofRepeat, loopOf, hasOccurrence};
+ghost use Rattle.plan.specs.Planned.{PlannedIs};
 ghost use Rattle.nest.specs.Ready.{Ready, outlineAt};
 ghost use Rattle.walk.specs.Contexts.{contextBy};
 ghost use Rattle.walk.specs.Nested.{Sound};
@@ -52,13 +54,13 @@ fn opener_due(job: &[u8], index: &[u32], l: LoopId) -> Due
 }
 
 // The segment of a row.
-fn due_at(job: &[u8], index: &[u32], l: LoopId, i: u32, t: TableId, r: RowId) -> Due
-    requires { ⌜ Ready (now job) (now index) × (l .0 < 32) ⌝ }
+fn due_at(job: &[u8], index: &[u32], l: LoopId, i: u32, s: Planned, t: TableId, r: RowId) -> Due
+    requires { ⌜ Ready (now job) (now index) × (l .0 < 32) × PlannedIs (now job) (l .0) i s ⌝ }
     ensures { λ d. ⌜ Gives (outlineAt (now (job .entry))) (l .0) i (cond (hasOccurrence (outlineAt (now (job .entry))) (l .0) i && dueRow (outlineAt (now (job .entry))) (l .0) i (t .0) (r .0)) (rowSegment (l .0) i (t .0) (r .0) ∷ []) []) d ⌝ }
 {
-    let named = due::has_occurrence(job, index, l, i);
+    let named = due::has_occurrence(job, index, l, i, s);
     if named {
-        let due = due::due_row(job, index, l, i, t, r);
+        let due = due::due_row(job, index, l, i, s, t, r);
         if due {
             return Due::Row(t, r);
         }
@@ -68,23 +70,31 @@ fn due_at(job: &[u8], index: &[u32], l: LoopId, i: u32, t: TableId, r: RowId) ->
 }
 
 // A segment of a table's row, in an instance that sits in one.
-fn row_due(job: &[u8], index: &[u32], l: LoopId, i: u32, t: TableId, c: Context) -> Due
-    requires { ⌜ Ready (now job) (now index) × (l .0 < 32) ⌝ }
+fn row_due(job: &[u8], index: &[u32], l: LoopId, i: u32, s: Planned, t: TableId, c: Context) -> Due
+    requires { ⌜ Ready (now job) (now index) × (l .0 < 32) × PlannedIs (now job) (l .0) i s ⌝ }
     ensures { λ d. ⌜ Gives (outlineAt (now (job .entry))) (l .0) i (fromSource (outlineAt (now (job .entry))) (l .0) i (contextBy c) (ofRow (t .0))) d ⌝ }
 {
     let f = own::row_of(c, t);
     match f {
-        Found::Row(r) => due_at(job, index, l, i, t, r),
+        Found::Row(r) => due_at(job, index, l, i, s, t, r),
         Found::Nothing => Due::Nothing,
     }
 }
 
 // The repeat segments of an instance that a row opened.
-fn repeat_due(job: &[u8], index: &[u32], l: LoopId, i: u32, t: TableId, c: Context) -> Due
-    requires { ⌜ Ready (now job) (now index) × Sound (outlineAt (now job)) (contextBy c) × (l .0 < 32) ⌝ }
+fn repeat_due(
+    job: &[u8],
+    index: &[u32],
+    l: LoopId,
+    i: u32,
+    s: Planned,
+    t: TableId,
+    c: Context,
+) -> Due
+    requires { ⌜ Ready (now job) (now index) × Sound (outlineAt (now job)) (contextBy c) × (l .0 < 32) × PlannedIs (now job) (l .0) i s ⌝ }
     ensures { λ d. ⌜ Gives (outlineAt (now (job .entry))) (l .0) i (fromSource (outlineAt (now (job .entry))) (l .0) i (contextBy c) (ofRepeat (t .0))) d ⌝ }
 {
-    let named = due::has_occurrence(job, index, l, i);
+    let named = due::has_occurrence(job, index, l, i, s);
     if named {
         let own = own::own_row(job, index, l, c);
         match own {
@@ -104,14 +114,20 @@ pub fn segment_due(job: &[u8], index: &[u32], l: LoopId, i: u32, c: Context) -> 
     requires { ⌜ Ready (now job) (now index) × Sound (outlineAt (now job)) (contextBy c) × (l .0 < 32) ⌝ }
     ensures { λ d. ⌜ Gives (outlineAt (now (job .entry))) (l .0) i (segmentSteps (outlineAt (now (job .entry))) (l .0) (contextBy c) i) d ⌝ }
 {
-    let count = plan::planned::planned_count(job, index, l);
-    if count <= i {
-        return Due::Nothing;
+    let s = plan::planned::segment(job, index, l, i);
+    if s.there {
+        let source = s.source;
+        match source {
+            Source::Envelope => {
+                return opener_due(job, index, l);
+            }
+            Source::Row(t) => {
+                return row_due(job, index, l, i, s, t, c);
+            }
+            Source::Repeat(t) => {
+                return repeat_due(job, index, l, i, s, t, c);
+            }
+        }
     }
-    let source = plan::planned::source(job, index, l, i);
-    match source {
-        Source::Envelope => opener_due(job, index, l),
-        Source::Row(t) => row_due(job, index, l, i, t, c),
-        Source::Repeat(t) => repeat_due(job, index, l, i, t, c),
-    }
+    Due::Nothing
 }

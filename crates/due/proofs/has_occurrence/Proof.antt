@@ -3,14 +3,11 @@ use borrow.Author.Needs.{needs}
 use Rattle.due.proofs.has_occurrence.Statement.{statement}
 use Rattle.due.proofs.has_occurrence.Tie as tie
 
-occurrence-of-requires : tie.Need-occurrence-of-requires
-occurrence-of-requires c κs = search needs
-
 occurrence-count-requires : tie.Need-occurrence-count-requires
 occurrence-count-requires c κs = search needs
 
 returns : tie.Need-returns
-returns c = occurs _ _ _ _ _ (c .before .occurrence-of .ensures) (c .occurrence-count .ensures)
+returns c = occurs _ _ _ _ _ (c .before .before .before .before .pre .1 .segment .occurrence) (c .before .occurrence-count .ensures)
 
 pub has-occurrence-spec : {M : Type 1} → statement M
-has-occurrence-spec = tie.close (tie.spec occurrence-of-requires occurrence-count-requires returns)
+has-occurrence-spec = tie.close (tie.spec occurrence-count-requires returns)
