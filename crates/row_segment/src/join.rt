@@ -257,9 +257,13 @@ fn end_line(
     let n = g.after;
     let t = g.tally;
     let pen = g.pen;
-    let u = notes::note_rest(job, index, findings, t, x, y, n);
-    let bytes = segment::close(doc, s, pen, u.last);
-    Joined { bytes, tally: u }
+    if n.more {
+        let u = notes::note_rest(job, index, findings, t, x, y, n);
+        let bytes = segment::close(doc, s, pen, u.last);
+        return Joined { bytes, tally: u };
+    }
+    let bytes = segment::close(doc, s, pen, t.last);
+    Joined { bytes, tally: t }
 }
 
 // The bytes of a line from `at` on, and its notes; `from` numbers of findings stand before.
@@ -276,8 +280,8 @@ pub fn join_line(
     ensures { λ r. ⌜ Stored (now (doc .entry)) at (joined (separatorsOf (jobOf (now (job .entry)))) (idOf (now (job .entry)) x) ((puts (now (job .entry)) x 0) .parts)) (r .bytes) (now (doc .exit))
         × Totals (now (job .entry)) x from (r .tally) (now (findings .entry)) (now (findings .exit)) ⌝ }
 {
-    let y = notes::tried_of(job, index, x);
     let s = signs::separators_of(job, index);
+    let y = notes::tried_of(job, index, x, s);
     let n = parts::first_part(job, index, x);
     let id = x.id;
     let pen = segment::begin(doc, at, job, id.start, id.len);

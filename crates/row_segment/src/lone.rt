@@ -109,6 +109,7 @@ fn put_value(
     Behind { pen: q, tally: u }
 }
 
+// A cell: a stretch of the job or a text of its own; one that holds a separator goes by its value.
 fn put_cell(
     job: &[u8],
     index: &[u32],
@@ -139,6 +140,7 @@ fn put_cell(
     put_own(job, index, doc, findings, s, pen, t, x, y, p, column, cell)
 }
 
+// A part as component 1 of its element.
 pub fn put_part(
     job: &[u8],
     index: &[u32],

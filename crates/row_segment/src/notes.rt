@@ -10,6 +10,7 @@ use emit::findings;
 use emit::findings::Delimiters;
 use emit::findings::Spot;
 use emit::signs;
+use segment::Separators;
 use spec::ids::Number;
 use texts::render::Refused;
 ghost use mathlib.Core.Path.{_≡_};
@@ -21,6 +22,8 @@ ghost use Rattle.texts.specs.Reason.{reasonOf};
 ghost use Rattle.segment.specs.Parts.{pick, isEmpty};
 ghost use Rattle.spec.specs.Answers.{numberOf};
 ghost use Rattle.nest.specs.Finding.{cell, numberFrom};
+ghost use Rattle.format.specs.Sections.{jobOf};
+ghost use Rattle.emit.specs.Fold.{separatorsOf};
 ghost use Rattle.emit.specs.Puts.{placeOf, unwritten};
 ghost use Rattle.emit.specs.Written.{Writes, spotOf, wordsOf};
 ghost use Rattle.row_segment.specs.Stream.{Lined, Sees, ahead, partPut, outcomeOf};
@@ -56,13 +59,20 @@ fn spot(x: Line, name: u64, element: u32, component: Number, column: u32) -> Spo
     }
 }
 
-pub fn tried_of(job: &[u8], index: &[u32], x: Line) -> Tried
-    requires { ⌜ Lined (now job) (now index) x ⌝ }
+// What the texts of a line are tried for; s are the job's separators.
+pub fn tried_of(job: &[u8], index: &[u32], x: Line, s: Separators) -> Tried
+    requires { ⌜ Lined (now job) (now index) x × (s ≡ separatorsOf (jobOf (now job))) ⌝ }
     ensures { λ r. ⌜ Tries (now (job .entry)) x r ⌝ }
 {
     let id = x.id;
     let name = signs::id_number(job, id);
-    let delimiters = signs::delimiters_of(job, index);
+    let repetition = signs::repetition_of(job, index);
+    let delimiters = Delimiters {
+        element: s.element,
+        component: s.component,
+        segment: s.segment,
+        repetition,
+    };
     Tried { name, delimiters }
 }
 

@@ -10,11 +10,11 @@ use borrow.Author.Needs.{needs}
 use Rattle.row_segment.proofs.join.join_line.Statement.{statement}
 use Rattle.row_segment.proofs.join.join_line.Tie as tie
 
-tried-of-requires : tie.Need-tried-of-requires
-tried-of-requires c κs = search needs
-
 separators-of-requires : tie.Need-separators-of-requires
 separators-of-requires c κs = search needs
+
+tried-of-requires : tie.Need-tried-of-requires
+tried-of-requires c κs = (c .before .before .before .before .before .pre, c .separators-of .ensures)
 
 first-part-requires : tie.Need-first-part-requires
 first-part-requires c κs = search needs
@@ -28,14 +28,14 @@ none-noted-requires c κs = search needs
 put-groups-requires : tie.Need-put-groups-requires
 put-groups-requires c κs =
     let l = c .before .before .before .before .before .before .before .before .first-part .ensures in
-    (c .before .before .before .before .before .before .before .before .before .before .before .before .before .before .before .pre, c .before .before .before .before .before .before .before .before .before .before .tried-of .ensures, l .sees, room-first _ _ _ (c .before .before .before .before .before .before .before .before .before .before .before .before .before .before .before .pre) _ l _ _ (c .before .before .none-noted .ensures) (omega (arith, c .before .before .before .before .before .before .before .before .before .before .before .before .before .before .before)))
+    (c .before .before .before .before .before .before .before .before .before .before .before .before .before .before .before .pre, c .before .before .before .before .before .before .before .before .before .tried-of .ensures, l .sees, room-first _ _ _ (c .before .before .before .before .before .before .before .before .before .before .before .before .before .before .before .pre) _ l _ _ (c .before .before .none-noted .ensures) (omega (arith, c .before .before .before .before .before .before .before .before .before .before .before .before .before .before .before)))
 
 end-line-requires : tie.Need-end-line-requires
 end-line-requires c κs =
     let l = c .before .before .before .before .before .before .before .before .before .before .before .before .before .before .before .first-part .ensures in
     let e = c .before .before .before .before .before .before .before .before .before .none-noted .ensures in
     let g = c .before .before .before .before .before .before .put-groups .ensures in
-    (c .before .before .before .before .before .before .before .before .before .before .before .before .before .before .before .before .before .before .before .before .before .before .pre, c .before .before .before .before .before .before .before .before .before .before .before .before .before .before .before .before .before .tried-of .ensures, g .0 .sees, between-room (g .1) (room-first _ _ _ (c .before .before .before .before .before .before .before .before .before .before .before .before .before .before .before .before .before .before .before .before .before .before .pre) _ l _ _ e (omega (arith, c .before .before .before .before .before .before .before .before .before .before .before .before .before .before .before .before .before .before .before .before .before .before))), g .1 .small (small-first _ _ _ (c .before .before .before .before .before .before .before .before .before .before .before .before .before .before .before .before .before .before .before .before .before .before .pre) _ l _ _ e))
+    (c .before .before .before .before .before .before .before .before .before .before .before .before .before .before .before .before .before .before .before .before .before .before .pre, c .before .before .before .before .before .before .before .before .before .before .before .before .before .before .before .before .tried-of .ensures, g .0 .sees, between-room (g .1) (room-first _ _ _ (c .before .before .before .before .before .before .before .before .before .before .before .before .before .before .before .before .before .before .before .before .before .before .pre) _ l _ _ e (omega (arith, c .before .before .before .before .before .before .before .before .before .before .before .before .before .before .before .before .before .before .before .before .before .before))), g .1 .small (small-first _ _ _ (c .before .before .before .before .before .before .before .before .before .before .before .before .before .before .before .before .before .before .before .before .before .before .pre) _ l _ _ e))
 
 same-length : tie.Need-same-length
 same-length c = search needs
@@ -48,14 +48,14 @@ returns c =
     let a = c .before .before .before .before .before .before .before .before .before .before .before .before .before .before .before .before .before .before .before .before .before .before .before .before .before .before .before .args in
     let h : length (now (a .doc)) ≤ cap = omega (arith, c .before .before .before .before .before .before .before .before .before .before .before .before .before .before .before .before .before .before .before .before .before .before .before .before .before .before .before) in
     let k : length (now (a .findings)) ≤ wide = omega (arith, c .before .before .before .before .before .before .before .before .before .before .before .before .before .before .before .before .before .before .before .before .before .before .before .before .before .before .before) in
-    line-joined (now (a .job)) (a .x) _ _ (c .before .before .before .before .before .before .before .before .before .before .before .before .before .before .before .before .before .before .before .before .before .before .before .before .before .before .before .pre) h k (c .before .before .before .before .before .before .before .before .before .before .before .before .before .before .before .before .before .before .before .before .before .separators-of .ensures) (c .before .before .before .before .before .before .before .before .before .before .before .before .before .before .before .before .before .before .before .before .first-part .ensures) (c .before .before .before .before .before .before .before .before .before .before .before .before .before .before .before .before .before .begin .ensures) (c .before .before .before .before .before .before .before .before .before .before .before .before .before .before .none-noted .ensures) (c .before .before .before .before .before .before .before .before .before .before .before .put-groups .ensures) (c .before .before .before .before .end-line .ensures)
+    line-joined (now (a .job)) (a .x) _ _ (c .before .before .before .before .before .before .before .before .before .before .before .before .before .before .before .before .before .before .before .before .before .before .before .before .before .before .before .pre) h k (c .before .before .before .before .before .before .before .before .before .before .before .before .before .before .before .before .before .before .before .before .before .before .separators-of .ensures) (c .before .before .before .before .before .before .before .before .before .before .before .before .before .before .before .before .before .before .before .before .first-part .ensures) (c .before .before .before .before .before .before .before .before .before .before .before .before .before .before .before .before .before .begin .ensures) (c .before .before .before .before .before .before .before .before .before .before .before .before .before .before .none-noted .ensures) (c .before .before .before .before .before .before .before .before .before .before .before .put-groups .ensures) (c .before .before .before .before .end-line .ensures)
 
 pub join-line-spec : {M : Type 1} → statement M
 join-line-spec =
     tie.close
     (tie.spec
-    tried-of-requires
     separators-of-requires
+    tried-of-requires
     first-part-requires
     begin-requires
     none-noted-requires
