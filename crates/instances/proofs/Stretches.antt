@@ -1,9 +1,10 @@
 -- A cursor over the stretch of its rows has the same instances still to give.
-use Prim.Native.Nat.{ℕ, _+_, _-_, _≤_, _<_, max}
+use Prim.Native.Nat.{ℕ, _+_, _-_, _*_, _≤_, _<_, max}
 use mathlib.Core.Path.{_≡_, refl, sym, ap, ap₂, _∙_, subst}
 use mathlib.Core.Bool.{Bool, true, false}
 use mathlib.Core.List.{List}
 use native.Mathlib.Omega.{arith}
+use native.Mathlib.Decide.{decLt}
 use lib.ListN.{length, getD, take, drop}
 use lib.Seq.{take-all}
 use lib.Dec.{eqb}
@@ -24,7 +25,7 @@ use Rattle.walk.proofs.ContextLaws.{start-other, start-free, end-run, end-other
 use Rattle.walk.proofs.NestedLaws.{lent-climbs}
 use Rattle.instances.specs.declared.Cursor.{Cursor}
 use Rattle.instances.specs.Cursor.{passes, leftAt, left, coming, Going}
-use Rattle.instances.specs.Stretch.{Same}
+use Rattle.instances.specs.Stretch.{Same, Reached}
 
 -- ---- the rows of the context's run are the same where the list is
 
@@ -48,6 +49,29 @@ run-same c t seen a b xs h k = go (c .grouped) refl
     go : (x : Bool) → c .grouped ≡ x → runOf c t seen a xs ≡ runOf c t seen b xs
     go true g = of-table (eqb (c .table) t) refl g
     go false g = free (start-free c t g) (end-free c t a g) (end-free c t b g)
+
+-- ---- the end of the stretch
+
+module _ (n : List ℕ) (base from rows above : ℕ) where
+  pub reached-at : Climbs n base rows → (at i : ℕ) → i ≡ (base + at) * 3 → from ≤ at → at < rows → above ≤ getD n i 0 → Reached n base from rows above at
+  reached-at u at i e f h q =
+      let z : i ≡ (base + at) * 3 + 0 = omega (arith, e) in
+      let number : getD n i 0 ≡ nestAt n base at 0 = ap (λ k. getD n k 0) z in
+      record { after = f; within = omega arith; rest = λ r x y. omega (arith, number, u .climb at r x y) }
+
+  pub reached-end : from ≤ rows → Reached n base from rows above rows
+  reached-end f = record { after = f; within = omega arith; rest = λ r x y. absurd (omega arith) }
+
+  module _ (far : ℕ) (w : Reached n base from rows above far) where
+    pub climbs-there : Climbs n base rows → Climbs n base far
+    climbs-there u = record { climb = λ i k x y. u .climb i k x (omega (arith, w .within)) }
+
+    pub parted-there : (k : ℕ) → Parted n base from far above k → Parted n base from rows above k
+    parted-there k p = record { after = p .after; within = omega (arith, p .within, w .within); below = p .below; rest = λ r x y. go r x y (decLt r far) }
+      where
+        go : (r : ℕ) → k ≤ r → r < rows → Dec (r < far) → above ≤ nestAt n base r 0
+        go r x y (yes q) = p .rest r x q
+        go r x y (no q) = w .rest r (omega arith) y
 
 -- ---- the stretch
 
