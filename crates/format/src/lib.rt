@@ -107,13 +107,23 @@ pub fn components_at(b: &[u8], at: usize, end: u32) -> usize
     p
 }
 
+// The same of an element, which mostly has none.
+pub fn parts_at(b: &[u8], at: usize, end: u32) -> usize
+    ensures { λ r. ⌜ r ≡ skip (numMapC componentC) (now (b .entry)) at end ⌝ }
+{
+    if codec::count_at(b, at, end) == 0 {
+        return codec::le_at(b, 4, at, end);
+    }
+    components_at(b, at, end)
+}
+
 pub fn element_at(b: &[u8], at: usize, end: u32) -> usize
     ensures { λ r. ⌜ r ≡ skip elementC (now (b .entry)) at end ⌝ }
 {
     let kind = kind_at(b, at, end);
     let min = codec::opt_num_at(b, kind, end);
     let max = codec::opt_num_at(b, min, end);
-    let components = components_at(b, max, end);
+    let components = parts_at(b, max, end);
     codec::strings_at(b, components, end)
 }
 
