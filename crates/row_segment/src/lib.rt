@@ -8,12 +8,14 @@ use crate::parts::Line;
 use emit::state;
 use emit::state::Counts;
 use emit::state::From;
+use plan::answers::Planned;
 use spec::ids::LoopId;
 use spec::ids::RowId;
 use spec::ids::TableId;
 ghost use mathlib.Core.List.{List};
 ghost use Prim.Native.Nat.{ℕ, _<_};
 ghost use Rattle.format.specs.Sections.{jobOf};
+ghost use Rattle.plan.specs.Planned.{PlannedIs};
 ghost use Rattle.nest.specs.Ready.{Ready};
 ghost use Rattle.emit.specs.Fold.{rowOut};
 ghost use Rattle.emit.specs.Did.{DidCounts, Within};
@@ -47,7 +49,7 @@ fn put_line(
     )
 }
 
-// Planned segment i of a loop, written from a row: one segment, its findings, its trace.
+// Planned segment i of a loop, which is p, written from a row: one segment, its findings, its trace.
 pub fn write_row(
     job: &[u8],
     index: &[u32],
@@ -57,13 +59,14 @@ pub fn write_row(
     s: Counts,
     l: LoopId,
     i: u32,
+    p: Planned,
     t: TableId,
     r: RowId,
 ) -> Counts
-    requires { ⌜ Ready (now job) (now index) × Within s × (l .0 < 32) ⌝ }
+    requires { ⌜ Ready (now job) (now index) × Within s × (l .0 < 32) × PlannedIs (now job) (l .0) i p ⌝ }
     ensures { λ n. ⌜ ((p : List ℕ) → DidCounts (rowOut (jobOf (now (job .entry))) (l .0) i (t .0) (r .0)) s n
         (now (doc .entry)) (now (doc .exit)) (now (segments .entry)) (now (segments .exit)) (now (findings .entry)) (now (findings .exit)) p p) ⌝ }
 {
-    let x = parts::line_of(job, index, l, i, t, r);
+    let x = parts::line_of(job, index, l, i, p, t, r);
     put_line(job, index, doc, segments, findings, s, x)
 }

@@ -2,6 +2,7 @@
 use emit::cells;
 use emit::cells::Written;
 use plan::answers::ElementPlan;
+use plan::answers::Planned as PlannedSegment;
 use plan::answers::ValueSource;
 use segment::Value;
 use spec::ids::LoopId;
@@ -15,6 +16,7 @@ ghost use Prim.Native.Nat.{ℕ, _<_, max};
 ghost use mathlib.Core.Bool.{false};
 ghost use Rattle.nest.specs.Ready.{Ready};
 ghost use Rattle.plan.specs.Answers.{elementOf};
+ghost use Rattle.plan.specs.Planned.{PlannedIs};
 ghost use Rattle.segment.specs.Parts.{pick, isEmpty};
 ghost use Rattle.segment.specs.Pen.{valueText};
 ghost use Rattle.emit.specs.Written.{Writes};
@@ -51,12 +53,19 @@ pub struct Look {
     pub at: usize,
 }
 
-// The line of planned segment i of a loop and a row.
-pub fn line_of(job: &[u8], index: &[u32], l: LoopId, i: u32, t: TableId, r: RowId) -> Line
-    requires { ⌜ Ready (now job) (now index) × (l .0 < 32) ⌝ }
+// The line of planned segment i of a loop, which is s, and a row.
+pub fn line_of(
+    job: &[u8],
+    index: &[u32],
+    l: LoopId,
+    i: u32,
+    s: PlannedSegment,
+    t: TableId,
+    r: RowId,
+) -> Line
+    requires { ⌜ Ready (now job) (now index) × (l .0 < 32) × PlannedIs (now job) (l .0) i s ⌝ }
     ensures { λ x. ⌜ Lined (now (job .entry)) (now (index .entry)) x × (x .l ≡ l) × (x .i ≡ i) × (x .t ≡ t) × (x .r ≡ r) ⌝ }
 {
-    let s = plan::planned::segment(job, index, l, i);
     let id = spec::loops::occurrence(job, index, l, s.occurrence);
     Line {
         l,

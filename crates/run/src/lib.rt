@@ -176,17 +176,18 @@ fn items(
         (T.children (I.instances (outlineAt (now (job .entry))) height) (outlineAt (now (job .entry))) (l .0) (contextBy c)) s r
         (now (doc .entry)) (now (doc .exit)) (now (segments .entry)) (now (segments .exit)) (now (findings .entry)) (now (findings .exit)) (now (stops .entry)) (now (stops .exit)) ⌝ }
 {
-    let count = plan::layout::order_count(job, index, l);
+    let order = plan::layout::order(job, index, l);
     let mut t = s;
     let mut written: usize = 0;
     let mut n: usize = 0;
     let mut k: u32 = 0;
-    while k < count {
-        let it = plan::layout::item(job, index, l, k);
+    while k < order.count {
+        let it = plan::layout::order_item(job, order, k);
         k += 1;
         match it {
             Item::Segment(i) => {
-                let due = segment_due(job, index, l, i, c);
+                let planned = plan::planned::segment(job, index, l, i);
+                let due = segment_due(job, index, l, i, planned, c);
                 match due {
                     Due::Nothing => {}
                     Due::Opener => {
@@ -203,6 +204,7 @@ fn items(
                             t.counts,
                             l,
                             i,
+                            planned,
                             u,
                             r,
                         );

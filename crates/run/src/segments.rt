@@ -109,12 +109,11 @@ fn repeat_due(
     Due::Nothing
 }
 
-// What planned segment i of loop l gives, by its source.
-pub fn segment_due(job: &[u8], index: &[u32], l: LoopId, i: u32, c: Context) -> Due
-    requires { ⌜ Ready (now job) (now index) × Sound (outlineAt (now job)) (contextBy c) × (l .0 < 32) ⌝ }
+// What planned segment i of loop l, which is s, gives by its source.
+pub fn segment_due(job: &[u8], index: &[u32], l: LoopId, i: u32, s: Planned, c: Context) -> Due
+    requires { ⌜ Ready (now job) (now index) × Sound (outlineAt (now job)) (contextBy c) × (l .0 < 32) × PlannedIs (now job) (l .0) i s ⌝ }
     ensures { λ d. ⌜ Gives (outlineAt (now (job .entry))) (l .0) i (segmentSteps (outlineAt (now (job .entry))) (l .0) (contextBy c) i) d ⌝ }
 {
-    let s = plan::planned::segment(job, index, l, i);
     if s.there {
         let source = s.source;
         match source {

@@ -29,8 +29,9 @@ use Rattle.run.proofs.+instance+items+visits.Lts-visits as visits-lts
 use Rattle.instances.proofs.context_in.Reads as context-in-reads
 use Rattle.instances.proofs.instances.Reads as instances-reads
 use Rattle.instances.proofs.next_instance.Reads as next-instance-reads
-use Rattle.plan.proofs.layout.item.Reads as item-reads
-use Rattle.plan.proofs.layout.order_count.Reads as order-count-reads
+use Rattle.plan.proofs.layout.order.Reads as order-reads
+use Rattle.plan.proofs.layout.order_item.Reads as order-item-reads
+use Rattle.plan.proofs.planned.segment.Reads as segment-reads
 use Rattle.repeats.proofs.write_repeats.Reads as write-repeats-reads
 use Rattle.row_segment.proofs.write_row.Reads as write-row-reads
 use Rattle.run.proofs.closing.close.Reads as close-reads
@@ -161,18 +162,20 @@ instance-returns : (t : ℕ) → instance-lts.Need-returns (
 instance-returns t c = instance-took _ _ _ _ (c .before .before .before .before .before .before .before .before .before .before .before .before .before .before .before .before .before .before .before .items .ensures) (c .before .before .before .before .before .before .before .close .ensures) (record { document = omega (arith, c .before .before .before .before .before .before .before .before .before .before .before .before .before .before .before .before .before .before .before .before .before .before .before .before .before .before .before .before .before .before .before .before .before .before .before .before .before .before); segments = omega (arith, c .before .before .before .before .before .before .before .before .before .before .before .before .before .before .before .before .before .before .before .before .before .before .before .before .before .before .before .before .before .before .before .before .before .before .before .before .before .before); findings = omega (arith, c .before .before .before .before .before .before .before .before .before .before .before .before .before .before .before .before .before .before .before .before .before .before .before .before .before .before .before .before .before .before .before .before .before .before .before .before .before .before); stops = omega (arith, c .before .before .before .before .before .before .before .before .before .before .before .before .before .before .before .before .before .before .before .before .before .before .before .before .before .before .before .before .before .before .before .before .before .before .before .before .before .before) }) (c .before .before .before .before .before .before .before .before .before .before .before .before .before .before .before .before .before .before .before .before .before .before .before .before .before .before .before .before .enter-own .ensures _ _)
 
 abbrev items-Inv-loop : items-lts.InvT-loop
-items-Inv-loop job index nest doc₀ segments₀ findings₀ stops₀ l c height count t₀ written₀ n₀ k₀ doc segments findings stops t written n k =
-    (k ≤ count) × ItemsTo (jobOf job) height (l .0) (contextBy c) k t₀ t written n doc₀ doc segments₀ segments findings₀ findings stops₀ stops
+items-Inv-loop job index nest doc₀ segments₀ findings₀ stops₀ l c height order t₀ written₀ n₀ k₀ doc segments findings stops t written n k =
+    (k ≤ order .count) × ItemsTo (jobOf job) height (l .0) (contextBy c) k t₀ t written n doc₀ doc segments₀ segments findings₀ findings stops₀ stops
 
 abbrev items-μ-loop : items-lts.MeasureT-loop
-items-μ-loop job index nest doc₀ segments₀ findings₀ stops₀ l c height count t₀ written₀ n₀ k₀ doc segments findings stops t written n k =
-    count - k
+items-μ-loop job index nest doc₀ segments₀ findings₀ stops₀ l c height order t₀ written₀ n₀ k₀ doc segments findings stops t written n k =
+    order .count - k
 
-items-order-count-requires : (t : ℕ) → items-lts.Need-order-count-requires (
-  order-count-reads.Asked,
-  order-count-reads.Learnt,
-  item-reads.Asked,
-  item-reads.Learnt,
+items-order-requires : (t : ℕ) → items-lts.Need-order-requires (
+  order-reads.Asked,
+  order-reads.Learnt,
+  order-item-reads.Asked,
+  order-item-reads.Learnt,
+  segment-reads.Asked,
+  segment-reads.Learnt,
   segment-due-reads.Asked,
   segment-due-reads.Learnt,
   write-opener-reads.Asked,
@@ -186,13 +189,15 @@ items-order-count-requires : (t : ℕ) → items-lts.Need-order-count-requires (
   tally-reads.Asked,
   tally-reads.Learnt,
 ) (items-at t) items.Post items-Inv-loop items-μ-loop
-items-order-count-requires t c κs = search needs
+items-order-requires t c κs = search needs
 
 items-loop-holds : (t : ℕ) → items-lts.Need-loop-holds (
-  order-count-reads.Asked,
-  order-count-reads.Learnt,
-  item-reads.Asked,
-  item-reads.Learnt,
+  order-reads.Asked,
+  order-reads.Learnt,
+  order-item-reads.Asked,
+  order-item-reads.Learnt,
+  segment-reads.Asked,
+  segment-reads.Learnt,
   segment-due-reads.Asked,
   segment-due-reads.Learnt,
   write-opener-reads.Asked,
@@ -208,11 +213,13 @@ items-loop-holds : (t : ℕ) → items-lts.Need-loop-holds (
 ) (items-at t) items.Post items-Inv-loop items-μ-loop
 items-loop-holds t c = (omega arith, items-none _ _ _ _ (c .before .before .before .before .before .before .before .before .pre .1 .0 .small))
 
-items-item-requires : (t : ℕ) → items-lts.Need-item-requires (
-  order-count-reads.Asked,
-  order-count-reads.Learnt,
-  item-reads.Asked,
-  item-reads.Learnt,
+items-order-item-requires : (t : ℕ) → items-lts.Need-order-item-requires (
+  order-reads.Asked,
+  order-reads.Learnt,
+  order-item-reads.Asked,
+  order-item-reads.Learnt,
+  segment-reads.Asked,
+  segment-reads.Learnt,
   segment-due-reads.Asked,
   segment-due-reads.Learnt,
   write-opener-reads.Asked,
@@ -226,13 +233,15 @@ items-item-requires : (t : ℕ) → items-lts.Need-item-requires (
   tally-reads.Asked,
   tally-reads.Learnt,
 ) (items-at t) items.Post items-Inv-loop items-μ-loop
-items-item-requires t c κs = search needs
+items-order-item-requires t c κs = c .before .before .before .order .ensures .low
 
 items-add-k : (t : ℕ) → items-lts.Need-add-k (
-  order-count-reads.Asked,
-  order-count-reads.Learnt,
-  item-reads.Asked,
-  item-reads.Learnt,
+  order-reads.Asked,
+  order-reads.Learnt,
+  order-item-reads.Asked,
+  order-item-reads.Learnt,
+  segment-reads.Asked,
+  segment-reads.Learnt,
   segment-due-reads.Asked,
   segment-due-reads.Learnt,
   write-opener-reads.Asked,
@@ -246,13 +255,15 @@ items-add-k : (t : ℕ) → items-lts.Need-add-k (
   tally-reads.Asked,
   tally-reads.Learnt,
 ) (items-at t) items.Post items-Inv-loop items-μ-loop
-items-add-k t c = omega (arith, c .before, c .before .before .before .order-count)
+items-add-k t c = omega (arith, c .before, c .before .before)
 
 items-enum-known-it : (t : ℕ) → items-lts.Need-enum-known-it (
-  order-count-reads.Asked,
-  order-count-reads.Learnt,
-  item-reads.Asked,
-  item-reads.Learnt,
+  order-reads.Asked,
+  order-reads.Learnt,
+  order-item-reads.Asked,
+  order-item-reads.Learnt,
+  segment-reads.Asked,
+  segment-reads.Learnt,
   segment-due-reads.Asked,
   segment-due-reads.Learnt,
   write-opener-reads.Asked,
@@ -268,11 +279,13 @@ items-enum-known-it : (t : ℕ) → items-lts.Need-enum-known-it (
 ) (items-at t) items.Post items-Inv-loop items-μ-loop
 items-enum-known-it t c = search needs
 
-items-segment-due-requires : (t : ℕ) → items-lts.Need-segment-due-requires (
-  order-count-reads.Asked,
-  order-count-reads.Learnt,
-  item-reads.Asked,
-  item-reads.Learnt,
+items-segment-requires : (t : ℕ) → items-lts.Need-segment-requires (
+  order-reads.Asked,
+  order-reads.Learnt,
+  order-item-reads.Asked,
+  order-item-reads.Learnt,
+  segment-reads.Asked,
+  segment-reads.Learnt,
   segment-due-reads.Asked,
   segment-due-reads.Learnt,
   write-opener-reads.Asked,
@@ -286,13 +299,37 @@ items-segment-due-requires : (t : ℕ) → items-lts.Need-segment-due-requires (
   tally-reads.Asked,
   tally-reads.Learnt,
 ) (items-at t) items.Post items-Inv-loop items-μ-loop
-items-segment-due-requires t c κs = (c .before .before .before .before .before .before .before .before .before .before .before .before .before .before .pre .1 .0 .nested .ready, c .before .before .before .before .before .before .before .before .before .before .before .before .before .before .pre .1 .0 .sound, c .before .before .before .before .before .before .before .before .before .before .before .before .before .before .pre .1 .0 .loop)
+items-segment-requires t c κs = (c .before .before .before .before .before .before .before .before .before .before .before .before .before .before .before .pre .1 .0 .nested .ready .plan, c .before .before .before .before .before .before .before .before .before .before .before .before .before .before .before .pre .1 .0 .loop)
+
+items-segment-due-requires : (t : ℕ) → items-lts.Need-segment-due-requires (
+  order-reads.Asked,
+  order-reads.Learnt,
+  order-item-reads.Asked,
+  order-item-reads.Learnt,
+  segment-reads.Asked,
+  segment-reads.Learnt,
+  segment-due-reads.Asked,
+  segment-due-reads.Learnt,
+  write-opener-reads.Asked,
+  write-opener-reads.Learnt,
+  write-row-reads.Asked,
+  write-row-reads.Learnt,
+  write-repeats-reads.Asked,
+  write-repeats-reads.Learnt,
+  visits-below t,
+  visits.Post,
+  tally-reads.Asked,
+  tally-reads.Learnt,
+) (items-at t) items.Post items-Inv-loop items-μ-loop
+items-segment-due-requires t c κs = (c .before .before .before .before .before .before .before .before .before .before .before .before .before .before .before .before .pre .1 .0 .nested .ready, c .before .before .before .before .before .before .before .before .before .before .before .before .before .before .before .before .pre .1 .0 .sound, c .before .before .before .before .before .before .before .before .before .before .before .before .before .before .before .before .pre .1 .0 .loop, c .segment .ensures)
 
 items-enum-told : (t : ℕ) → items-lts.Need-enum-told (
-  order-count-reads.Asked,
-  order-count-reads.Learnt,
-  item-reads.Asked,
-  item-reads.Learnt,
+  order-reads.Asked,
+  order-reads.Learnt,
+  order-item-reads.Asked,
+  order-item-reads.Learnt,
+  segment-reads.Asked,
+  segment-reads.Learnt,
   segment-due-reads.Asked,
   segment-due-reads.Learnt,
   write-opener-reads.Asked,
@@ -309,10 +346,12 @@ items-enum-told : (t : ℕ) → items-lts.Need-enum-told (
 items-enum-told t c = search needs
 
 items-loop-less : (t : ℕ) → items-lts.Need-loop-less (
-  order-count-reads.Asked,
-  order-count-reads.Learnt,
-  item-reads.Asked,
-  item-reads.Learnt,
+  order-reads.Asked,
+  order-reads.Learnt,
+  order-item-reads.Asked,
+  order-item-reads.Learnt,
+  segment-reads.Asked,
+  segment-reads.Learnt,
   segment-due-reads.Asked,
   segment-due-reads.Learnt,
   write-opener-reads.Asked,
@@ -326,13 +365,15 @@ items-loop-less : (t : ℕ) → items-lts.Need-loop-less (
   tally-reads.Asked,
   tally-reads.Learnt,
 ) (items-at t) items.Post items-Inv-loop items-μ-loop
-items-loop-less t c = omega (arith, c .before .before .before .before .before .before .before .loop-test .taken)
+items-loop-less t c = omega (arith, c .before .before .before .before .before .before .before .before .if1 .taken)
 
 items-loop-again : (t : ℕ) → items-lts.Need-loop-again (
-  order-count-reads.Asked,
-  order-count-reads.Learnt,
-  item-reads.Asked,
-  item-reads.Learnt,
+  order-reads.Asked,
+  order-reads.Learnt,
+  order-item-reads.Asked,
+  order-item-reads.Learnt,
+  segment-reads.Asked,
+  segment-reads.Learnt,
   segment-due-reads.Asked,
   segment-due-reads.Learnt,
   write-opener-reads.Asked,
@@ -346,13 +387,15 @@ items-loop-again : (t : ℕ) → items-lts.Need-loop-again (
   tally-reads.Asked,
   tally-reads.Learnt,
 ) (items-at t) items.Post items-Inv-loop items-μ-loop
-items-loop-again t c = (omega (arith, c .before .before .before .before .before .before .before .loop-test .taken), segment-passed _ _ _ _ _ _ (c .before .before .before .before .before .before .before .before .before .order-count .ensures) (c .before .before .before .before .before .before .before .before .loop .inv .1) (c .before .before .before .before .before .before .item .result) (c .before .before .before .before .before .before .before .loop-test .taken) (c .before .before .before .before .before .before .item .ensures) _ (c .before .before .before .before .it .given .1) (takes-nothing _ (c .before .before .segment-due .ensures) (c .enum-told .given .1) (far-small (c .before .before .before .before .before .before .before .before .loop .inv .1 .far))) (record { document = omega (arith, c .before .before .before .before .before .before .before .before .before .before .before .before .before .before .before .before .before); segments = omega (arith, c .before .before .before .before .before .before .before .before .before .before .before .before .before .before .before .before .before); findings = omega (arith, c .before .before .before .before .before .before .before .before .before .before .before .before .before .before .before .before .before); stops = omega (arith, c .before .before .before .before .before .before .before .before .before .before .before .before .before .before .before .before .before) }))
+items-loop-again t c = (omega (arith, c .before .before .before .before .before .before .before .before .if1 .taken), segment-passed _ _ _ _ _ _ (c .before .before .before .before .before .before .before .before .before .before .before .order .ensures .count) (c .before .before .before .before .before .before .before .before .before .before .loop .inv .1) (c .before .before .before .before .before .before .before .order-item .result) (c .before .before .before .before .before .before .before .before .if1 .taken) (c .before .before .before .before .before .before .before .order-item .ensures _ (c .before .before .before .before .before .before .before .before .before .before .before .order .ensures) (c .before .before .before .before .before .before .before .before .if1 .taken)) _ (c .before .before .before .before .before .it .given .1) (takes-nothing _ (c .before .before .segment-due .ensures) (c .enum-told .given .1) (far-small (c .before .before .before .before .before .before .before .before .before .before .loop .inv .1 .far))) (record { document = omega (arith, c .before .before .before .before .before .before .before .before .before .before .before .before .before .before .before .before .before .before .before); segments = omega (arith, c .before .before .before .before .before .before .before .before .before .before .before .before .before .before .before .before .before .before .before); findings = omega (arith, c .before .before .before .before .before .before .before .before .before .before .before .before .before .before .before .before .before .before .before); stops = omega (arith, c .before .before .before .before .before .before .before .before .before .before .before .before .before .before .before .before .before .before .before) }))
 
 items-enum-told-2 : (t : ℕ) → items-lts.Need-enum-told-2 (
-  order-count-reads.Asked,
-  order-count-reads.Learnt,
-  item-reads.Asked,
-  item-reads.Learnt,
+  order-reads.Asked,
+  order-reads.Learnt,
+  order-item-reads.Asked,
+  order-item-reads.Learnt,
+  segment-reads.Asked,
+  segment-reads.Learnt,
   segment-due-reads.Asked,
   segment-due-reads.Learnt,
   write-opener-reads.Asked,
@@ -369,10 +412,12 @@ items-enum-told-2 : (t : ℕ) → items-lts.Need-enum-told-2 (
 items-enum-told-2 t c = search needs
 
 items-write-opener-requires : (t : ℕ) → items-lts.Need-write-opener-requires (
-  order-count-reads.Asked,
-  order-count-reads.Learnt,
-  item-reads.Asked,
-  item-reads.Learnt,
+  order-reads.Asked,
+  order-reads.Learnt,
+  order-item-reads.Asked,
+  order-item-reads.Learnt,
+  segment-reads.Asked,
+  segment-reads.Learnt,
   segment-due-reads.Asked,
   segment-due-reads.Learnt,
   write-opener-reads.Asked,
@@ -386,13 +431,15 @@ items-write-opener-requires : (t : ℕ) → items-lts.Need-write-opener-requires
   tally-reads.Asked,
   tally-reads.Learnt,
 ) (items-at t) items.Post items-Inv-loop items-μ-loop
-items-write-opener-requires t c κs = (c .before .before .before .before .before .before .before .before .before .before .before .before .before .before .before .before .before .before .before .before .pre .1 .0 .nested .ready, far-small (c .before .before .before .before .before .before .before .before .before .before .before .loop .inv .1 .far), c .before .before .before .before .before .before .before .before .before .before .before .before .before .before .before .before .before .before .before .before .pre .1 .0 .loop)
+items-write-opener-requires t c κs = (c .before .before .before .before .before .before .before .before .before .before .before .before .before .before .before .before .before .before .before .before .before .before .pre .1 .0 .nested .ready, far-small (c .before .before .before .before .before .before .before .before .before .before .before .before .before .loop .inv .1 .far), c .before .before .before .before .before .before .before .before .before .before .before .before .before .before .before .before .before .before .before .before .before .before .pre .1 .0 .loop)
 
 items-add-written : (t : ℕ) → items-lts.Need-add-written (
-  order-count-reads.Asked,
-  order-count-reads.Learnt,
-  item-reads.Asked,
-  item-reads.Learnt,
+  order-reads.Asked,
+  order-reads.Learnt,
+  order-item-reads.Asked,
+  order-item-reads.Learnt,
+  segment-reads.Asked,
+  segment-reads.Learnt,
   segment-due-reads.Asked,
   segment-due-reads.Learnt,
   write-opener-reads.Asked,
@@ -406,13 +453,15 @@ items-add-written : (t : ℕ) → items-lts.Need-add-written (
   tally-reads.Asked,
   tally-reads.Learnt,
 ) (items-at t) items.Post items-Inv-loop items-μ-loop
-items-add-written t c = let r : c .before .before .before .before .before .before .before .before .before .before .before .before .before .before .before .before .before .before .loop .written + 1 < cap = segment-written _ _ _ _ _ _ (c .before .before .before .before .before .before .before .before .before .before .before .before .before .before .before .before .before .before .before .order-count .ensures) (c .before .before .before .before .before .before .before .before .before .before .before .before .before .before .before .before .before .before .loop .inv .1) (c .before .before .before .before .before .before .before .before .before .before .before .before .before .before .before .before .item .result) (c .before .before .before .before .before .before .before .before .before .before .before .before .before .before .before .before .before .loop-test .taken) (c .before .before .before .before .before .before .before .before .before .before .before .before .before .before .before .before .item .ensures) _ (c .before .before .before .before .before .before .before .before .before .before .before .before .before .before .it .given .1) (takes-opener _ (c .before .before .before .before .before .before .before .before .before .before .before .before .segment-due .ensures) (c .before .before .before .before .before .before .before .before .before .before .enum-told2 .given .1) (c .before .before .before .before .before .before .write-opener .ensures) (c .before .before .before .before .before .before .before .before .before .before .before .before .before .before .before .before .before .before .loop .stops)) (c .before .before .before .before .before .before .before .before .before .before .before .before .before .before .before .before .before .before .before .before .before .before .before .before .before .before .before .pre .1 .1) in omega (arith, r)
+items-add-written t c = let r : c .before .before .before .before .before .before .before .before .before .before .before .before .before .before .before .before .before .before .before .before .loop .written + 1 < cap = segment-written _ _ _ _ _ _ (c .before .before .before .before .before .before .before .before .before .before .before .before .before .before .before .before .before .before .before .before .before .order .ensures .count) (c .before .before .before .before .before .before .before .before .before .before .before .before .before .before .before .before .before .before .before .before .loop .inv .1) (c .before .before .before .before .before .before .before .before .before .before .before .before .before .before .before .before .before .order-item .result) (c .before .before .before .before .before .before .before .before .before .before .before .before .before .before .before .before .before .before .if1 .taken) (c .before .before .before .before .before .before .before .before .before .before .before .before .before .before .before .before .before .order-item .ensures _ (c .before .before .before .before .before .before .before .before .before .before .before .before .before .before .before .before .before .before .before .before .before .order .ensures) (c .before .before .before .before .before .before .before .before .before .before .before .before .before .before .before .before .before .before .if1 .taken)) _ (c .before .before .before .before .before .before .before .before .before .before .before .before .before .before .before .it .given .1) (takes-opener _ (c .before .before .before .before .before .before .before .before .before .before .before .before .segment-due .ensures) (c .before .before .before .before .before .before .before .before .before .before .enum-told2 .given .1) (c .before .before .before .before .before .before .write-opener .ensures) (c .before .before .before .before .before .before .before .before .before .before .before .before .before .before .before .before .before .before .before .before .loop .stops)) (c .before .before .before .before .before .before .before .before .before .before .before .before .before .before .before .before .before .before .before .before .before .before .before .before .before .before .before .before .before .pre .1 .1) in omega (arith, r)
 
 items-loop-less-2 : (t : ℕ) → items-lts.Need-loop-less-2 (
-  order-count-reads.Asked,
-  order-count-reads.Learnt,
-  item-reads.Asked,
-  item-reads.Learnt,
+  order-reads.Asked,
+  order-reads.Learnt,
+  order-item-reads.Asked,
+  order-item-reads.Learnt,
+  segment-reads.Asked,
+  segment-reads.Learnt,
   segment-due-reads.Asked,
   segment-due-reads.Learnt,
   write-opener-reads.Asked,
@@ -426,13 +475,15 @@ items-loop-less-2 : (t : ℕ) → items-lts.Need-loop-less-2 (
   tally-reads.Asked,
   tally-reads.Learnt,
 ) (items-at t) items.Post items-Inv-loop items-μ-loop
-items-loop-less-2 t c = omega (arith, c .before .before .before .before .before .before .before .before .before .before .before .before .before .before .before .before .before .loop-test .taken)
+items-loop-less-2 t c = omega (arith, c .before .before .before .before .before .before .before .before .before .before .before .before .before .before .before .before .before .before .if1 .taken)
 
 items-loop-again-2 : (t : ℕ) → items-lts.Need-loop-again-2 (
-  order-count-reads.Asked,
-  order-count-reads.Learnt,
-  item-reads.Asked,
-  item-reads.Learnt,
+  order-reads.Asked,
+  order-reads.Learnt,
+  order-item-reads.Asked,
+  order-item-reads.Learnt,
+  segment-reads.Asked,
+  segment-reads.Learnt,
   segment-due-reads.Asked,
   segment-due-reads.Learnt,
   write-opener-reads.Asked,
@@ -446,13 +497,15 @@ items-loop-again-2 : (t : ℕ) → items-lts.Need-loop-again-2 (
   tally-reads.Asked,
   tally-reads.Learnt,
 ) (items-at t) items.Post items-Inv-loop items-μ-loop
-items-loop-again-2 t c = (omega (arith, c .before .before .before .before .before .before .before .before .before .before .before .before .before .before .before .before .before .loop-test .taken), segment-next _ _ _ _ _ _ (c .before .before .before .before .before .before .before .before .before .before .before .before .before .before .before .before .before .before .before .order-count .ensures) (c .before .before .before .before .before .before .before .before .before .before .before .before .before .before .before .before .before .before .loop .inv .1) (c .before .before .before .before .before .before .before .before .before .before .before .before .before .before .before .before .item .result) (c .before .before .before .before .before .before .before .before .before .before .before .before .before .before .before .before .before .loop-test .taken) (c .before .before .before .before .before .before .before .before .before .before .before .before .before .before .before .before .item .ensures) _ (c .before .before .before .before .before .before .before .before .before .before .before .before .before .before .it .given .1) (takes-opener _ (c .before .before .before .before .before .before .before .before .before .before .before .before .segment-due .ensures) (c .before .before .before .before .before .before .before .before .before .before .enum-told2 .given .1) (c .before .before .before .before .before .before .write-opener .ensures) (c .before .before .before .before .before .before .before .before .before .before .before .before .before .before .before .before .before .before .loop .stops)) (record { document = omega (arith, c .before .before .before .before .before .before .before .before .before .before .before .before .before .before .before .before .before .before .before .before .before .before .before .before .before .before .before); segments = omega (arith, c .before .before .before .before .before .before .before .before .before .before .before .before .before .before .before .before .before .before .before .before .before .before .before .before .before .before .before); findings = omega (arith, c .before .before .before .before .before .before .before .before .before .before .before .before .before .before .before .before .before .before .before .before .before .before .before .before .before .before .before); stops = omega (arith, c .before .before .before .before .before .before .before .before .before .before .before .before .before .before .before .before .before .before .before .before .before .before .before .before .before .before .before) }))
+items-loop-again-2 t c = (omega (arith, c .before .before .before .before .before .before .before .before .before .before .before .before .before .before .before .before .before .before .if1 .taken), segment-next _ _ _ _ _ _ (c .before .before .before .before .before .before .before .before .before .before .before .before .before .before .before .before .before .before .before .before .before .order .ensures .count) (c .before .before .before .before .before .before .before .before .before .before .before .before .before .before .before .before .before .before .before .before .loop .inv .1) (c .before .before .before .before .before .before .before .before .before .before .before .before .before .before .before .before .before .order-item .result) (c .before .before .before .before .before .before .before .before .before .before .before .before .before .before .before .before .before .before .if1 .taken) (c .before .before .before .before .before .before .before .before .before .before .before .before .before .before .before .before .before .order-item .ensures _ (c .before .before .before .before .before .before .before .before .before .before .before .before .before .before .before .before .before .before .before .before .before .order .ensures) (c .before .before .before .before .before .before .before .before .before .before .before .before .before .before .before .before .before .before .if1 .taken)) _ (c .before .before .before .before .before .before .before .before .before .before .before .before .before .before .before .it .given .1) (takes-opener _ (c .before .before .before .before .before .before .before .before .before .before .before .before .segment-due .ensures) (c .before .before .before .before .before .before .before .before .before .before .enum-told2 .given .1) (c .before .before .before .before .before .before .write-opener .ensures) (c .before .before .before .before .before .before .before .before .before .before .before .before .before .before .before .before .before .before .before .before .loop .stops)) (record { document = omega (arith, c .before .before .before .before .before .before .before .before .before .before .before .before .before .before .before .before .before .before .before .before .before .before .before .before .before .before .before .before .before); segments = omega (arith, c .before .before .before .before .before .before .before .before .before .before .before .before .before .before .before .before .before .before .before .before .before .before .before .before .before .before .before .before .before); findings = omega (arith, c .before .before .before .before .before .before .before .before .before .before .before .before .before .before .before .before .before .before .before .before .before .before .before .before .before .before .before .before .before); stops = omega (arith, c .before .before .before .before .before .before .before .before .before .before .before .before .before .before .before .before .before .before .before .before .before .before .before .before .before .before .before .before .before) }))
 
 items-enum-known-due : (t : ℕ) → items-lts.Need-enum-known-due (
-  order-count-reads.Asked,
-  order-count-reads.Learnt,
-  item-reads.Asked,
-  item-reads.Learnt,
+  order-reads.Asked,
+  order-reads.Learnt,
+  order-item-reads.Asked,
+  order-item-reads.Learnt,
+  segment-reads.Asked,
+  segment-reads.Learnt,
   segment-due-reads.Asked,
   segment-due-reads.Learnt,
   write-opener-reads.Asked,
@@ -469,10 +522,12 @@ items-enum-known-due : (t : ℕ) → items-lts.Need-enum-known-due (
 items-enum-known-due t c = search needs
 
 items-write-row-requires : (t : ℕ) → items-lts.Need-write-row-requires (
-  order-count-reads.Asked,
-  order-count-reads.Learnt,
-  item-reads.Asked,
-  item-reads.Learnt,
+  order-reads.Asked,
+  order-reads.Learnt,
+  order-item-reads.Asked,
+  order-item-reads.Learnt,
+  segment-reads.Asked,
+  segment-reads.Learnt,
   segment-due-reads.Asked,
   segment-due-reads.Learnt,
   write-opener-reads.Asked,
@@ -486,13 +541,15 @@ items-write-row-requires : (t : ℕ) → items-lts.Need-write-row-requires (
   tally-reads.Asked,
   tally-reads.Learnt,
 ) (items-at t) items.Post items-Inv-loop items-μ-loop
-items-write-row-requires t c κs = (c .before .before .before .before .before .before .before .before .before .before .before .before .before .before .before .before .before .before .before .before .before .pre .1 .0 .nested .ready, far-small (c .before .before .before .before .before .before .before .before .before .before .before .before .loop .inv .1 .far), c .before .before .before .before .before .before .before .before .before .before .before .before .before .before .before .before .before .before .before .before .before .pre .1 .0 .loop)
+items-write-row-requires t c κs = (c .before .before .before .before .before .before .before .before .before .before .before .before .before .before .before .before .before .before .before .before .before .before .before .pre .1 .0 .nested .ready, far-small (c .before .before .before .before .before .before .before .before .before .before .before .before .before .before .loop .inv .1 .far), c .before .before .before .before .before .before .before .before .before .before .before .before .before .before .before .before .before .before .before .before .before .before .before .pre .1 .0 .loop, c .before .before .before .before .before .before .before .segment .ensures)
 
 items-add-written-2 : (t : ℕ) → items-lts.Need-add-written-2 (
-  order-count-reads.Asked,
-  order-count-reads.Learnt,
-  item-reads.Asked,
-  item-reads.Learnt,
+  order-reads.Asked,
+  order-reads.Learnt,
+  order-item-reads.Asked,
+  order-item-reads.Learnt,
+  segment-reads.Asked,
+  segment-reads.Learnt,
   segment-due-reads.Asked,
   segment-due-reads.Learnt,
   write-opener-reads.Asked,
@@ -506,13 +563,15 @@ items-add-written-2 : (t : ℕ) → items-lts.Need-add-written-2 (
   tally-reads.Asked,
   tally-reads.Learnt,
 ) (items-at t) items.Post items-Inv-loop items-μ-loop
-items-add-written-2 t c = let r : c .before .before .before .before .before .before .before .before .before .before .before .before .before .before .before .before .before .before .before .loop .written + 1 < cap = segment-written _ _ _ _ _ _ (c .before .before .before .before .before .before .before .before .before .before .before .before .before .before .before .before .before .before .before .before .order-count .ensures) (c .before .before .before .before .before .before .before .before .before .before .before .before .before .before .before .before .before .before .before .loop .inv .1) (c .before .before .before .before .before .before .before .before .before .before .before .before .before .before .before .before .before .item .result) (c .before .before .before .before .before .before .before .before .before .before .before .before .before .before .before .before .before .before .loop-test .taken) (c .before .before .before .before .before .before .before .before .before .before .before .before .before .before .before .before .before .item .ensures) _ (c .before .before .before .before .before .before .before .before .before .before .before .before .before .before .before .it .given .1) (takes-row _ (c .before .before .before .before .before .before .before .before .before .before .before .before .before .segment-due .ensures) (c .before .before .before .before .before .before .before .before .before .before .before .before .before .before .before .before .before .before .before .loop .t) _ _ (c .before .before .before .before .before .before .before .before .before .before .before .due .given .1) (c .before .before .before .before .before .before .write-row .ensures) (c .before .before .before .before .before .before .before .before .before .before .before .before .before .before .before .before .before .before .before .loop .stops)) (c .before .before .before .before .before .before .before .before .before .before .before .before .before .before .before .before .before .before .before .before .before .before .before .before .before .before .before .before .pre .1 .1) in omega (arith, r)
+items-add-written-2 t c = let r : c .before .before .before .before .before .before .before .before .before .before .before .before .before .before .before .before .before .before .before .before .before .loop .written + 1 < cap = segment-written _ _ _ _ _ _ (c .before .before .before .before .before .before .before .before .before .before .before .before .before .before .before .before .before .before .before .before .before .before .order .ensures .count) (c .before .before .before .before .before .before .before .before .before .before .before .before .before .before .before .before .before .before .before .before .before .loop .inv .1) (c .before .before .before .before .before .before .before .before .before .before .before .before .before .before .before .before .before .before .order-item .result) (c .before .before .before .before .before .before .before .before .before .before .before .before .before .before .before .before .before .before .before .if1 .taken) (c .before .before .before .before .before .before .before .before .before .before .before .before .before .before .before .before .before .before .order-item .ensures _ (c .before .before .before .before .before .before .before .before .before .before .before .before .before .before .before .before .before .before .before .before .before .before .order .ensures) (c .before .before .before .before .before .before .before .before .before .before .before .before .before .before .before .before .before .before .before .if1 .taken)) _ (c .before .before .before .before .before .before .before .before .before .before .before .before .before .before .before .before .it .given .1) (takes-row _ (c .before .before .before .before .before .before .before .before .before .before .before .before .before .segment-due .ensures) (c .before .before .before .before .before .before .before .before .before .before .before .before .before .before .before .before .before .before .before .before .before .loop .t) _ _ (c .before .before .before .before .before .before .before .before .before .before .before .due .given .1) (c .before .before .before .before .before .before .write-row .ensures) (c .before .before .before .before .before .before .before .before .before .before .before .before .before .before .before .before .before .before .before .before .before .loop .stops)) (c .before .before .before .before .before .before .before .before .before .before .before .before .before .before .before .before .before .before .before .before .before .before .before .before .before .before .before .before .before .before .pre .1 .1) in omega (arith, r)
 
 items-loop-less-3 : (t : ℕ) → items-lts.Need-loop-less-3 (
-  order-count-reads.Asked,
-  order-count-reads.Learnt,
-  item-reads.Asked,
-  item-reads.Learnt,
+  order-reads.Asked,
+  order-reads.Learnt,
+  order-item-reads.Asked,
+  order-item-reads.Learnt,
+  segment-reads.Asked,
+  segment-reads.Learnt,
   segment-due-reads.Asked,
   segment-due-reads.Learnt,
   write-opener-reads.Asked,
@@ -526,13 +585,15 @@ items-loop-less-3 : (t : ℕ) → items-lts.Need-loop-less-3 (
   tally-reads.Asked,
   tally-reads.Learnt,
 ) (items-at t) items.Post items-Inv-loop items-μ-loop
-items-loop-less-3 t c = omega (arith, c .before .before .before .before .before .before .before .before .before .before .before .before .before .before .before .before .before .before .loop-test .taken)
+items-loop-less-3 t c = omega (arith, c .before .before .before .before .before .before .before .before .before .before .before .before .before .before .before .before .before .before .before .if1 .taken)
 
 items-loop-again-3 : (t : ℕ) → items-lts.Need-loop-again-3 (
-  order-count-reads.Asked,
-  order-count-reads.Learnt,
-  item-reads.Asked,
-  item-reads.Learnt,
+  order-reads.Asked,
+  order-reads.Learnt,
+  order-item-reads.Asked,
+  order-item-reads.Learnt,
+  segment-reads.Asked,
+  segment-reads.Learnt,
   segment-due-reads.Asked,
   segment-due-reads.Learnt,
   write-opener-reads.Asked,
@@ -546,13 +607,15 @@ items-loop-again-3 : (t : ℕ) → items-lts.Need-loop-again-3 (
   tally-reads.Asked,
   tally-reads.Learnt,
 ) (items-at t) items.Post items-Inv-loop items-μ-loop
-items-loop-again-3 t c = (omega (arith, c .before .before .before .before .before .before .before .before .before .before .before .before .before .before .before .before .before .before .loop-test .taken), segment-next _ _ _ _ _ _ (c .before .before .before .before .before .before .before .before .before .before .before .before .before .before .before .before .before .before .before .before .order-count .ensures) (c .before .before .before .before .before .before .before .before .before .before .before .before .before .before .before .before .before .before .before .loop .inv .1) (c .before .before .before .before .before .before .before .before .before .before .before .before .before .before .before .before .before .item .result) (c .before .before .before .before .before .before .before .before .before .before .before .before .before .before .before .before .before .before .loop-test .taken) (c .before .before .before .before .before .before .before .before .before .before .before .before .before .before .before .before .before .item .ensures) _ (c .before .before .before .before .before .before .before .before .before .before .before .before .before .before .before .it .given .1) (takes-row _ (c .before .before .before .before .before .before .before .before .before .before .before .before .before .segment-due .ensures) (c .before .before .before .before .before .before .before .before .before .before .before .before .before .before .before .before .before .before .before .loop .t) _ _ (c .before .before .before .before .before .before .before .before .before .before .before .due .given .1) (c .before .before .before .before .before .before .write-row .ensures) (c .before .before .before .before .before .before .before .before .before .before .before .before .before .before .before .before .before .before .before .loop .stops)) (record { document = omega (arith, c .before .before .before .before .before .before .before .before .before .before .before .before .before .before .before .before .before .before .before .before .before .before .before .before .before .before .before .before); segments = omega (arith, c .before .before .before .before .before .before .before .before .before .before .before .before .before .before .before .before .before .before .before .before .before .before .before .before .before .before .before .before); findings = omega (arith, c .before .before .before .before .before .before .before .before .before .before .before .before .before .before .before .before .before .before .before .before .before .before .before .before .before .before .before .before); stops = omega (arith, c .before .before .before .before .before .before .before .before .before .before .before .before .before .before .before .before .before .before .before .before .before .before .before .before .before .before .before .before) }))
+items-loop-again-3 t c = (omega (arith, c .before .before .before .before .before .before .before .before .before .before .before .before .before .before .before .before .before .before .before .if1 .taken), segment-next _ _ _ _ _ _ (c .before .before .before .before .before .before .before .before .before .before .before .before .before .before .before .before .before .before .before .before .before .before .order .ensures .count) (c .before .before .before .before .before .before .before .before .before .before .before .before .before .before .before .before .before .before .before .before .before .loop .inv .1) (c .before .before .before .before .before .before .before .before .before .before .before .before .before .before .before .before .before .before .order-item .result) (c .before .before .before .before .before .before .before .before .before .before .before .before .before .before .before .before .before .before .before .if1 .taken) (c .before .before .before .before .before .before .before .before .before .before .before .before .before .before .before .before .before .before .order-item .ensures _ (c .before .before .before .before .before .before .before .before .before .before .before .before .before .before .before .before .before .before .before .before .before .before .order .ensures) (c .before .before .before .before .before .before .before .before .before .before .before .before .before .before .before .before .before .before .before .if1 .taken)) _ (c .before .before .before .before .before .before .before .before .before .before .before .before .before .before .before .before .it .given .1) (takes-row _ (c .before .before .before .before .before .before .before .before .before .before .before .before .before .segment-due .ensures) (c .before .before .before .before .before .before .before .before .before .before .before .before .before .before .before .before .before .before .before .before .before .loop .t) _ _ (c .before .before .before .before .before .before .before .before .before .before .before .due .given .1) (c .before .before .before .before .before .before .write-row .ensures) (c .before .before .before .before .before .before .before .before .before .before .before .before .before .before .before .before .before .before .before .before .before .loop .stops)) (record { document = omega (arith, c .before .before .before .before .before .before .before .before .before .before .before .before .before .before .before .before .before .before .before .before .before .before .before .before .before .before .before .before .before .before); segments = omega (arith, c .before .before .before .before .before .before .before .before .before .before .before .before .before .before .before .before .before .before .before .before .before .before .before .before .before .before .before .before .before .before); findings = omega (arith, c .before .before .before .before .before .before .before .before .before .before .before .before .before .before .before .before .before .before .before .before .before .before .before .before .before .before .before .before .before .before); stops = omega (arith, c .before .before .before .before .before .before .before .before .before .before .before .before .before .before .before .before .before .before .before .before .before .before .before .before .before .before .before .before .before .before) }))
 
 items-enum-known-due-2 : (t : ℕ) → items-lts.Need-enum-known-due-2 (
-  order-count-reads.Asked,
-  order-count-reads.Learnt,
-  item-reads.Asked,
-  item-reads.Learnt,
+  order-reads.Asked,
+  order-reads.Learnt,
+  order-item-reads.Asked,
+  order-item-reads.Learnt,
+  segment-reads.Asked,
+  segment-reads.Learnt,
   segment-due-reads.Asked,
   segment-due-reads.Learnt,
   write-opener-reads.Asked,
@@ -569,10 +632,12 @@ items-enum-known-due-2 : (t : ℕ) → items-lts.Need-enum-known-due-2 (
 items-enum-known-due-2 t c = search needs
 
 items-write-repeats-requires : (t : ℕ) → items-lts.Need-write-repeats-requires (
-  order-count-reads.Asked,
-  order-count-reads.Learnt,
-  item-reads.Asked,
-  item-reads.Learnt,
+  order-reads.Asked,
+  order-reads.Learnt,
+  order-item-reads.Asked,
+  order-item-reads.Learnt,
+  segment-reads.Asked,
+  segment-reads.Learnt,
   segment-due-reads.Asked,
   segment-due-reads.Learnt,
   write-opener-reads.Asked,
@@ -586,13 +651,15 @@ items-write-repeats-requires : (t : ℕ) → items-lts.Need-write-repeats-requir
   tally-reads.Asked,
   tally-reads.Learnt,
 ) (items-at t) items.Post items-Inv-loop items-μ-loop
-items-write-repeats-requires t c κs = (c .before .before .before .before .before .before .before .before .before .before .before .before .before .before .before .before .before .before .before .before .before .before .pre .1 .0 .nested, far-small (c .before .before .before .before .before .before .before .before .before .before .before .before .before .loop .inv .1 .far), c .before .before .before .before .before .before .before .before .before .before .before .before .before .before .before .before .before .before .before .before .before .before .pre .1 .0 .loop, repeat-few _ (c .before .before .before .before .before .before .before .segment-due .ensures) _ _ (c .before .before .before .before .before .due2 .given .1), repeat-room _ (c .before .before .before .before .before .before .before .segment-due .ensures) _ _ (c .before .before .before .before .before .due2 .given .1) (segment-within _ _ _ _ _ _ (c .before .before .before .before .before .before .before .before .before .before .before .before .before .before .order-count .ensures) (c .before .before .before .before .before .before .before .before .before .before .before .before .before .loop .inv .1) (c .before .before .before .before .before .before .before .before .before .before .before .item .result) (c .before .before .before .before .before .before .before .before .before .before .before .before .loop-test .taken) (c .before .before .before .before .before .before .before .before .before .before .before .item .ensures) _ (c .before .before .before .before .before .before .before .before .before .it .given .1) (c .before .before .before .before .before .before .before .before .before .before .before .before .before .before .before .before .before .before .before .before .before .before .pre .1 .1)))
+items-write-repeats-requires t c κs = (c .before .before .before .before .before .before .before .before .before .before .before .before .before .before .before .before .before .before .before .before .before .before .before .before .pre .1 .0 .nested, far-small (c .before .before .before .before .before .before .before .before .before .before .before .before .before .before .before .loop .inv .1 .far), c .before .before .before .before .before .before .before .before .before .before .before .before .before .before .before .before .before .before .before .before .before .before .before .before .pre .1 .0 .loop, repeat-few _ (c .before .before .before .before .before .before .before .segment-due .ensures) _ _ (c .before .before .before .before .before .due2 .given .1), repeat-room _ (c .before .before .before .before .before .before .before .segment-due .ensures) _ _ (c .before .before .before .before .before .due2 .given .1) (segment-within _ _ _ _ _ _ (c .before .before .before .before .before .before .before .before .before .before .before .before .before .before .before .before .order .ensures .count) (c .before .before .before .before .before .before .before .before .before .before .before .before .before .before .before .loop .inv .1) (c .before .before .before .before .before .before .before .before .before .before .before .before .order-item .result) (c .before .before .before .before .before .before .before .before .before .before .before .before .before .if1 .taken) (c .before .before .before .before .before .before .before .before .before .before .before .before .order-item .ensures _ (c .before .before .before .before .before .before .before .before .before .before .before .before .before .before .before .before .order .ensures) (c .before .before .before .before .before .before .before .before .before .before .before .before .before .if1 .taken)) _ (c .before .before .before .before .before .before .before .before .before .before .it .given .1) (c .before .before .before .before .before .before .before .before .before .before .before .before .before .before .before .before .before .before .before .before .before .before .before .before .pre .1 .1)))
 
 items-add-written-3 : (t : ℕ) → items-lts.Need-add-written-3 (
-  order-count-reads.Asked,
-  order-count-reads.Learnt,
-  item-reads.Asked,
-  item-reads.Learnt,
+  order-reads.Asked,
+  order-reads.Learnt,
+  order-item-reads.Asked,
+  order-item-reads.Learnt,
+  segment-reads.Asked,
+  segment-reads.Learnt,
   segment-due-reads.Asked,
   segment-due-reads.Learnt,
   write-opener-reads.Asked,
@@ -606,13 +673,15 @@ items-add-written-3 : (t : ℕ) → items-lts.Need-add-written-3 (
   tally-reads.Asked,
   tally-reads.Learnt,
 ) (items-at t) items.Post items-Inv-loop items-μ-loop
-items-add-written-3 t c = let r : c .before .before .before .before .before .before .before .before .before .before .before .before .before .before .before .before .before .before .before .before .before .before .before .before .loop .written + c .before .before .before .before .before .before .before .before .before .before .write-repeats .result .written < cap = segment-written _ _ _ _ _ _ (c .before .before .before .before .before .before .before .before .before .before .before .before .before .before .before .before .before .before .before .before .before .before .before .before .before .order-count .ensures) (c .before .before .before .before .before .before .before .before .before .before .before .before .before .before .before .before .before .before .before .before .before .before .before .before .loop .inv .1) (c .before .before .before .before .before .before .before .before .before .before .before .before .before .before .before .before .before .before .before .before .before .before .item .result) (c .before .before .before .before .before .before .before .before .before .before .before .before .before .before .before .before .before .before .before .before .before .before .before .loop-test .taken) (c .before .before .before .before .before .before .before .before .before .before .before .before .before .before .before .before .before .before .before .before .before .before .item .ensures) _ (c .before .before .before .before .before .before .before .before .before .before .before .before .before .before .before .before .before .before .before .before .it .given .1) (takes-repeat _ (c .before .before .before .before .before .before .before .before .before .before .before .before .before .before .before .before .before .before .segment-due .ensures) _ _ (c .before .before .before .before .before .before .before .before .before .before .before .before .before .before .before .before .due2 .given .1) (c .before .before .before .before .before .before .before .before .before .before .write-repeats .ensures)) (c .before .before .before .before .before .before .before .before .before .before .before .before .before .before .before .before .before .before .before .before .before .before .before .before .before .before .before .before .before .before .before .before .before .pre .1 .1) in omega (arith, r)
+items-add-written-3 t c = let r : c .before .before .before .before .before .before .before .before .before .before .before .before .before .before .before .before .before .before .before .before .before .before .before .before .before .before .loop .written + c .before .before .before .before .before .before .before .before .before .before .write-repeats .result .written < cap = segment-written _ _ _ _ _ _ (c .before .before .before .before .before .before .before .before .before .before .before .before .before .before .before .before .before .before .before .before .before .before .before .before .before .before .before .order .ensures .count) (c .before .before .before .before .before .before .before .before .before .before .before .before .before .before .before .before .before .before .before .before .before .before .before .before .before .before .loop .inv .1) (c .before .before .before .before .before .before .before .before .before .before .before .before .before .before .before .before .before .before .before .before .before .before .before .order-item .result) (c .before .before .before .before .before .before .before .before .before .before .before .before .before .before .before .before .before .before .before .before .before .before .before .before .if1 .taken) (c .before .before .before .before .before .before .before .before .before .before .before .before .before .before .before .before .before .before .before .before .before .before .before .order-item .ensures _ (c .before .before .before .before .before .before .before .before .before .before .before .before .before .before .before .before .before .before .before .before .before .before .before .before .before .before .before .order .ensures) (c .before .before .before .before .before .before .before .before .before .before .before .before .before .before .before .before .before .before .before .before .before .before .before .before .if1 .taken)) _ (c .before .before .before .before .before .before .before .before .before .before .before .before .before .before .before .before .before .before .before .before .before .it .given .1) (takes-repeat _ (c .before .before .before .before .before .before .before .before .before .before .before .before .before .before .before .before .before .before .segment-due .ensures) _ _ (c .before .before .before .before .before .before .before .before .before .before .before .before .before .before .before .before .due2 .given .1) (c .before .before .before .before .before .before .before .before .before .before .write-repeats .ensures)) (c .before .before .before .before .before .before .before .before .before .before .before .before .before .before .before .before .before .before .before .before .before .before .before .before .before .before .before .before .before .before .before .before .before .before .before .pre .1 .1) in omega (arith, r)
 
 items-loop-less-4 : (t : ℕ) → items-lts.Need-loop-less-4 (
-  order-count-reads.Asked,
-  order-count-reads.Learnt,
-  item-reads.Asked,
-  item-reads.Learnt,
+  order-reads.Asked,
+  order-reads.Learnt,
+  order-item-reads.Asked,
+  order-item-reads.Learnt,
+  segment-reads.Asked,
+  segment-reads.Learnt,
   segment-due-reads.Asked,
   segment-due-reads.Learnt,
   write-opener-reads.Asked,
@@ -626,13 +695,15 @@ items-loop-less-4 : (t : ℕ) → items-lts.Need-loop-less-4 (
   tally-reads.Asked,
   tally-reads.Learnt,
 ) (items-at t) items.Post items-Inv-loop items-μ-loop
-items-loop-less-4 t c = omega (arith, c .before .before .before .before .before .before .before .before .before .before .before .before .before .before .before .before .before .before .before .before .before .before .before .loop-test .taken)
+items-loop-less-4 t c = omega (arith, c .before .before .before .before .before .before .before .before .before .before .before .before .before .before .before .before .before .before .before .before .before .before .before .before .if1 .taken)
 
 items-loop-again-4 : (t : ℕ) → items-lts.Need-loop-again-4 (
-  order-count-reads.Asked,
-  order-count-reads.Learnt,
-  item-reads.Asked,
-  item-reads.Learnt,
+  order-reads.Asked,
+  order-reads.Learnt,
+  order-item-reads.Asked,
+  order-item-reads.Learnt,
+  segment-reads.Asked,
+  segment-reads.Learnt,
   segment-due-reads.Asked,
   segment-due-reads.Learnt,
   write-opener-reads.Asked,
@@ -646,13 +717,15 @@ items-loop-again-4 : (t : ℕ) → items-lts.Need-loop-again-4 (
   tally-reads.Asked,
   tally-reads.Learnt,
 ) (items-at t) items.Post items-Inv-loop items-μ-loop
-items-loop-again-4 t c = (omega (arith, c .before .before .before .before .before .before .before .before .before .before .before .before .before .before .before .before .before .before .before .before .before .before .before .loop-test .taken), segment-next _ _ _ _ _ _ (c .before .before .before .before .before .before .before .before .before .before .before .before .before .before .before .before .before .before .before .before .before .before .before .before .before .order-count .ensures) (c .before .before .before .before .before .before .before .before .before .before .before .before .before .before .before .before .before .before .before .before .before .before .before .before .loop .inv .1) (c .before .before .before .before .before .before .before .before .before .before .before .before .before .before .before .before .before .before .before .before .before .before .item .result) (c .before .before .before .before .before .before .before .before .before .before .before .before .before .before .before .before .before .before .before .before .before .before .before .loop-test .taken) (c .before .before .before .before .before .before .before .before .before .before .before .before .before .before .before .before .before .before .before .before .before .before .item .ensures) _ (c .before .before .before .before .before .before .before .before .before .before .before .before .before .before .before .before .before .before .before .before .it .given .1) (takes-repeat _ (c .before .before .before .before .before .before .before .before .before .before .before .before .before .before .before .before .before .before .segment-due .ensures) _ _ (c .before .before .before .before .before .before .before .before .before .before .before .before .before .before .before .before .due2 .given .1) (c .before .before .before .before .before .before .before .before .before .before .write-repeats .ensures)) (record { document = omega (arith, c .before .before .before .before .before .before .before .before .before .before .before .before .before .before .before .before .before .before .before .before .before .before .before .before .before .before .before .before .before .before .before .before .before); segments = omega (arith, c .before .before .before .before .before .before .before .before .before .before .before .before .before .before .before .before .before .before .before .before .before .before .before .before .before .before .before .before .before .before .before .before .before); findings = omega (arith, c .before .before .before .before .before .before .before .before .before .before .before .before .before .before .before .before .before .before .before .before .before .before .before .before .before .before .before .before .before .before .before .before .before); stops = omega (arith, c .before .before .before .before .before .before .before .before .before .before .before .before .before .before .before .before .before .before .before .before .before .before .before .before .before .before .before .before .before .before .before .before .before) }))
+items-loop-again-4 t c = (omega (arith, c .before .before .before .before .before .before .before .before .before .before .before .before .before .before .before .before .before .before .before .before .before .before .before .before .if1 .taken), segment-next _ _ _ _ _ _ (c .before .before .before .before .before .before .before .before .before .before .before .before .before .before .before .before .before .before .before .before .before .before .before .before .before .before .before .order .ensures .count) (c .before .before .before .before .before .before .before .before .before .before .before .before .before .before .before .before .before .before .before .before .before .before .before .before .before .before .loop .inv .1) (c .before .before .before .before .before .before .before .before .before .before .before .before .before .before .before .before .before .before .before .before .before .before .before .order-item .result) (c .before .before .before .before .before .before .before .before .before .before .before .before .before .before .before .before .before .before .before .before .before .before .before .before .if1 .taken) (c .before .before .before .before .before .before .before .before .before .before .before .before .before .before .before .before .before .before .before .before .before .before .before .order-item .ensures _ (c .before .before .before .before .before .before .before .before .before .before .before .before .before .before .before .before .before .before .before .before .before .before .before .before .before .before .before .order .ensures) (c .before .before .before .before .before .before .before .before .before .before .before .before .before .before .before .before .before .before .before .before .before .before .before .before .if1 .taken)) _ (c .before .before .before .before .before .before .before .before .before .before .before .before .before .before .before .before .before .before .before .before .before .it .given .1) (takes-repeat _ (c .before .before .before .before .before .before .before .before .before .before .before .before .before .before .before .before .before .before .segment-due .ensures) _ _ (c .before .before .before .before .before .before .before .before .before .before .before .before .before .before .before .before .due2 .given .1) (c .before .before .before .before .before .before .before .before .before .before .write-repeats .ensures)) (record { document = omega (arith, c .before .before .before .before .before .before .before .before .before .before .before .before .before .before .before .before .before .before .before .before .before .before .before .before .before .before .before .before .before .before .before .before .before .before .before); segments = omega (arith, c .before .before .before .before .before .before .before .before .before .before .before .before .before .before .before .before .before .before .before .before .before .before .before .before .before .before .before .before .before .before .before .before .before .before .before); findings = omega (arith, c .before .before .before .before .before .before .before .before .before .before .before .before .before .before .before .before .before .before .before .before .before .before .before .before .before .before .before .before .before .before .before .before .before .before .before); stops = omega (arith, c .before .before .before .before .before .before .before .before .before .before .before .before .before .before .before .before .before .before .before .before .before .before .before .before .before .before .before .before .before .before .before .before .before .before .before) }))
 
 items-enum-known-it-2 : (t : ℕ) → items-lts.Need-enum-known-it-2 (
-  order-count-reads.Asked,
-  order-count-reads.Learnt,
-  item-reads.Asked,
-  item-reads.Learnt,
+  order-reads.Asked,
+  order-reads.Learnt,
+  order-item-reads.Asked,
+  order-item-reads.Learnt,
+  segment-reads.Asked,
+  segment-reads.Learnt,
   segment-due-reads.Asked,
   segment-due-reads.Learnt,
   write-opener-reads.Asked,
@@ -669,10 +742,12 @@ items-enum-known-it-2 : (t : ℕ) → items-lts.Need-enum-known-it-2 (
 items-enum-known-it-2 t c = search needs
 
 items-visits-requires : (t : ℕ) → items-lts.Need-visits-requires (
-  order-count-reads.Asked,
-  order-count-reads.Learnt,
-  item-reads.Asked,
-  item-reads.Learnt,
+  order-reads.Asked,
+  order-reads.Learnt,
+  order-item-reads.Asked,
+  order-item-reads.Learnt,
+  segment-reads.Asked,
+  segment-reads.Learnt,
   segment-due-reads.Asked,
   segment-due-reads.Learnt,
   write-opener-reads.Asked,
@@ -686,13 +761,15 @@ items-visits-requires : (t : ℕ) → items-lts.Need-visits-requires (
   tally-reads.Asked,
   tally-reads.Learnt,
 ) (items-at t) items.Post items-Inv-loop items-μ-loop
-items-visits-requires t c κs = let w = c .before .before .before .before .before .before .before .before .before .before .before .before .before .before .before .before .before .before .pre .1 .0 in (omega (arith, c .before .before .before .before .before .before .before .before .before .before .before .before .before .before .before .before .before .before), (record { nested = w .nested; small = far-small (c .before .before .before .before .before .before .before .before .before .loop .inv .1 .far); sound = w .sound; loop = loop-small _ _ (c .before .before .before .before .before .it2 .given .1) (item-small _ (w .nested .ready .passed) _ _ _ (c .before .before .before .before .before .before .before .item .ensures) (rw (← c .before .before .before .before .before .before .before .before .before .before .order-count .ensures) (c .before .before .before .before .before .before .before .before .loop-test .taken))) }, loop-within _ _ _ _ _ _ (c .before .before .before .before .before .before .before .before .before .before .order-count .ensures) (c .before .before .before .before .before .before .before .before .before .loop .inv .1) (c .before .before .before .before .before .before .before .item .result) (c .before .before .before .before .before .before .before .before .loop-test .taken) (c .before .before .before .before .before .before .before .item .ensures) _ (c .before .before .before .before .before .it2 .given .1) (c .before .before .before .before .before .before .before .before .before .before .before .before .before .before .before .before .before .before .pre .1 .1)))
+items-visits-requires t c κs = let w = c .before .before .before .before .before .before .before .before .before .before .before .before .before .before .before .before .before .before .before .pre .1 .0 in (omega (arith, c .before .before .before .before .before .before .before .before .before .before .before .before .before .before .before .before .before .before .before), (record { nested = w .nested; small = far-small (c .before .before .before .before .before .before .before .before .before .before .loop .inv .1 .far); sound = w .sound; loop = loop-small _ _ (c .before .before .before .before .before .it2 .given .1) (item-small _ (w .nested .ready .passed) _ _ _ (c .before .before .before .before .before .before .before .order-item .ensures _ (c .before .before .before .before .before .before .before .before .before .before .before .order .ensures) (c .before .before .before .before .before .before .before .before .if1 .taken)) (rw (← c .before .before .before .before .before .before .before .before .before .before .before .order .ensures .count) (c .before .before .before .before .before .before .before .before .if1 .taken))) }, loop-within _ _ _ _ _ _ (c .before .before .before .before .before .before .before .before .before .before .before .order .ensures .count) (c .before .before .before .before .before .before .before .before .before .before .loop .inv .1) (c .before .before .before .before .before .before .before .order-item .result) (c .before .before .before .before .before .before .before .before .if1 .taken) (c .before .before .before .before .before .before .before .order-item .ensures _ (c .before .before .before .before .before .before .before .before .before .before .before .order .ensures) (c .before .before .before .before .before .before .before .before .if1 .taken)) _ (c .before .before .before .before .before .it2 .given .1) (c .before .before .before .before .before .before .before .before .before .before .before .before .before .before .before .before .before .before .before .pre .1 .1)))
 
 items-add-written-4 : (t : ℕ) → items-lts.Need-add-written-4 (
-  order-count-reads.Asked,
-  order-count-reads.Learnt,
-  item-reads.Asked,
-  item-reads.Learnt,
+  order-reads.Asked,
+  order-reads.Learnt,
+  order-item-reads.Asked,
+  order-item-reads.Learnt,
+  segment-reads.Asked,
+  segment-reads.Learnt,
   segment-due-reads.Asked,
   segment-due-reads.Learnt,
   write-opener-reads.Asked,
@@ -706,13 +783,15 @@ items-add-written-4 : (t : ℕ) → items-lts.Need-add-written-4 (
   tally-reads.Asked,
   tally-reads.Learnt,
 ) (items-at t) items.Post items-Inv-loop items-μ-loop
-items-add-written-4 t c = let r : c .before .before .before .before .before .before .before .before .before .before .before .before .before .before .before .before .before .before .before .before .before .loop .written + c .before .before .before .before .before .before .before .before .before .before .before .visits .result .taken .written < cap = loop-written _ _ _ _ _ _ (c .before .before .before .before .before .before .before .before .before .before .before .before .before .before .before .before .before .before .before .before .before .before .order-count .ensures) (c .before .before .before .before .before .before .before .before .before .before .before .before .before .before .before .before .before .before .before .before .before .loop .inv .1) (c .before .before .before .before .before .before .before .before .before .before .before .before .before .before .before .before .before .before .before .item .result) (c .before .before .before .before .before .before .before .before .before .before .before .before .before .before .before .before .before .before .before .before .loop-test .taken) (c .before .before .before .before .before .before .before .before .before .before .before .before .before .before .before .before .before .before .before .item .ensures) _ (c .before .before .before .before .before .before .before .before .before .before .before .before .before .before .before .before .before .it2 .given .1) (c .before .before .before .before .before .before .before .before .before .before .before .visits .ensures) (c .before .before .before .before .before .before .before .before .before .before .before .before .before .before .before .before .before .before .before .before .before .before .before .before .before .before .before .before .before .before .pre .1 .1) in omega (arith, r)
+items-add-written-4 t c = let r : c .before .before .before .before .before .before .before .before .before .before .before .before .before .before .before .before .before .before .before .before .before .before .loop .written + c .before .before .before .before .before .before .before .before .before .before .before .visits .result .taken .written < cap = loop-written _ _ _ _ _ _ (c .before .before .before .before .before .before .before .before .before .before .before .before .before .before .before .before .before .before .before .before .before .before .before .order .ensures .count) (c .before .before .before .before .before .before .before .before .before .before .before .before .before .before .before .before .before .before .before .before .before .before .loop .inv .1) (c .before .before .before .before .before .before .before .before .before .before .before .before .before .before .before .before .before .before .before .order-item .result) (c .before .before .before .before .before .before .before .before .before .before .before .before .before .before .before .before .before .before .before .before .if1 .taken) (c .before .before .before .before .before .before .before .before .before .before .before .before .before .before .before .before .before .before .before .order-item .ensures _ (c .before .before .before .before .before .before .before .before .before .before .before .before .before .before .before .before .before .before .before .before .before .before .before .order .ensures) (c .before .before .before .before .before .before .before .before .before .before .before .before .before .before .before .before .before .before .before .before .if1 .taken)) _ (c .before .before .before .before .before .before .before .before .before .before .before .before .before .before .before .before .before .it2 .given .1) (c .before .before .before .before .before .before .before .before .before .before .before .visits .ensures) (c .before .before .before .before .before .before .before .before .before .before .before .before .before .before .before .before .before .before .before .before .before .before .before .before .before .before .before .before .before .before .before .pre .1 .1) in omega (arith, r)
 
 items-add-n : (t : ℕ) → items-lts.Need-add-n (
-  order-count-reads.Asked,
-  order-count-reads.Learnt,
-  item-reads.Asked,
-  item-reads.Learnt,
+  order-reads.Asked,
+  order-reads.Learnt,
+  order-item-reads.Asked,
+  order-item-reads.Learnt,
+  segment-reads.Asked,
+  segment-reads.Learnt,
   segment-due-reads.Asked,
   segment-due-reads.Learnt,
   write-opener-reads.Asked,
@@ -726,13 +805,15 @@ items-add-n : (t : ℕ) → items-lts.Need-add-n (
   tally-reads.Asked,
   tally-reads.Learnt,
 ) (items-at t) items.Post items-Inv-loop items-μ-loop
-items-add-n t c = let r = loop-count _ _ _ _ _ _ (c .before .before .before .before .before .before .before .before .before .before .before .before .before .before .before .before .before .before .before .before .before .before .before .order-count .ensures) (c .before .before .before .before .before .before .before .before .before .before .before .before .before .before .before .before .before .before .before .before .before .before .loop .inv .1) (c .before .before .before .before .before .before .before .before .before .before .before .before .before .before .before .before .before .before .before .before .item .result) (c .before .before .before .before .before .before .before .before .before .before .before .before .before .before .before .before .before .before .before .before .before .loop-test .taken) (c .before .before .before .before .before .before .before .before .before .before .before .before .before .before .before .before .before .before .before .before .item .ensures) _ (c .before .before .before .before .before .before .before .before .before .before .before .before .before .before .before .before .before .before .it2 .given .1) (c .before .before .before .before .before .before .before .before .before .before .before .before .visits .ensures) in omega (arith, r, few-children (c .before .before .before .before .before .before .before .before .before .before .before .before .before .before .before .before .before .before .before .before .before .before .before .before .before .before .before .before .before .before .before .pre .1 .0 .nested) (c .before .before .before .before .before .before .before .before .before .before .before .before .before .before .before .before .before .before .before .before .before .before .before .before .before .before .before .before .before .before .before .args .height) (c .before .before .before .before .before .before .before .before .before .before .before .before .before .before .before .before .before .before .before .before .before .before .before .before .before .before .before .before .before .before .before .args .l .0) (contextBy (c .before .before .before .before .before .before .before .before .before .before .before .before .before .before .before .before .before .before .before .before .before .before .before .before .before .before .before .before .before .before .before .args .c)), c .before .before .before .before .before .before .before .before .before .before .before .before .before .before .before .before .before .before .before .before .before .before .before .order-count)
+items-add-n t c = let r = loop-count _ _ _ _ _ _ (c .before .before .before .before .before .before .before .before .before .before .before .before .before .before .before .before .before .before .before .before .before .before .before .before .order .ensures .count) (c .before .before .before .before .before .before .before .before .before .before .before .before .before .before .before .before .before .before .before .before .before .before .before .loop .inv .1) (c .before .before .before .before .before .before .before .before .before .before .before .before .before .before .before .before .before .before .before .before .order-item .result) (c .before .before .before .before .before .before .before .before .before .before .before .before .before .before .before .before .before .before .before .before .before .if1 .taken) (c .before .before .before .before .before .before .before .before .before .before .before .before .before .before .before .before .before .before .before .before .order-item .ensures _ (c .before .before .before .before .before .before .before .before .before .before .before .before .before .before .before .before .before .before .before .before .before .before .before .before .order .ensures) (c .before .before .before .before .before .before .before .before .before .before .before .before .before .before .before .before .before .before .before .before .before .if1 .taken)) _ (c .before .before .before .before .before .before .before .before .before .before .before .before .before .before .before .before .before .before .it2 .given .1) (c .before .before .before .before .before .before .before .before .before .before .before .before .visits .ensures) in omega (arith, r, few-children (c .before .before .before .before .before .before .before .before .before .before .before .before .before .before .before .before .before .before .before .before .before .before .before .before .before .before .before .before .before .before .before .before .pre .1 .0 .nested) (c .before .before .before .before .before .before .before .before .before .before .before .before .before .before .before .before .before .before .before .before .before .before .before .before .before .before .before .before .before .before .before .before .args .height) (c .before .before .before .before .before .before .before .before .before .before .before .before .before .before .before .before .before .before .before .before .before .before .before .before .before .before .before .before .before .before .before .before .args .l .0) (contextBy (c .before .before .before .before .before .before .before .before .before .before .before .before .before .before .before .before .before .before .before .before .before .before .before .before .before .before .before .before .before .before .before .before .args .c)), c .before .before .before .before .before .before .before .before .before .before .before .before .before .before .before .before .before .before .before .before .before .before .before .before .order .ensures .count, c .before .before .before .before .before .before .before .before .before .before .before .before .before .before .before .before .before .before .before .before .before .before)
 
 items-loop-less-5 : (t : ℕ) → items-lts.Need-loop-less-5 (
-  order-count-reads.Asked,
-  order-count-reads.Learnt,
-  item-reads.Asked,
-  item-reads.Learnt,
+  order-reads.Asked,
+  order-reads.Learnt,
+  order-item-reads.Asked,
+  order-item-reads.Learnt,
+  segment-reads.Asked,
+  segment-reads.Learnt,
   segment-due-reads.Asked,
   segment-due-reads.Learnt,
   write-opener-reads.Asked,
@@ -746,13 +827,15 @@ items-loop-less-5 : (t : ℕ) → items-lts.Need-loop-less-5 (
   tally-reads.Asked,
   tally-reads.Learnt,
 ) (items-at t) items.Post items-Inv-loop items-μ-loop
-items-loop-less-5 t c = omega (arith, c .before .before .before .before .before .before .before .before .before .before .before .before .before .before .before .before .before .before .before .before .before .loop-test .taken)
+items-loop-less-5 t c = omega (arith, c .before .before .before .before .before .before .before .before .before .before .before .before .before .before .before .before .before .before .before .before .before .if1 .taken)
 
 items-loop-again-5 : (t : ℕ) → items-lts.Need-loop-again-5 (
-  order-count-reads.Asked,
-  order-count-reads.Learnt,
-  item-reads.Asked,
-  item-reads.Learnt,
+  order-reads.Asked,
+  order-reads.Learnt,
+  order-item-reads.Asked,
+  order-item-reads.Learnt,
+  segment-reads.Asked,
+  segment-reads.Learnt,
   segment-due-reads.Asked,
   segment-due-reads.Learnt,
   write-opener-reads.Asked,
@@ -766,13 +849,15 @@ items-loop-again-5 : (t : ℕ) → items-lts.Need-loop-again-5 (
   tally-reads.Asked,
   tally-reads.Learnt,
 ) (items-at t) items.Post items-Inv-loop items-μ-loop
-items-loop-again-5 t c = (omega (arith, c .before .before .before .before .before .before .before .before .before .before .before .before .before .before .before .before .before .before .before .before .before .loop-test .taken), loop-next _ _ _ _ _ _ (c .before .before .before .before .before .before .before .before .before .before .before .before .before .before .before .before .before .before .before .before .before .before .before .order-count .ensures) (c .before .before .before .before .before .before .before .before .before .before .before .before .before .before .before .before .before .before .before .before .before .before .loop .inv .1) (c .before .before .before .before .before .before .before .before .before .before .before .before .before .before .before .before .before .before .before .before .item .result) (c .before .before .before .before .before .before .before .before .before .before .before .before .before .before .before .before .before .before .before .before .before .loop-test .taken) (c .before .before .before .before .before .before .before .before .before .before .before .before .before .before .before .before .before .before .before .before .item .ensures) _ (c .before .before .before .before .before .before .before .before .before .before .before .before .before .before .before .before .before .before .it2 .given .1) (c .before .before .before .before .before .before .before .before .before .before .before .before .visits .ensures) (record { document = omega (arith, c .before .before .before .before .before .before .before .before .before .before .before .before .before .before .before .before .before .before .before .before .before .before .before .before .before .before .before .before .before .before .before); segments = omega (arith, c .before .before .before .before .before .before .before .before .before .before .before .before .before .before .before .before .before .before .before .before .before .before .before .before .before .before .before .before .before .before .before); findings = omega (arith, c .before .before .before .before .before .before .before .before .before .before .before .before .before .before .before .before .before .before .before .before .before .before .before .before .before .before .before .before .before .before .before); stops = omega (arith, c .before .before .before .before .before .before .before .before .before .before .before .before .before .before .before .before .before .before .before .before .before .before .before .before .before .before .before .before .before .before .before) }))
+items-loop-again-5 t c = (omega (arith, c .before .before .before .before .before .before .before .before .before .before .before .before .before .before .before .before .before .before .before .before .before .if1 .taken), loop-next _ _ _ _ _ _ (c .before .before .before .before .before .before .before .before .before .before .before .before .before .before .before .before .before .before .before .before .before .before .before .before .order .ensures .count) (c .before .before .before .before .before .before .before .before .before .before .before .before .before .before .before .before .before .before .before .before .before .before .before .loop .inv .1) (c .before .before .before .before .before .before .before .before .before .before .before .before .before .before .before .before .before .before .before .before .order-item .result) (c .before .before .before .before .before .before .before .before .before .before .before .before .before .before .before .before .before .before .before .before .before .if1 .taken) (c .before .before .before .before .before .before .before .before .before .before .before .before .before .before .before .before .before .before .before .before .order-item .ensures _ (c .before .before .before .before .before .before .before .before .before .before .before .before .before .before .before .before .before .before .before .before .before .before .before .before .order .ensures) (c .before .before .before .before .before .before .before .before .before .before .before .before .before .before .before .before .before .before .before .before .before .if1 .taken)) _ (c .before .before .before .before .before .before .before .before .before .before .before .before .before .before .before .before .before .before .it2 .given .1) (c .before .before .before .before .before .before .before .before .before .before .before .before .visits .ensures) (record { document = omega (arith, c .before .before .before .before .before .before .before .before .before .before .before .before .before .before .before .before .before .before .before .before .before .before .before .before .before .before .before .before .before .before .before .before); segments = omega (arith, c .before .before .before .before .before .before .before .before .before .before .before .before .before .before .before .before .before .before .before .before .before .before .before .before .before .before .before .before .before .before .before .before); findings = omega (arith, c .before .before .before .before .before .before .before .before .before .before .before .before .before .before .before .before .before .before .before .before .before .before .before .before .before .before .before .before .before .before .before .before); stops = omega (arith, c .before .before .before .before .before .before .before .before .before .before .before .before .before .before .before .before .before .before .before .before .before .before .before .before .before .before .before .before .before .before .before .before) }))
 
 items-tally-requires : (t : ℕ) → items-lts.Need-tally-requires (
-  order-count-reads.Asked,
-  order-count-reads.Learnt,
-  item-reads.Asked,
-  item-reads.Learnt,
+  order-reads.Asked,
+  order-reads.Learnt,
+  order-item-reads.Asked,
+  order-item-reads.Learnt,
+  segment-reads.Asked,
+  segment-reads.Learnt,
   segment-due-reads.Asked,
   segment-due-reads.Learnt,
   write-opener-reads.Asked,
@@ -789,10 +874,12 @@ items-tally-requires : (t : ℕ) → items-lts.Need-tally-requires (
 items-tally-requires t c κs = search needs
 
 items-same-length : (t : ℕ) → items-lts.Need-same-length (
-  order-count-reads.Asked,
-  order-count-reads.Learnt,
-  item-reads.Asked,
-  item-reads.Learnt,
+  order-reads.Asked,
+  order-reads.Learnt,
+  order-item-reads.Asked,
+  order-item-reads.Learnt,
+  segment-reads.Asked,
+  segment-reads.Learnt,
   segment-due-reads.Asked,
   segment-due-reads.Learnt,
   write-opener-reads.Asked,
@@ -806,13 +893,15 @@ items-same-length : (t : ℕ) → items-lts.Need-same-length (
   tally-reads.Asked,
   tally-reads.Learnt,
 ) (items-at t) items.Post items-Inv-loop items-μ-loop
-items-same-length t c = same-document (c .before .before .loop .inv .1 .far .did)
+items-same-length t c = same-document (c .before .before .before .loop .inv .1 .far .did)
 
 items-same-length-2 : (t : ℕ) → items-lts.Need-same-length-2 (
-  order-count-reads.Asked,
-  order-count-reads.Learnt,
-  item-reads.Asked,
-  item-reads.Learnt,
+  order-reads.Asked,
+  order-reads.Learnt,
+  order-item-reads.Asked,
+  order-item-reads.Learnt,
+  segment-reads.Asked,
+  segment-reads.Learnt,
   segment-due-reads.Asked,
   segment-due-reads.Learnt,
   write-opener-reads.Asked,
@@ -826,13 +915,15 @@ items-same-length-2 : (t : ℕ) → items-lts.Need-same-length-2 (
   tally-reads.Asked,
   tally-reads.Learnt,
 ) (items-at t) items.Post items-Inv-loop items-μ-loop
-items-same-length-2 t c = same-segments (c .before .before .loop .inv .1 .far .did)
+items-same-length-2 t c = same-segments (c .before .before .before .loop .inv .1 .far .did)
 
 items-same-length-3 : (t : ℕ) → items-lts.Need-same-length-3 (
-  order-count-reads.Asked,
-  order-count-reads.Learnt,
-  item-reads.Asked,
-  item-reads.Learnt,
+  order-reads.Asked,
+  order-reads.Learnt,
+  order-item-reads.Asked,
+  order-item-reads.Learnt,
+  segment-reads.Asked,
+  segment-reads.Learnt,
   segment-due-reads.Asked,
   segment-due-reads.Learnt,
   write-opener-reads.Asked,
@@ -846,13 +937,15 @@ items-same-length-3 : (t : ℕ) → items-lts.Need-same-length-3 (
   tally-reads.Asked,
   tally-reads.Learnt,
 ) (items-at t) items.Post items-Inv-loop items-μ-loop
-items-same-length-3 t c = same-findings (c .before .before .loop .inv .1 .far .did)
+items-same-length-3 t c = same-findings (c .before .before .before .loop .inv .1 .far .did)
 
 items-same-length-4 : (t : ℕ) → items-lts.Need-same-length-4 (
-  order-count-reads.Asked,
-  order-count-reads.Learnt,
-  item-reads.Asked,
-  item-reads.Learnt,
+  order-reads.Asked,
+  order-reads.Learnt,
+  order-item-reads.Asked,
+  order-item-reads.Learnt,
+  segment-reads.Asked,
+  segment-reads.Learnt,
   segment-due-reads.Asked,
   segment-due-reads.Learnt,
   write-opener-reads.Asked,
@@ -866,13 +959,15 @@ items-same-length-4 : (t : ℕ) → items-lts.Need-same-length-4 (
   tally-reads.Asked,
   tally-reads.Learnt,
 ) (items-at t) items.Post items-Inv-loop items-μ-loop
-items-same-length-4 t c = same-stops (c .before .before .loop .inv .1 .far .did)
+items-same-length-4 t c = same-stops (c .before .before .before .loop .inv .1 .far .did)
 
 items-returns : (t : ℕ) → items-lts.Need-returns (
-  order-count-reads.Asked,
-  order-count-reads.Learnt,
-  item-reads.Asked,
-  item-reads.Learnt,
+  order-reads.Asked,
+  order-reads.Learnt,
+  order-item-reads.Asked,
+  order-item-reads.Learnt,
+  segment-reads.Asked,
+  segment-reads.Learnt,
   segment-due-reads.Asked,
   segment-due-reads.Learnt,
   write-opener-reads.Asked,
@@ -886,7 +981,7 @@ items-returns : (t : ℕ) → items-lts.Need-returns (
   tally-reads.Asked,
   tally-reads.Learnt,
 ) (items-at t) items.Post items-Inv-loop items-μ-loop
-items-returns t c = went-as (c .tally .ensures) (items-end _ _ _ _ _ _ (c .before .before .before .order-count .ensures) (c .before .before .loop .inv .1) (c .before .loop-test .left))
+items-returns t c = went-as (c .tally .ensures) (items-end _ _ _ _ _ _ (c .before .before .before .before .order .ensures .count) (c .before .before .before .loop .inv .1) (c .before .if1 .left))
 
 abbrev visits-Inv-loop : visits-lts.InvT-loop
 visits-Inv-loop job index nest doc₀ segments₀ findings₀ stops₀ l height cur₀ t₀ written₀ n₀ doc segments findings stops cur t written n =
@@ -1184,10 +1279,12 @@ pub +instance+items+visits-spec : {M : Type 1} → statement M
     (instance-same-length-4 t)
     (instance-returns t))
     (λ t. items-lts.spec (
-      order-count-reads.Asked,
-      order-count-reads.Learnt,
-      item-reads.Asked,
-      item-reads.Learnt,
+      order-reads.Asked,
+      order-reads.Learnt,
+      order-item-reads.Asked,
+      order-item-reads.Learnt,
+      segment-reads.Asked,
+      segment-reads.Learnt,
       segment-due-reads.Asked,
       segment-due-reads.Learnt,
       write-opener-reads.Asked,
@@ -1205,11 +1302,12 @@ pub +instance+items+visits-spec : {M : Type 1} → statement M
     items.Post
     items-Inv-loop
     items-μ-loop
-    (items-order-count-requires t)
+    (items-order-requires t)
     (items-loop-holds t)
-    (items-item-requires t)
+    (items-order-item-requires t)
     (items-add-k t)
     (items-enum-known-it t)
+    (items-segment-requires t)
     (items-segment-due-requires t)
     (items-enum-told t)
     (items-loop-less t)

@@ -5,17 +5,14 @@ use borrow.Author.Needs.{needs}
 use Rattle.row_segment.proofs.parts.line_of.Statement.{statement}
 use Rattle.row_segment.proofs.parts.line_of.Tie as tie
 
-segment-requires : tie.Need-segment-requires
-segment-requires c κs = search needs
-
 occurrence-requires : tie.Need-occurrence-requires
 occurrence-requires c κs = search needs
 
 returns : tie.Need-returns
 returns c =
-    let p = c .before .segment .ensures .segment in
-    (lined _ _ _ (c .before .before .before .before .pre .0) (c .before .before .before .before .pre .1) (p .count) (p .first) (p .occurrence) (c .occurrence .ensures), refl, refl, refl, refl)
+    let p = c .before .before .before .pre .2 .segment in
+    (lined _ _ _ (c .before .before .before .pre .0) (c .before .before .before .pre .1) (p .count) (p .first) (p .occurrence) (c .occurrence .ensures), refl, refl, refl, refl)
 
 pub line-of-spec : {M : Type 1} → statement M
 line-of-spec =
-    tie.close (tie.spec segment-requires occurrence-requires returns)
+    tie.close (tie.spec occurrence-requires returns)

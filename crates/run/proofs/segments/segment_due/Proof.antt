@@ -6,9 +6,6 @@ use borrow.Author.Needs.{needs}
 use Rattle.run.proofs.segments.segment_due.Statement.{statement}
 use Rattle.run.proofs.segments.segment_due.Tie as tie
 
-segment-requires : tie.Need-segment-requires
-segment-requires c κs = search needs
-
 enum-told : tie.Need-enum-told
 enum-told c = search needs
 
@@ -17,7 +14,7 @@ opener-due-requires c κs = search needs
 
 returns : tie.Need-returns
 returns c =
-    let p = c .before .before .before .before .segment .ensures in
+    let p = c .before .before .before .before .before .before .pre .3 in
     gives-source _ _ _ _ _ refl _ _ (ltb-true _ _ (sym (p .there) ∙ c .before .before .before .if1 .taken)) (p .segment .source) (c .before .enum-told .given .1) _ (c .opener-due .ensures _)
 
 enum-known-source : tie.Need-enum-known-source
@@ -28,7 +25,7 @@ row-due-requires c κs = search needs
 
 returns-2 : tie.Need-returns-2
 returns-2 c =
-    let p = c .before .before .before .before .before .segment .ensures in
+    let p = c .before .before .before .before .before .before .before .pre .3 in
     gives-source _ _ _ _ _ refl _ _ (ltb-true _ _ (sym (p .there) ∙ c .before .before .before .before .if1 .taken)) (p .segment .source) (c .before .before .source .given .1) _ (c .row-due .ensures)
 
 enum-known-source-2 : tie.Need-enum-known-source-2
@@ -39,17 +36,16 @@ repeat-due-requires c κs = search needs
 
 returns-3 : tie.Need-returns-3
 returns-3 c =
-    let p = c .before .before .before .before .before .segment .ensures in
+    let p = c .before .before .before .before .before .before .before .pre .3 in
     gives-source _ _ _ _ _ refl _ _ (ltb-true _ _ (sym (p .there) ∙ c .before .before .before .before .if1 .taken)) (p .segment .source) (c .before .before .source2 .given .1) _ (c .repeat-due .ensures)
 
 returns-4 : tie.Need-returns-4
-returns-4 c = unplanned _ _ _ _ _ refl (ltb-false _ _ (sym (c .before .segment .ensures .there) ∙ c .if1 .left))
+returns-4 c = unplanned _ _ _ _ _ refl (ltb-false _ _ (sym (c .before .before .before .pre .3 .there) ∙ c .if1 .left))
 
 pub segment-due-spec : {M : Type 1} → statement M
 segment-due-spec =
     tie.close
     (tie.spec
-    segment-requires
     enum-told
     opener-due-requires
     returns
