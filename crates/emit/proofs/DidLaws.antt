@@ -1,17 +1,20 @@
 -- What code did, one after the other.
-use Prim.Native.Nat.{ℕ, _+_, _≤_, min}
+use Prim.Native.Nat.{ℕ, _+_, _≤_, _<_, min}
 use mathlib.Core.Path.{_≡_, refl, sym, ap, _∙_}
 use mathlib.Core.List.{List, [], _∷_, _++_, append-assoc}
 use native.Mathlib.Omega.{arith}
-use lib.ListN.{length}
+use lib.ListN.{length, getD, set}
+use lib.Seq.{set-getD}
 use Rattle.lent.specs.Fit.{cap, more, Stored}
 use Rattle.lent.proofs.Laws.{stored-append, stored-length, stored-small}
 use Rattle.walk.specs.Tour.{Stop}
+use Rattle.emit.specs.declared.state.Mark.{Mark}
+use Rattle.emit.specs.declared.state.Counts.{Counts}
 use Rattle.emit.specs.declared.state.State.{State}
 use Rattle.emit.specs.Fold as F
 use Rattle.emit.specs.Fold.{quiet, andThen}
 use Rattle.emit.specs.Written.{wordsOf}
-use Rattle.emit.specs.Did.{stateOf, tracedWord, tracedWords, stopWord, stopWords, Did, Fit, Small}
+use Rattle.emit.specs.Did.{stateOf, stateWith, noMark, tracedWord, tracedWords, stopWord, stopWords, Did, DidMark, DidNumber, Fit, Small}
 use Rattle.emit.proofs.FindingLaws.{stored-findings, none-stored}
 
 traced-append : (a b : List F.Traced) → tracedWords (a ++ b) ≡ tracedWords a ++ tracedWords b
@@ -73,3 +76,13 @@ did-small {o} x = record {
   findings = stored-small (wordsOf (o .findings)) (x .findings);
   stops = stored-small (stopWords (o .stops)) (x .stops);
 }
+
+-- ---- what code did that was given a part of the state
+
+pub did-mark : {n : Mark} {c : Counts} {d d₁ g g₁ f f₁ p p₁ : List ℕ} (o : F.State → F.Out) (s : State) (t : ℕ) (m : Mark) → m ≡ getD (s .high) t noMark → t < length (s .high)
+    → DidMark t o m n (s .counts) c d d₁ g g₁ f f₁ p p₁ → Did (o (stateOf s)) s (stateWith (set (s .high) t n) (s .counter) c) d d₁ g g₁ f f₁ p p₁
+did-mark o s t m e h x = rw (e, set-getD (s .high) t noMark) at (x (s .high) (s .counter) h)
+
+pub did-number : {b : ℕ} {c : Counts} {d d₁ g g₁ f f₁ p p₁ : List ℕ} (o : F.State → F.Out) (s : State) (l a : ℕ) → a ≡ getD (s .counter) l 0 → l < length (s .counter)
+    → DidNumber l o a b (s .counts) c d d₁ g g₁ f f₁ p p₁ → Did (o (stateOf s)) s (stateWith (s .high) (set (s .counter) l b) c) d d₁ g g₁ f f₁ p p₁
+did-number o s l a e h x = rw (e, set-getD (s .counter) l 0) at (x (s .high) (s .counter) h)

@@ -6,14 +6,12 @@ use mathlib.Core.List.{List, [], _∷_, map, append-nil}
 use mathlib.Core.Option.{Option, none, some}
 use native.Mathlib.Omega.{arith}
 use native.Mathlib.Nat.{max-eq-left, max-eq-right}
-use lib.ListN.{getD, set}
+use lib.ListN.{length, getD, set}
+use lib.Seq.{getD-set-same, set-set}
 use Rattle.emit.specs.declared.state.Mark.{Mark}
-use Rattle.emit.specs.declared.state.State.{State}
+use Rattle.emit.specs.declared.state.Counts.{Counts}
 use Rattle.emit.specs.Fold as F
-use Rattle.emit.specs.Did.{markOf, stateOf, stateWith, tracedWord, tracedWords}
-
-abbrev pub noMark : Mark
-noMark = record { seen = false; row = 0 }
+use Rattle.emit.specs.Did.{markOf, noMark, stateOf, stateWith, tracedWord, tracedWords}
 
 -- ---- the marks
 
@@ -26,6 +24,13 @@ pub mark-put : (l : List Mark) (t : ℕ) (m : Mark) → map markOf (set l t m) �
 mark-put [] t m = refl
 mark-put (x ∷ l) zero m = refl
 mark-put (x ∷ l) (suc t) m = ap (λ (r : List (Option ℕ)). markOf x ∷ r) (mark-put l t m)
+
+-- the mark that was put, and one put over it
+pub mark-in : (l : List Mark) (t : ℕ) (m : Mark) → t < length l → getD (map markOf (set l t m)) t none ≡ markOf m
+mark-in l t m h = sym (mark-at (set l t m) t) ∙ ap markOf (getD-set-same l t m noMark h)
+
+pub mark-over : (l : List Mark) (t : ℕ) (m n : Mark) → map markOf (set l t n) ≡ set (map markOf (set l t m)) t (markOf n)
+mark-over l t m n = ap (map markOf) (sym (set-set l t m n)) ∙ mark-put (set l t m) t n
 
 -- ---- the highest row
 
@@ -40,13 +45,14 @@ raise-first m r e = rw e
 
 -- ---- control numbers
 
-pub counter-at : (s : State) (l : ℕ) → getD (s .counter) l 0 ≡ getD ((stateOf s) .counter) l 0
-unfolding stateOf
-counter-at s l = refl
+module _ (high : List Mark) (counter : List ℕ) (l k : ℕ) (s : Counts) (h : l < length counter) where
+  pub number-in : getD ((stateOf (stateWith high (set counter l k) s)) .counter) l 0 ≡ k
+  unfolding stateOf
+  number-in = getD-set-same counter l k 0 h
 
-pub count-in : (s : State) (l k : ℕ) → k ≡ F.next (getD (s .counter) l 0) → stateOf (stateWith (s .high) (set (s .counter) l k) (s .counts)) ≡ F.counterUp l (stateOf s)
-unfolding stateOf
-count-in s l k e = rw e
+  pub number-up : (n : ℕ) → n ≡ F.next k → stateOf (stateWith high (set counter l n) s) ≡ F.counterUp l (stateOf (stateWith high (set counter l k) s))
+  unfolding stateOf
+  number-up n e = rw (getD-set-same counter l k 0 h, e, set-set counter l k (F.next k)) refl
 
 -- ---- a segment is finished
 

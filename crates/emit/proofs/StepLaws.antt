@@ -4,7 +4,6 @@ use mathlib.Core.Path.{_≡_, refl, sym, _∙_}
 use mathlib.Core.List.{List, [], _∷_}
 use mathlib.Core.Option.{none}
 use native.Mathlib.Omega.{arith}
-use lib.ListN.{getD, set}
 use Rattle.format.specs.Spec.{Control}
 use Rattle.format.specs.Job.{Job}
 use Rattle.lent.specs.Fit.{cap, more, Stored, Noted}
@@ -14,15 +13,14 @@ use Rattle.nest.specs.Finding.{Finding}
 use Rattle.nest.specs.Outline.{Outline}
 use Rattle.emit.specs.declared.state.Counts.{Counts}
 use Rattle.emit.specs.declared.state.Mark.{Mark}
-use Rattle.emit.specs.declared.state.State.{State}
 use Rattle.emit.specs.declared.state.From.{From}
 use Rattle.emit.specs.declared.state.From.the-variants.{Envelope}
 use Rattle.emit.specs.Written.{wordsOf}
 use Rattle.emit.specs.Envelope.{closerPut}
 use Rattle.emit.specs.Fold.{separatorsOf, segmentOut, orderFindings, higher, stopOut}
-use Rattle.emit.specs.Did.{markOf, stateOf, stateWith, stopWords, tracedWords, rowIn, Did, DidCounts, Within, Small, Finished}
+use Rattle.emit.specs.Did.{markOf, stateOf, stateWith, stopWords, tracedWords, rowIn, DidCounts, DidMark, Within, Finished}
 use Rattle.emit.proofs.FindingLaws.{none-stored}
-use Rattle.emit.proofs.StateLaws.{noMark, mark-at, mark-put}
+use Rattle.emit.proofs.StateLaws.{mark-in, mark-over}
 use Rattle.emit.proofs.JoinLaws.{closer-quiet}
 
 unmoved : {m n : ℕ} {d : List ℕ} → m ≤ cap → n ≡ m → Stored d m [] n d
@@ -42,16 +40,15 @@ did-segment j id parts fs entries from h x y z high counter = record {
 }
 
 -- the findings on a row's order, its stop, and the highest row then
-pub did-stop : {d g f f′ p p′ : List ℕ} (s : State) (o : Outline) (l t r k a : ℕ) (m : Mark) → Small s
-    → Noted f (s .counts .findings) (wordsOf (orderFindings o t r (markOf (getD (s .high) t noMark)))) k f′ → Stored p (s .counts .stops) (l ∷ t ∷ r ∷ []) a p′
-    → markOf m ≡ higher (markOf (getD (s .high) t noMark)) r
-    → Did (stopOut o l t r (stateOf s)) s (stateWith (set (s .high) t m) (s .counter) (record { entries = s .counts .entries; begun = s .counts .begun; bytes = s .counts .bytes; segments = s .counts .segments; findings = k; stops = a })) d d g g f f′ p p′
+pub did-stop : {d g f f′ p p′ : List ℕ} (o : Outline) (l t r k a : ℕ) (m n : Mark) (s : Counts) → Within s
+    → Noted f (s .findings) (wordsOf (orderFindings o t r (markOf m))) k f′ → Stored p (s .stops) (l ∷ t ∷ r ∷ []) a p′ → markOf n ≡ higher (markOf m) r
+    → DidMark t (stopOut o l t r) m n s (record { entries = s .entries; begun = s .begun; bytes = s .bytes; segments = s .segments; findings = k; stops = a }) d d g g f f′ p p′
 unfolding stateOf stopOut tracedWords stopWords
-did-stop s o l t r k a m h y z e = record {
-  state = rw (mark-put (s .high) t m, e, mark-at (s .high) t) refl;
+did-stop o l t r k a m n s h y z e high counter b = record {
+  state = rw (mark-over high t m n, e, mark-in high t m b) refl;
   document = unmoved (h .bytes) refl;
   segments = unmoved (h .segments) refl;
-  findings = rw (← mark-at (s .high) t) y;
+  findings = rw (mark-in high t m b) y;
   stops = z;
 }
 

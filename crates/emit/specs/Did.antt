@@ -1,9 +1,10 @@
 -- What code did that writes an `Out`: the state that it returns, and the four lent lists.
-use Prim.Native.Nat.{ℕ, suc, _≤_}
+use Prim.Native.Nat.{ℕ, suc, _≤_, _<_}
 use mathlib.Core.Path.{_≡_}
+use mathlib.Core.Bool.{false}
 use mathlib.Core.List.{List, [], _∷_, map}
 use mathlib.Core.Option.{Option, none, some}
-use lib.ListN.{length}
+use lib.ListN.{length, set}
 use Rattle.lent.specs.Fit.{cap, wide, more, Stored, Noted}
 use Rattle.segment.specs.Parts.{pick}
 use Rattle.nest.specs.Lists.{each}
@@ -25,6 +26,9 @@ markOf m = pick (m .seen) (some (m .row)) none
 
 unfoldable pub stateOf : State → F.State
 stateOf s = record { high = map markOf (s .high); counter = s .counter; entries = s .counts .entries; begun = s .counts .begun }
+
+abbrev pub noMark : Mark
+noMark = record { seen = false; row = 0 }
 
 abbrev pub stateWith : List Mark → List ℕ → Counts → State
 stateWith h c s = record { high = h; counter = c; counts = s }
@@ -63,6 +67,15 @@ pub record Did (o : F.Out) (s r : State) (d d′ g g′ f f′ p p′ : List ℕ
 abbrev pub DidCounts : (F.State → F.Out) → (s r : Counts) (d d′ g g′ f f′ p p′ : List ℕ) → Type 0
 DidCounts o s r d d′ g g′ f f′ p p′ = (high : List Mark) (counter : List ℕ) → Did (o (stateOf (stateWith high counter s))) (stateWith high counter s) (stateWith high counter r) d d′ g g′ f f′ p p′
 
+-- the same of code that moves the highest row of table t from m to n too, and of code that moves the next number of loop l from a to b
+abbrev pub DidMark : ℕ → (F.State → F.Out) → (m n : Mark) (s r : Counts) (d d′ g g′ f f′ p p′ : List ℕ) → Type 0
+DidMark t o m n s r d d′ g g′ f f′ p p′ = (high : List Mark) (counter : List ℕ) → t < length high
+    → Did (o (stateOf (stateWith (set high t m) counter s))) (stateWith (set high t m) counter s) (stateWith (set high t n) counter r) d d′ g g′ f f′ p p′
+
+abbrev pub DidNumber : ℕ → (F.State → F.Out) → (a b : ℕ) (s r : Counts) (d d′ g g′ f f′ p p′ : List ℕ) → Type 0
+DidNumber l o a b s r d d′ g g′ f f′ p p′ = (high : List Mark) (counter : List ℕ) → l < length counter
+    → Did (o (stateOf (stateWith high (set counter l a) s))) (stateWith high (set counter l a) s) (stateWith high (set counter l b) r) d d′ g g′ f f′ p p′
+
 -- the lists are no longer than the cap, as no slice is
 pub record Fit (d g f p : List ℕ) : Type 0 where
   pub document : length d ≤ cap
@@ -81,11 +94,6 @@ abbrev pub Small : State → Type 0
 Small s = Within (s .counts)
 
 -- ---- what moves the state on
-
--- the state is that, and the counts are as they were
-pub record Moved (f : F.State) (s r : State) : Type 0 where
-  pub state : stateOf r ≡ f
-  pub counts : r .counts ≡ s .counts
 
 abbrev pub rowIn : From → Option (ℕ × ℕ)
 rowIn Envelope = none

@@ -133,8 +133,11 @@ openerOut j l s = on ((loopOf j l) .control) (λ c.
     segmentOut j ((loopOf j l) .trigger) (p .parts) (p .findings) (p .entries) none (counterUp l s)) (quiet s)
 
 -- the number that the last opener took
+abbrev pub previous : ℕ → ℕ
+previous n = (n + (2 ^ 64 - 1)) % 2 ^ 64
+
 abbrev pub taken : ℕ → State → ℕ
-taken l s = (getD (s .counter) l 0 + (2 ^ 64 - 1)) % 2 ^ 64
+taken l s = previous (getD (s .counter) l 0)
 
 abbrev pub countOf : Counted → ℕ → ℕ → ℕ
 countOf countSegments children segments = segments

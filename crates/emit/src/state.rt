@@ -1,16 +1,14 @@
 // What the walk knows of the steps before, and how a step moves it on.
-use spec::ids::LoopId;
 use spec::ids::RowId;
 use spec::ids::TableId;
 ghost use mathlib.Core.Path.{_≡_};
 ghost use mathlib.Core.List.{[], _∷_};
-ghost use Prim.Native.Nat.{_+_, _%_, _^_, _<_};
-ghost use lib.ListN.{getD, take};
+ghost use lib.ListN.{take};
 ghost use Rattle.lent.specs.Fit.{more, Noted};
 ghost use Rattle.nest.specs.Finding.{outOfOrder};
-ghost use Rattle.emit.specs.Fold.{higher, counterUp, taken};
+ghost use Rattle.emit.specs.Fold.{higher, next, previous};
 ghost use Rattle.emit.specs.Written.{wordsOf};
-ghost use Rattle.emit.specs.Did.{markOf, stateOf, rowIn, tracedWord, Moved, Finished};
+ghost use Rattle.emit.specs.Did.{markOf, rowIn, tracedWord, Finished};
 
 // A table's highest row entered, if one was.
 pub struct Mark {
@@ -139,17 +137,9 @@ pub fn finish_segment(
 
 // ---- control numbers
 
-// A loop's next number.
-pub fn number_of(s: State, l: LoopId) -> u64
-    requires { ⌜ l .0 < 32 ⌝ }
-    ensures { λ n. ⌜ n ≡ getD ((stateOf s) .counter) (l .0) 0 ⌝ }
-{
-    let i = l.0 as usize;
-    s.counter[i]
-}
-
-fn next(n: u64) -> u64
-    ensures { λ r. ⌜ r ≡ (n + 1) % 2 ^ 64 ⌝ }
+// The number after n; after the highest comes 0.
+pub fn next_number(n: u64) -> u64
+    ensures { λ r. ⌜ r ≡ next n ⌝ }
 {
     if n < 18446744073709551615 {
         return n + 1;
@@ -157,26 +147,12 @@ fn next(n: u64) -> u64
     0
 }
 
-// A loop's next number is taken; after the highest comes 0.
-pub fn take_number(s: State, l: LoopId) -> State
-    requires { ⌜ l .0 < 32 ⌝ }
-    ensures { λ n. ⌜ Moved (counterUp (l .0) (stateOf s)) s n ⌝ }
+// The number before n: that which was taken last where n is the next.
+pub fn last_number(n: u64) -> u64
+    ensures { λ r. ⌜ r ≡ previous n ⌝ }
 {
-    let i = l.0 as usize;
-    let k = next(s.counter[i]);
-    let mut n = s;
-    n.counter[i] = k;
-    n
-}
-
-// The number that a loop took last.
-pub fn taken_number(s: State, l: LoopId) -> u64
-    requires { ⌜ l .0 < 32 ⌝ }
-    ensures { λ n. ⌜ n ≡ taken (l .0) (stateOf s) ⌝ }
-{
-    let k = number_of(s, l);
-    if k == 0 {
+    if n == 0 {
         return 18446744073709551615;
     }
-    k - 1
+    n - 1
 }

@@ -1,8 +1,8 @@
 // A row is entered: a finding where it is lower than the highest of its table yet entered, and a stop.
 use column::OptInt;
 use emit::state;
+use emit::state::Counts;
 use emit::state::Mark;
-use emit::state::State;
 use spec::ids::LoopId;
 use spec::ids::Number;
 use spec::ids::RowId;
@@ -20,7 +20,7 @@ ghost use Rattle.nest.specs.Ready.{Ready, outlineAt};
 ghost use Rattle.walk.specs.Nested.{Nested};
 ghost use Rattle.emit.specs.Fold.{above, orderFindings, stopOut};
 ghost use Rattle.emit.specs.Written.{wordsOf};
-ghost use Rattle.emit.specs.Did.{markOf, stateOf, Did, Small};
+ghost use Rattle.emit.specs.Did.{markOf, DidMark, Within};
 ghost use Rattle.enter.specs.Placed.{placedAt};
 
 // The table that placed a repeat row.
@@ -110,30 +110,34 @@ fn note_order(
     lent::more(at, 0)
 }
 
-// A row of a table is entered by loop l.
+// The highest row of a table when one of its rows is entered, and the counts.
+pub struct Entered {
+    pub mark: Mark,
+    pub counts: Counts,
+}
+
+// A row of a table is entered by loop l, where m is the highest row of the table.
 pub fn enter(
     job: &[u8],
     index: &[u32],
     nest: &[u32],
     findings: &mut [u64],
     stops: &mut [u64],
-    s: State,
+    m: Mark,
+    c: Counts,
     l: LoopId,
     t: TableId,
     r: RowId,
-) -> State
-    requires { ⌜ Nested (now job) (now index) (now nest) × Small s × (t .0 < 16) × (r .0 < rowCount (outlineAt (now job)) (t .0)) ⌝ }
-    ensures { λ n. ⌜ ((d g : List ℕ) → Did (stopOut (outlineAt (now (job .entry))) (l .0) (t .0) (r .0) (stateOf s)) s n d d g g (now (findings .entry)) (now (findings .exit)) (now (stops .entry)) (now (stops .exit))) ⌝ }
+) -> Entered
+    requires { ⌜ Nested (now job) (now index) (now nest) × Within c × (t .0 < 16) × (r .0 < rowCount (outlineAt (now job)) (t .0)) ⌝ }
+    ensures { λ n. ⌜ ((d g : List ℕ) → DidMark (t .0) (stopOut (outlineAt (now (job .entry))) (l .0) (t .0) (r .0)) m (n .mark) c (n .counts) d d g g (now (findings .entry)) (now (findings .exit)) (now (stops .entry)) (now (stops .exit))) ⌝ }
 {
-    let i = t.0 as usize;
-    let m = s.high[i];
-    let noted = note_order(job, index, nest, findings, s.counts.findings, m, t, r);
+    let noted = note_order(job, index, nest, findings, c.findings, m, t, r);
     let words = [l.0 as u64, t.0 as u64, r.0 as u64, 0, 0, 0, 0, 0, 0, 0];
-    let at = lent::put_words(stops, s.counts.stops, words, 3);
-    let high = state::raised(m, r);
-    let mut n = s;
-    n.high[i] = high;
-    n.counts.findings = noted;
-    n.counts.stops = at;
-    n
+    let at = lent::put_words(stops, c.stops, words, 3);
+    let mark = state::raised(m, r);
+    let mut counts = c;
+    counts.findings = noted;
+    counts.stops = at;
+    Entered { mark, counts }
 }

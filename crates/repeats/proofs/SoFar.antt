@@ -19,35 +19,36 @@ use Rattle.nest.specs.Ready.{outlineAt}
 use Rattle.walk.specs.Nested.{Nested}
 use Rattle.walk.specs.Tour.{Step, stop, fill, chunk, segmentsIn, repeatSteps}
 use Rattle.walk.proofs.Counts.{segments-append}
-use Rattle.emit.specs.declared.state.State.{State}
-use Rattle.emit.specs.declared.state.Taken.{Taken}
+use Rattle.emit.specs.declared.state.Mark.{Mark}
+use Rattle.emit.specs.declared.state.Counts.{Counts}
 use Rattle.emit.specs.Fold.{stepsOut}
-use Rattle.emit.specs.Did.{stateOf, Did, Fit, Small, Took}
-use Rattle.emit.proofs.DidLaws.{did-nothing, did-small}
-use Rattle.emit.proofs.TookLaws.{steps-none, did-steps, took-none}
+use Rattle.emit.specs.Did.{stateWith, DidMark, Fit, Within}
+use Rattle.emit.proofs.TookLaws.{did-steps, took-none}
 use Rattle.repeats.specs.declared.Table.{Table}
 use Rattle.repeats.specs.declared.Part.{Part}
 use Rattle.repeats.specs.declared.Chunk.{Chunk}
+use Rattle.repeats.specs.declared.Repeated.{Repeated}
 use Rattle.repeats.specs.Going.{rowAdds, countThen, going}
-use Rattle.repeats.specs.Added.{TableIs, PartIs, Holds, Added, left}
+use Rattle.repeats.specs.Added.{TableIs, PartIs, Holds, Added, Repeats, left}
 use Rattle.repeats.proofs.GoingLaws.{going-next, going-end, repeat-rows, repeat-none}
 use Rattle.repeats.proofs.RowLaws.{Next}
+use Rattle.repeats.proofs.Adding.{mark-some, mark-small}
 
 -- since the chunk c₀ and row k₀ the lists went from a₀, d₀ and so on to a, d
 pub record SoFar (b n : List ℕ) (l i : ℕ) (w : Table) (p : ℕ) (c₀ c : Chunk) (k₀ k : ℕ) (a₀ a d₀ d g₀ g f₀ f p₀ p₁ : List ℕ) : Type 0 where
   pub done : List Step
-  pub did : Did (stepsOut (jobOf b) done (stateOf (c₀ .state))) (c₀ .state) (c .state) d₀ d g₀ g f₀ f p₀ p₁
+  pub did : DidMark (w .t .0) (stepsOut (jobOf b) done) (c₀ .mark) (c .mark) (c₀ .counts) (c .counts) d₀ d g₀ g f₀ f p₀ p₁
   pub written : c .written ≡ c₀ .written + segmentsIn done
   pub rest : left b n l i w p c₀ a₀ k₀ ≡ done ++ left b n l i w p c a k
   pub holds : Holds w c a
   pub long : length a ≡ length a₀
 
 module _ (b n : List ℕ) (l i : ℕ) (w : Table) (p : ℕ) (c₀ : Chunk) (k₀ : ℕ) {a₀ d₀ g₀ f₀ p₀ : List ℕ} where
-  pub so-start : Small (c₀ .state) → Holds w c₀ a₀ → SoFar b n l i w p c₀ c₀ k₀ k₀ a₀ a₀ d₀ d₀ g₀ g₀ f₀ f₀ p₀ p₀
+  pub so-start : Within (c₀ .counts) → Holds w c₀ a₀ → SoFar b n l i w p c₀ c₀ k₀ k₀ a₀ a₀ d₀ d₀ g₀ g₀ f₀ f₀ p₀ p₀
   unfolding segmentsIn
   so-start h x = record {
     done = [];
-    did = rw (steps-none (jobOf b) (stateOf (c₀ .state))) (did-nothing (c₀ .state) h);
+    did = λ high counter k. took-none (jobOf b) (stateWith (set high (w .t .0) (c₀ .mark)) counter (c₀ .counts)) h .did;
     written = omega arith;
     rest = refl;
     holds = x;
@@ -55,15 +56,16 @@ module _ (b n : List ℕ) (l i : ℕ) (w : Table) (p : ℕ) (c₀ : Chunk) (k₀
   }
 
   module _ (c : Chunk) (k : ℕ) {a d g f p₁ : List ℕ} (x : SoFar b n l i w p c₀ c k₀ k a₀ a d₀ d g₀ g f₀ f p₀ p₁) where
-    pub so-small : Small (c .state)
-    so-small = did-small (x .did)
+    pub so-small : Within (c .counts)
+    so-small = mark-small (w .t .0) (stepsOut (jobOf b) (x .done)) (x .did)
 
     pub so-written : c₀ .written + segmentsIn (left b n l i w p c₀ a₀ k₀) < cap → c .written < cap
     so-written h = omega (arith, h, x .written, ap segmentsIn (x .rest), segments-append (x .done) (left b n l i w p c a k))
 
     -- the lists are as long as they were
     pub so-long : (length d ≡ length d₀) × (length g ≡ length g₀) × (length f ≡ length f₀) × (length p₁ ≡ length p₀)
-    so-long = (stored-length _ (x .did .document), stored-length _ (x .did .segments), stored-length _ (x .did .findings), stored-length _ (x .did .stops))
+    so-long =
+        let y = mark-some (w .t .0) (stepsOut (jobOf b) (x .done)) (x .did) in (stored-length _ (y .document), stored-length _ (y .segments), stored-length _ (y .findings), stored-length _ (y .stops))
 
     holds-then : (r : ℕ) (u : Bool) (v : Chunk) (e : List ℕ) → v .count ≡ countThen (c .count) (ltb (c .count) (w .room) && u) → length e ≡ length a → Holds w v e
     unfolding countThen
@@ -85,7 +87,7 @@ module _ (b n : List ℕ) (l i : ℕ) (w : Table) (p : ℕ) (c₀ : Chunk) (k₀
         let new : List Step = rowAdds l i (w .t .0) (c .count) (take (c .count) a) joins r in
         record {
           done = x .done ++ new;
-          did = did-steps (jobOf b) (x .done) new z (x .did) (q .did);
+          did = λ high counter h. did-steps (jobOf b) (x .done) new z (x .did high counter h) (q .did high counter h);
           written = omega (arith, q .written, x .written, segments-append (x .done) new);
           rest =
               x .rest
@@ -96,15 +98,15 @@ module _ (b n : List ℕ) (l i : ℕ) (w : Table) (p : ℕ) (c₀ : Chunk) (k₀
         }
 
     -- no row is left: the last chunk is written
-    pub so-end : (m : Taken) {d₁ g₁ : List ℕ} → Fit d₀ g₀ f₀ p₀ → keep (hookedAt n (w .base) l p) (upTo k (w .rows)) ≡ []
-        → ((u v : List ℕ) → Did (stepsOut (jobOf b) (chunk l i (w .t .0) (take (c .count) a) ∷ []) (stateOf (c .state))) (c .state) (m .state) d d₁ g g₁ u u v v)
+    pub so-end : (m : Repeated) {d₁ g₁ : List ℕ} → Fit d₀ g₀ f₀ p₀ → keep (hookedAt n (w .base) l p) (upTo k (w .rows)) ≡ []
+        → ((u v : List ℕ) → DidMark (w .t .0) (stepsOut (jobOf b) (chunk l i (w .t .0) (take (c .count) a) ∷ [])) (c .mark) (m .mark) (c .counts) (m .counts) d d₁ g g₁ u u v v)
         → m .written ≡ c .written + 1
-        → Did (stepsOut (jobOf b) (left b n l i w p c₀ a₀ k₀) (stateOf (c₀ .state))) (c₀ .state) (m .state) d₀ d₁ g₀ g₁ f₀ f p₀ p₁ × (m .written ≡ c₀ .written + segmentsIn (left b n l i w p c₀ a₀ k₀))
+        → DidMark (w .t .0) (stepsOut (jobOf b) (left b n l i w p c₀ a₀ k₀)) (c₀ .mark) (m .mark) (c₀ .counts) (m .counts) d₀ d₁ g₀ g₁ f₀ f p₀ p₁ × (m .written ≡ c₀ .written + segmentsIn (left b n l i w p c₀ a₀ k₀))
     unfolding segmentsIn
     so-end m z y q o =
         let whole : left b n l i w p c₀ a₀ k₀ ≡ x .done ++ (chunk l i (w .t .0) (take (c .count) a) ∷ []) =
         x .rest ∙ ap (λ (s : List Step). x .done ++ s) (ap (going (outlineAt b .sameChunk l i) (w .room) l i (w .t .0) (c .head .0) (take (c .count) a) (c .count)) y ∙ going-end _ _ _ _ _ _ _ _) in (
-          rw whole (did-steps (jobOf b) (x .done) (chunk l i (w .t .0) (take (c .count) a) ∷ []) z (x .did) (q f p₁)),
+          (λ high counter h. rw whole (did-steps (jobOf b) (x .done) (chunk l i (w .t .0) (take (c .count) a) ∷ []) z (x .did high counter h) (q f p₁ high counter h))),
           rw whole (o ∙ rw (x .written, segments-append (x .done) (chunk l i (w .t .0) (take (c .count) a) ∷ [])) (omega arith)),
         )
 
@@ -128,20 +130,21 @@ first-holds w c a a₁ r W q h e = record {
 pub few-more : (old rest : List Step) → old ≡ rest → segmentsIn rest < cap → 0 + segmentsIn old < cap
 few-more old rest e h = omega (arith, h, ap segmentsIn e)
 
-pub took-first : {s m : State} {d d₁ g g₁ f f₁ f₂ p p₁ p₂ : List ℕ} (j : Job) (l i t r : ℕ) (u : Taken) (old rest : List Step) → old ≡ rest → Fit d g f p
-    → ((x y : List ℕ) → length x ≤ cap → length y ≤ cap → Did (stepsOut j (stop l t r ∷ fill l i t 0 r ∷ []) (stateOf s)) s m x x y y f f₁ p p₁)
-    → Did (stepsOut j old (stateOf m)) m (u .state) d d₁ g g₁ f₁ f₂ p₁ p₂ → u .written ≡ 0 + segmentsIn old
-    → Took j ((stop l t r ∷ fill l i t 0 r ∷ []) ++ rest) s u d d₁ g g₁ f f₂ p p₂
+pub took-first : {m n : Mark} {s c : Counts} {d d₁ g g₁ f f₁ f₂ p p₁ p₂ : List ℕ} (j : Job) (l i t r : ℕ) (u : Repeated) (old rest : List Step) → old ≡ rest → Fit d g f p
+    → ((x y : List ℕ) → length x ≤ cap → length y ≤ cap → DidMark t (stepsOut j (stop l t r ∷ fill l i t 0 r ∷ [])) m n s c x x y y f f₁ p p₁)
+    → DidMark t (stepsOut j old) n (u .mark) c (u .counts) d d₁ g g₁ f₁ f₂ p₁ p₂ → u .written ≡ 0 + segmentsIn old
+    → Repeats j ((stop l t r ∷ fill l i t 0 r ∷ []) ++ rest) t m s u d d₁ g g₁ f f₂ p p₂
 unfolding segmentsIn
 took-first {d = d} {g = g} j l i t r u old rest q h x y e = rw (← q) (record {
-  did = did-steps j (stop l t r ∷ fill l i t 0 r ∷ []) old h (x d g (h .document) (h .segments)) y;
+  did = λ high counter b. did-steps j (stop l t r ∷ fill l i t 0 r ∷ []) old h (x d g (h .document) (h .segments) high counter b) (y high counter b);
   written = omega (arith, e);
 })
 
 -- no row goes into the instance
-pub took-nothing : (b n idx : List ℕ) (N : Nested b idx n) (l i t p : ℕ) (s : State) {d g f q : List ℕ} → Small s → repeatRows (outlineAt b) t l p ≡ []
-    → Took (jobOf b) (repeatSteps (outlineAt b) l i t p) s (record { state = s; written = 0 }) d d g g f f q q
-took-nothing b n idx N l i t p s h e = rw (repeat-none (outlineAt b) l i t p e) (took-none (jobOf b) s h)
+pub took-nothing : (b n idx : List ℕ) (N : Nested b idx n) (l i t p : ℕ) (m : Mark) (s : Counts) {d g f q : List ℕ} → Within s → repeatRows (outlineAt b) t l p ≡ []
+    → Repeats (jobOf b) (repeatSteps (outlineAt b) l i t p) t m s (record { mark = m; counts = s; written = 0 }) d d g g f f q q
+unfolding segmentsIn
+took-nothing b n idx N l i t p m s h e = rw (repeat-none (outlineAt b) l i t p e) (record { did = λ high counter k. took-none (jobOf b) (stateWith (set high t m) counter s) h .did; written = refl })
 
 module _ {b n : List ℕ} (l i t p : ℕ) (part : Part) (P : PartIs b n t l p part) where
   abbrev w : Table
@@ -164,7 +167,7 @@ module _ {b n : List ℕ} (l i t p : ℕ) (part : Part) (P : PartIs b n t l p pa
         segments-append (stop l (w .t .0) r ∷ fill l i (w .t .0) 0 r ∷ []) (going (outlineAt b .sameChunk l i) (w .room) l i (w .t .0) r (r ∷ []) 1 (keep (hookedAt n (w .base) l p) (upTo (r + 1) (w .rows)))),
       )
 
-  pub took-hooked : (r : ℕ) {s : State} {u : Taken} {d d₁ g g₁ f f₁ q q₁ : List ℕ} → Next (hookedAt n (w .base) l p) (part .from) (w .rows) r
-      → Took (jobOf b) ((stop l (w .t .0) r ∷ fill l i (w .t .0) 0 r ∷ []) ++ going (outlineAt b .sameChunk l i) (w .room) l i (w .t .0) r (r ∷ []) 1 (keep (hookedAt n (w .base) l p) (upTo (r + 1) (w .rows)))) s u d d₁ g g₁ f f₁ q q₁
-      → Took (jobOf b) (repeatSteps (outlineAt b) l i t p) s u d d₁ g g₁ f f₁ q q₁
-  took-hooked r x h = rw (hooked-first r x) h
+  pub took-hooked : (r : ℕ) {m : Mark} {s : Counts} {u : Repeated} {d d₁ g g₁ f f₁ q q₁ : List ℕ} → Next (hookedAt n (w .base) l p) (part .from) (w .rows) r
+      → Repeats (jobOf b) ((stop l (w .t .0) r ∷ fill l i (w .t .0) 0 r ∷ []) ++ going (outlineAt b .sameChunk l i) (w .room) l i (w .t .0) r (r ∷ []) 1 (keep (hookedAt n (w .base) l p) (upTo (r + 1) (w .rows)))) (w .t .0) m s u d d₁ g g₁ f f₁ q q₁
+      → Repeats (jobOf b) (repeatSteps (outlineAt b) l i t p) t m s u d d₁ g g₁ f f₁ q q₁
+  took-hooked r x h = rw (hooked-first r x, ← P .table) h

@@ -14,10 +14,13 @@ use Rattle.nest.specs.Nest.{repeatRows}
 use Rattle.nest.specs.Ready.{outlineAt}
 use Rattle.walk.specs.Tour.{Step, segmentsIn}
 use Rattle.emit.specs.Fold.{stepsOut}
-use Rattle.emit.specs.Did.{stateOf, Did}
+use Rattle.emit.specs.declared.state.Mark.{Mark}
+use Rattle.emit.specs.declared.state.Counts.{Counts}
+use Rattle.emit.specs.Did.{DidMark}
 use Rattle.repeats.specs.declared.Table.{Table}
 use Rattle.repeats.specs.declared.Part.{Part}
 use Rattle.repeats.specs.declared.Chunk.{Chunk}
+use Rattle.repeats.specs.declared.Repeated.{Repeated}
 use Rattle.repeats.specs.Going.{going, rowAdds, headThen, rowsThen, countThen}
 
 -- where the rows of a table stand among all, that no more are gone through than it has, and how many go into a segment
@@ -47,9 +50,14 @@ left b n l i w p c a k = going (outlineAt b .sameChunk l i) (w .room) l i (w .t 
 
 -- row r came to the chunk c, which is n then; the list of its rows went from a to a′, the others as in `Did`
 pub record Added (j : Job) (l i t : ℕ) (joins : Bool) (r : ℕ) (c n : Chunk) (a a′ d d′ g g′ f f′ p p′ : List ℕ) : Type 0 where
-  pub did : Did (stepsOut j (rowAdds l i t (c .count) (take (c .count) a) joins r) (stateOf (c .state))) (c .state) (n .state) d d′ g g′ f f′ p p′
+  pub did : DidMark t (stepsOut j (rowAdds l i t (c .count) (take (c .count) a) joins r)) (c .mark) (n .mark) (c .counts) (n .counts) d d′ g g′ f f′ p p′
   pub written : n .written ≡ c .written + segmentsIn (rowAdds l i t (c .count) (take (c .count) a) joins r)
   pub head : n .head .0 ≡ headThen (c .head .0) joins r
   pub rows : take (n .count) a′ ≡ rowsThen (take (c .count) a) joins r
   pub count : n .count ≡ countThen (c .count) joins
   pub long : length a′ ≡ length a
+
+-- these steps were taken from the highest row m of table t and the counts s on
+pub record Repeats (j : Job) (xs : List Step) (t : ℕ) (m : Mark) (s : Counts) (r : Repeated) (d d′ g g′ f f′ p p′ : List ℕ) : Type 0 where
+  pub did : DidMark t (stepsOut j xs) m (r .mark) s (r .counts) d d′ g g′ f f′ p p′
+  pub written : r .written ≡ segmentsIn xs

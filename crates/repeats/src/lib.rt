@@ -14,11 +14,12 @@ ghost use Rattle.nest.specs.Ready.{Ready, outlineAt};
 ghost use Rattle.walk.specs.Nested.{Nested};
 ghost use Rattle.walk.specs.Tour.{stop, fill, chunk, segmentsIn, repeatSteps};
 ghost use Rattle.emit.specs.Fold.{stepsOut};
-ghost use Rattle.emit.specs.Did.{stateOf, Did, Small, Took};
+ghost use Rattle.emit.specs.Did.{DidMark, Within};
 ghost use Rattle.repeats.specs.Going.{going};
-ghost use Rattle.repeats.specs.Added.{TableIs, PartIs, Holds, Added, left};
-use emit::state::State;
-use emit::state::Taken;
+ghost use Rattle.repeats.specs.Added.{TableIs, PartIs, Holds, Added, Repeats, left};
+use emit::state::Counts;
+use emit::state::Mark;
+use enter::Entered;
 use nest::Found;
 use nest::order::first_at;
 use repeat_segment::fill_row;
@@ -41,9 +42,17 @@ pub struct Part {
     pub from: usize,
 }
 
-// A chunk that rows are still added to: the state, how many segments stand before it, its first row, and how many rows it has.
+// The highest row of a table behind some of its repeat segments, the counts, and how many segments were written.
+pub struct Repeated {
+    pub mark: Mark,
+    pub counts: Counts,
+    pub written: usize,
+}
+
+// A chunk that rows are still added to: the table's highest row, the counts, how many segments stand before it, its first row, and how many rows it has.
 pub struct Chunk {
-    pub state: State,
+    pub mark: Mark,
+    pub counts: Counts,
     pub written: usize,
     pub head: RowId,
     pub count: u32,
@@ -125,21 +134,22 @@ fn add_row(
     rows: &mut [u32],
     findings: &mut [u64],
     stops: &mut [u64],
-    s: State,
+    m: Mark,
+    c: Counts,
     l: LoopId,
     i: u32,
     t: TableId,
     k: u32,
     r: RowId,
-) -> State
-    requires { ⌜ Nested (now job) (now index) (now nest) × Small s × (l .0 < 32) × (r .0 < rowCount (outlineAt (now job)) (t .0)) × (k < 256) × (256 ≤ length (now rows)) ⌝ }
+) -> Entered
+    requires { ⌜ Nested (now job) (now index) (now nest) × Within c × (l .0 < 32) × (r .0 < rowCount (outlineAt (now job)) (t .0)) × (k < 256) × (256 ≤ length (now rows)) ⌝ }
     ensures { λ n. ⌜ ((d g : List ℕ) → length d ≤ cap → length g ≤ cap
-        → Did (stepsOut (jobOf (now (job .entry))) (stop (l .0) (t .0) (r .0) ∷ fill (l .0) i (t .0) k (r .0) ∷ []) (stateOf s)) s n d d g g (now (findings .entry)) (now (findings .exit)) (now (stops .entry)) (now (stops .exit)))
+        → DidMark (t .0) (stepsOut (jobOf (now (job .entry))) (stop (l .0) (t .0) (r .0) ∷ fill (l .0) i (t .0) k (r .0) ∷ [])) m (n .mark) c (n .counts) d d g g (now (findings .entry)) (now (findings .exit)) (now (stops .entry)) (now (stops .exit)))
         × (now (rows .exit) ≡ set (now (rows .entry)) k (r .0)) ⌝ }
 {
     let at = k as usize;
     rows[at] = r.0;
-    let mut n = enter::enter(job, index, nest, findings, stops, s, l, t, r);
+    let mut n = enter::enter(job, index, nest, findings, stops, m, c, l, t, r);
     n.counts = fill_row(job, index, findings, n.counts, l, i, t, k, r);
     n
 }
@@ -155,17 +165,18 @@ fn close(
     l: LoopId,
     i: u32,
     t: TableId,
-) -> Taken
-    requires { ⌜ Ready (now job) (now index) × Small (c .state) × (l .0 < 32) × (c .count ≤ length (now rows)) × (c .count ≤ 256) × (c .written < cap) ⌝ }
-    ensures { λ n. ⌜ ((f p : List ℕ) → Did (stepsOut (jobOf (now (job .entry))) (chunk (l .0) i (t .0) (take (c .count) (now (rows .entry))) ∷ []) (stateOf (c .state))) (c .state) (n .state)
+) -> Repeated
+    requires { ⌜ Ready (now job) (now index) × Within (c .counts) × (l .0 < 32) × (c .count ≤ length (now rows)) × (c .count ≤ 256) × (c .written < cap) ⌝ }
+    ensures { λ n. ⌜ ((f p : List ℕ) → DidMark (t .0) (stepsOut (jobOf (now (job .entry))) (chunk (l .0) i (t .0) (take (c .count) (now (rows .entry))) ∷ [])) (c .mark) (n .mark) (c .counts) (n .counts)
         (now (doc .entry)) (now (doc .exit)) (now (segments .entry)) (now (segments .exit)) f f p p) × (n .written ≡ c .written + 1) ⌝ }
 {
-    let mut n = c.state;
     let count = c.count as usize;
-    n.counts = write_chunk(job, index, rows, count, doc, segments, n.counts, l, i, t);
+    let counts = write_chunk(job, index, rows, count, doc, segments, c.counts, l, i, t);
+    let mark = c.mark;
     let written = c.written + 1;
-    Taken {
-        state: n,
+    Repeated {
+        mark: mark,
+        counts: counts,
         written: written,
     }
 }
@@ -184,11 +195,11 @@ fn extend(
     w: Table,
     r: RowId,
 ) -> Chunk
-    requires { ⌜ Nested (now job) (now index) (now nest) × Small (c .state) × (l .0 < 32) × (r .0 < rowCount (outlineAt (now job)) (w .t .0)) × Holds w c (now rows) ⌝ }
+    requires { ⌜ Nested (now job) (now index) (now nest) × Within (c .counts) × (l .0 < 32) × (r .0 < rowCount (outlineAt (now job)) (w .t .0)) × Holds w c (now rows) ⌝ }
     ensures { λ n. ⌜ ((d g : List ℕ) → length d ≤ cap → length g ≤ cap
         → Added (jobOf (now (job .entry))) (l .0) i (w .t .0) true (r .0) c n (now (rows .entry)) (now (rows .exit)) d d g g (now (findings .entry)) (now (findings .exit)) (now (stops .entry)) (now (stops .exit))) ⌝ }
 {
-    let state = c.state;
+    let mark = c.mark;
     let t = w.t;
     let n = add_row(
         job,
@@ -197,7 +208,8 @@ fn extend(
         rows,
         findings,
         stops,
-        state,
+        mark,
+        c.counts,
         l,
         i,
         t,
@@ -205,8 +217,11 @@ fn extend(
         r,
     );
     let head = c.head;
+    let raised = n.mark;
+    let counts = n.counts;
     Chunk {
-        state: n,
+        mark: raised,
+        counts: counts,
         written: c.written,
         head: head,
         count: c.count + 1,
@@ -229,12 +244,12 @@ fn cut(
     w: Table,
     r: RowId,
 ) -> Chunk
-    requires { ⌜ Nested (now job) (now index) (now nest) × Small (c .state) × (l .0 < 32) × (r .0 < rowCount (outlineAt (now job)) (w .t .0)) × Holds w c (now rows) × (c .written < cap) ⌝ }
+    requires { ⌜ Nested (now job) (now index) (now nest) × Within (c .counts) × (l .0 < 32) × (r .0 < rowCount (outlineAt (now job)) (w .t .0)) × Holds w c (now rows) × (c .written < cap) ⌝ }
     ensures { λ n. ⌜ Added (jobOf (now (job .entry))) (l .0) i (w .t .0) false (r .0) c n (now (rows .entry)) (now (rows .exit)) (now (doc .entry)) (now (doc .exit)) (now (segments .entry)) (now (segments .exit)) (now (findings .entry)) (now (findings .exit)) (now (stops .entry)) (now (stops .exit)) ⌝ }
 {
     let t = w.t;
     let closed = close(job, index, rows, doc, segments, c, l, i, t);
-    let state = closed.state;
+    let mark = closed.mark;
     let n = add_row(
         job,
         index,
@@ -242,15 +257,19 @@ fn cut(
         rows,
         findings,
         stops,
-        state,
+        mark,
+        closed.counts,
         l,
         i,
         t,
         0,
         r,
     );
+    let raised = n.mark;
+    let counts = n.counts;
     Chunk {
-        state: n,
+        mark: raised,
+        counts: counts,
         written: closed.written,
         head: r,
         count: 1,
@@ -273,7 +292,7 @@ fn add_next(
     w: Table,
     r: RowId,
 ) -> Chunk
-    requires { ⌜ Nested (now job) (now index) (now nest) × Small (c .state) × (l .0 < 32) × (r .0 < rowCount (outlineAt (now job)) (w .t .0)) × Holds w c (now rows) × (c .written < cap) ⌝ }
+    requires { ⌜ Nested (now job) (now index) (now nest) × Within (c .counts) × (l .0 < 32) × (r .0 < rowCount (outlineAt (now job)) (w .t .0)) × Holds w c (now rows) × (c .written < cap) ⌝ }
     ensures { λ n. ⌜ Added (jobOf (now (job .entry))) (l .0) i (w .t .0) (ltb (c .count) (w .room) && outlineAt (now (job .entry)) .sameChunk (l .0) i (c .head .0) (r .0)) (r .0) c n (now (rows .entry)) (now (rows .exit)) (now (doc .entry)) (now (doc .exit)) (now (segments .entry)) (now (segments .exit)) (now (findings .entry)) (now (findings .exit)) (now (stops .entry)) (now (stops .exit)) ⌝ }
 {
     let head = c.head;
@@ -314,10 +333,10 @@ fn add_rows(
     w: Table,
     p: RowId,
     from: usize,
-) -> Taken
-    requires { ⌜ Nested (now job) (now index) (now nest) × Small (first .state) × (l .0 < 32) × (p .0 < 4096) × TableIs (now job) w × Holds w first (now rows)
+) -> Repeated
+    requires { ⌜ Nested (now job) (now index) (now nest) × Within (first .counts) × (l .0 < 32) × (p .0 < 4096) × TableIs (now job) w × Holds w first (now rows)
         × (first .written + segmentsIn (left (now job) (now nest) (l .0) i w (p .0) first (now rows) from) < cap) ⌝ }
-    ensures { λ n. ⌜ Did (stepsOut (jobOf (now (job .entry))) (left (now (job .entry)) (now (nest .entry)) (l .0) i w (p .0) first (now (rows .entry)) from) (stateOf (first .state))) (first .state) (n .state)
+    ensures { λ n. ⌜ DidMark (w .t .0) (stepsOut (jobOf (now (job .entry))) (left (now (job .entry)) (now (nest .entry)) (l .0) i w (p .0) first (now (rows .entry)) from)) (first .mark) (n .mark) (first .counts) (n .counts)
         (now (doc .entry)) (now (doc .exit)) (now (segments .entry)) (now (segments .exit)) (now (findings .entry)) (now (findings .exit)) (now (stops .entry)) (now (stops .exit))
         × (n .written ≡ first .written + segmentsIn (left (now (job .entry)) (now (nest .entry)) (l .0) i w (p .0) first (now (rows .entry)) from)) ⌝ }
 {
@@ -362,22 +381,26 @@ fn begin(
     segments: &mut [u64],
     findings: &mut [u64],
     stops: &mut [u64],
-    s: State,
+    m: Mark,
+    c: Counts,
     l: LoopId,
     i: u32,
     w: Table,
     p: RowId,
     r: RowId,
-) -> Taken
-    requires { ⌜ Nested (now job) (now index) (now nest) × Small s × (l .0 < 32) × (p .0 < 4096) × TableIs (now job) w × (r .0 < w .rows) × (256 ≤ length (now rows))
+) -> Repeated
+    requires { ⌜ Nested (now job) (now index) (now nest) × Within c × (l .0 < 32) × (p .0 < 4096) × TableIs (now job) w × (r .0 < w .rows) × (256 ≤ length (now rows))
         × (segmentsIn (going (outlineAt (now job) .sameChunk (l .0) i) (w .room) (l .0) i (w .t .0) (r .0) (r .0 ∷ []) 1 (keep (hookedAt (now nest) (w .base) (l .0) (p .0)) (upTo (r .0 + 1) (w .rows)))) < cap) ⌝ }
-    ensures { λ n. ⌜ Took (jobOf (now (job .entry))) ((stop (l .0) (w .t .0) (r .0) ∷ fill (l .0) i (w .t .0) 0 (r .0) ∷ []) ++ going (outlineAt (now (job .entry)) .sameChunk (l .0) i) (w .room) (l .0) i (w .t .0) (r .0) (r .0 ∷ []) 1 (keep (hookedAt (now (nest .entry)) (w .base) (l .0) (p .0)) (upTo (r .0 + 1) (w .rows)))) s n
+    ensures { λ n. ⌜ Repeats (jobOf (now (job .entry))) ((stop (l .0) (w .t .0) (r .0) ∷ fill (l .0) i (w .t .0) 0 (r .0) ∷ []) ++ going (outlineAt (now (job .entry)) .sameChunk (l .0) i) (w .room) (l .0) i (w .t .0) (r .0) (r .0 ∷ []) 1 (keep (hookedAt (now (nest .entry)) (w .base) (l .0) (p .0)) (upTo (r .0 + 1) (w .rows)))) (w .t .0) m c n
         (now (doc .entry)) (now (doc .exit)) (now (segments .entry)) (now (segments .exit)) (now (findings .entry)) (now (findings .exit)) (now (stops .entry)) (now (stops .exit)) ⌝ }
 {
     let t = w.t;
-    let n = add_row(job, index, nest, rows, findings, stops, s, l, i, t, 0, r);
-    let c = Chunk {
-        state: n,
+    let n = add_row(job, index, nest, rows, findings, stops, m, c, l, i, t, 0, r);
+    let mark = n.mark;
+    let counts = n.counts;
+    let first = Chunk {
+        mark: mark,
+        counts: counts,
         written: 0,
         head: r,
         count: 1,
@@ -392,7 +415,7 @@ fn begin(
         segments,
         findings,
         stops,
-        c,
+        first,
         l,
         i,
         w,
@@ -411,23 +434,25 @@ fn write_hooked(
     segments: &mut [u64],
     findings: &mut [u64],
     stops: &mut [u64],
-    s: State,
+    m: Mark,
+    c: Counts,
     l: LoopId,
     i: u32,
     t: TableId,
     p: RowId,
-) -> Taken
-    requires { ⌜ Nested (now job) (now index) (now nest) × Small s × (l .0 < 32) × (p .0 < 4096) × (256 ≤ length (now rows)) × (repeated (outlineAt (now job)) (t .0) ≡ true)
+) -> Repeated
+    requires { ⌜ Nested (now job) (now index) (now nest) × Within c × (l .0 < 32) × (p .0 < 4096) × (256 ≤ length (now rows)) × (repeated (outlineAt (now job)) (t .0) ≡ true)
         × (segmentsIn (repeatSteps (outlineAt (now job)) (l .0) i (t .0) (p .0)) < cap) ⌝ }
-    ensures { λ n. ⌜ Took (jobOf (now (job .entry))) (repeatSteps (outlineAt (now (job .entry))) (l .0) i (t .0) (p .0)) s n
+    ensures { λ n. ⌜ Repeats (jobOf (now (job .entry))) (repeatSteps (outlineAt (now (job .entry))) (l .0) i (t .0) (p .0)) (t .0) m c n
         (now (doc .entry)) (now (doc .exit)) (now (segments .entry)) (now (segments .exit)) (now (findings .entry)) (now (findings .exit)) (now (stops .entry)) (now (stops .exit)) ⌝ }
 {
     let part = part_of(job, index, nest, t, p);
     let w = part.table;
     let f = nest::next_hooked(nest, w.base, w.rows, part.from, l, p);
     match f {
-        Found::Nothing => Taken {
-            state: s,
+        Found::Nothing => Repeated {
+            mark: m,
+            counts: c,
             written: 0,
         },
         Found::Row(r) => begin(
@@ -439,7 +464,8 @@ fn write_hooked(
             segments,
             findings,
             stops,
-            s,
+            m,
+            c,
             l,
             i,
             w,
@@ -458,15 +484,16 @@ pub fn write_repeats(
     segments: &mut [u64],
     findings: &mut [u64],
     stops: &mut [u64],
-    s: State,
+    m: Mark,
+    c: Counts,
     l: LoopId,
     i: u32,
     t: TableId,
     p: RowId,
-) -> Taken
-    requires { ⌜ Nested (now job) (now index) (now nest) × Small s × (l .0 < 32) × (p .0 < 4096)
+) -> Repeated
+    requires { ⌜ Nested (now job) (now index) (now nest) × Within c × (l .0 < 32) × (p .0 < 4096)
         × (segmentsIn (repeatSteps (outlineAt (now job)) (l .0) i (t .0) (p .0)) < cap) ⌝ }
-    ensures { λ n. ⌜ Took (jobOf (now (job .entry))) (repeatSteps (outlineAt (now (job .entry))) (l .0) i (t .0) (p .0)) s n
+    ensures { λ n. ⌜ Repeats (jobOf (now (job .entry))) (repeatSteps (outlineAt (now (job .entry))) (l .0) i (t .0) (p .0)) (t .0) m c n
         (now (doc .entry)) (now (doc .exit)) (now (segments .entry)) (now (segments .exit)) (now (findings .entry)) (now (findings .exit)) (now (stops .entry)) (now (stops .exit)) ⌝ }
 {
     let again = spec::tables::repeats(job, index, t);
@@ -481,15 +508,17 @@ pub fn write_repeats(
             segments,
             findings,
             stops,
-            s,
+            m,
+            c,
             l,
             i,
             t,
             p,
         );
     }
-    Taken {
-        state: s,
+    Repeated {
+        mark: m,
+        counts: c,
         written: 0,
     }
 }

@@ -1,20 +1,23 @@
 -- Steps taken by a loop: those done so far, and those still to come.
 use Prim.Native.Nat.{ℕ, _+_, _-_, _<_}
-use mathlib.Core.Path.{_≡_, refl, sym, _∙_}
-use mathlib.Core.List.{List, [], _++_, append-assoc, append-nil}
+use mathlib.Core.Path.{_≡_, refl, sym, ap, _∙_}
+use mathlib.Core.List.{List, [], _∷_, _++_, map, append-assoc, append-nil}
+use mathlib.Core.Option.{Option, none, some}
 use native.Mathlib.Omega.{arith}
-use lib.ListN.{length}
+use lib.ListN.{length, length-set, length-map}
 use Rattle.format.specs.Job.{Job}
+use Rattle.format.specs.Ask.{loopOf}
+use Rattle.nest.specs.Lists.{on}
 use Rattle.lent.specs.Fit.{cap}
 use Rattle.lent.proofs.Laws.{stored-length}
-use Rattle.walk.specs.Tour.{Step, segmentsIn}
+use Rattle.walk.specs.Tour.{Step, enters, stop, opener, rowSegment, fill, chunk, closer, segmentsIn}
 use Rattle.walk.proofs.Counts.{segments-append}
 use Rattle.emit.specs.declared.state.State.{State}
 use Rattle.emit.specs.declared.state.Taken.{Taken}
 use Rattle.emit.specs.Fold as F
-use Rattle.emit.specs.Fold.{stepsOut}
+use Rattle.emit.specs.Fold.{quiet, stepOut, stepsOut}
 use Rattle.emit.specs.Written.{wordsOf}
-use Rattle.emit.specs.Did.{stateOf, tracedWords, stopWords, Did, Fit, Small, Took}
+use Rattle.emit.specs.Did.{markOf, stateOf, tracedWords, stopWords, Did, Fit, Small, Took}
 use Rattle.emit.proofs.DidLaws.{did-nothing, did-small}
 use Rattle.emit.proofs.TookLaws.{steps-none, did-steps}
 use Rattle.run.specs.Went.{Went}
@@ -33,6 +36,45 @@ module _ {o : F.Out} {s r : State} {d d₁ g g₁ f f₁ p p₁ : List ℕ} (x :
 
   pub same-stops : length p₁ ≡ length p
   same-stops = stored-length (stopWords (o .stops)) (x .stops)
+
+-- ---- and as many marks and numbers
+
+abbrev Wide : F.State → F.Out → Type 0
+Wide s o = (length (o .state .high) ≡ length (s .high)) × (length (o .state .counter) ≡ length (s .counter))
+
+on-wide : {A : Type 0} (s : F.State) (x : Option A) (f : A → F.Out) (o : F.Out) → ((a : A) → Wide s (f a)) → Wide s o → Wide s (on x f o)
+on-wide s none f o p q = q
+on-wide s (some a) f o p q = p a
+
+step-wide : (j : Job) (x : Step) (s : F.State) → Wide s (stepOut j x s)
+unfolding stepOut F.stopOut F.openerOut F.rowOut F.fillOut F.chunkOut F.closerOut
+step-wide j (enters l) s = (refl, refl)
+step-wide j (stop l t r) s = (length-set (s .high) t _, refl)
+step-wide j (opener l) s = on-wide s ((loopOf j l) .control) _ (quiet s) (λ c. (refl, length-set (s .counter) l _)) (refl, refl)
+step-wide j (rowSegment l i t r) s = (refl, refl)
+step-wide j (fill l i t k r) s = (refl, refl)
+step-wide j (chunk l i t rs) s = (refl, refl)
+step-wide j (closer l o n m) s = on-wide s ((loopOf j l) .control) _ (quiet s) (λ c. on-wide s ((loopOf j l) .end) _ (quiet s) (λ k. (refl, refl)) (refl, refl)) (refl, refl)
+
+steps-wide : (j : Job) (xs : List Step) (s : F.State) → Wide s (stepsOut j xs s)
+unfolding stepsOut
+steps-wide j [] s = (refl, refl)
+steps-wide j (x ∷ xs) s =
+    let a = step-wide j x s in
+    let b = steps-wide j xs ((stepOut j x s) .state) in (b .0 ∙ a .0, b .1 ∙ a .1)
+
+module _ {s r : State} {d d₁ g g₁ f f₁ p p₁ : List ℕ} (j : Job) (xs : List Step) (x : Did (stepsOut j xs (stateOf s)) s r d d₁ g g₁ f f₁ p p₁) where
+  pub same-high : length (r .high) ≡ length (s .high)
+  unfolding stateOf
+  same-high = sym (length-map (r .high) markOf) ∙ ap (λ (z : F.State). length (z .high)) (x .state) ∙ steps-wide j xs (stateOf s) .0 ∙ length-map (s .high) markOf
+
+  pub same-counter : length (r .counter) ≡ length (s .counter)
+  unfolding stateOf
+  same-counter = ap (λ (z : F.State). length (z .counter)) (x .state) ∙ steps-wide j xs (stateOf s) .1
+
+-- a list is as long as what is made of it
+pub marks-long : (X Y : Type 0) (f : X → Y) (l : List X) (n : ℕ) → length (map f l) ≡ n → length l ≡ n
+marks-long X Y f l n e = sym (length-map l f) ∙ e
 
 -- ---- of the steps `whole` those of `rest` are still to come
 

@@ -90,10 +90,13 @@ module _ (b : List ℕ) (w : Passed b) where
           let z : length (getD (J .layout .order) l []) ≡ 0 = ap length (List·getD-eq-default (J .layout .order) [] {n = l} (ltb-false _ _ q)) in
           absurd (omega (arith, z, h))
 
-  -- a table that has rows has a number below 16
+  -- a table with a number from 16 on has no rows
+  pub rows-none : (t : ℕ) → 16 ≤ t → rowCount (outlineAt b) t ≡ 0
+  rows-none t h = rows-past (outlineAt b) t (omega (arith, data-count-is J, few J (w .limits) .filled))
+
   pub table-small : (t r : ℕ) → r < rowCount (outlineAt b) t → t < 16
   table-small t r h = go (decLt t 16)
     where
       go : Dec (t < 16) → t < 16
       go (yes q) = q
-      go (no q) = absurd (omega (arith, rows-past (outlineAt b) t (omega (arith, data-count-is J, few J (w .limits) .filled)), h))
+      go (no q) = absurd (omega (arith, rows-none t (omega arith), h))

@@ -6,7 +6,8 @@ use mathlib.Core.List.{List, [], _∷_}
 use mathlib.Core.Option.{Option, none, some, Option·map, Option·some-injective}
 use native.Mathlib.Omega.{arith}
 use native.Mathlib.Numerals.{add-one}
-use lib.ListN.{length}
+use lib.ListN.{length, getD, set}
+use lib.Seq.{set-getD}
 use borrow.Author.Tests.{lt-ltb}
 use Rattle.format.specs.Plan as P
 use Rattle.format.specs.Job.{Job}
@@ -27,7 +28,7 @@ use Rattle.nest.specs.Outline.{Outline, rowTable, kindOf, loopOf, planned, hasO
 use Rattle.nest.specs.Found.{foundBy}
 use Rattle.nest.specs.declared.Found.{Found}
 use Rattle.nest.specs.declared.Found.the-variants as found
-use Rattle.nest.specs.Nest.{Row, rowOf}
+use Rattle.nest.specs.Nest.{Row, rowOf, repeatRows}
 use Rattle.nest.specs.OfJob.{outlineOf, kindIn, sourceIn}
 use Rattle.nest.specs.Ready.{Ready, outlineAt}
 use Rattle.nest.proofs.Bridge.{kind-is, planned-is}
@@ -40,17 +41,21 @@ use Rattle.walk.specs.Tour.{Step, opener, rowSegment, stop, closer, segmentsIn,
 use Rattle.walk.proofs.TourLaws.{segment-unplanned}
 use Rattle.emit.specs.declared.state.Counts.{Counts}
 use Rattle.emit.specs.declared.state.State.{State}
-use Rattle.emit.specs.declared.state.Taken.{Taken}
+use Rattle.emit.specs.declared.state.Mark.{Mark}
 use Rattle.emit.specs.Fold.{stepsOut, stopOut, openerOut, rowOut, closerOut}
-use Rattle.emit.specs.Did.{stateOf, stateWith, Did, DidCounts, Small, Took}
-use Rattle.emit.proofs.DidLaws.{did-nothing}
-use Rattle.emit.proofs.TookLaws.{steps-none, step-stop, step-opener, step-row, step-closer, did-step, took-none, took-one}
+use Rattle.emit.specs.Did.{noMark, stateOf, stateWith, Did, DidCounts, DidMark, DidNumber, Small, Took, Within}
+use Rattle.emit.proofs.DidLaws.{did-mark, did-number}
+use Rattle.emit.proofs.TookLaws.{step-stop, step-opener, step-row, step-closer, did-step, took-none, took-one}
+use Rattle.repeats.specs.declared.Repeated.{Repeated}
+use Rattle.repeats.specs.Added.{Repeats}
+use Rattle.repeats.proofs.GoingLaws.{repeat-none}
+use Rattle.run.specs.declared.closing.Closed.{Closed}
 use Rattle.run.specs.declared.own.Owner.{Owner}
 use Rattle.run.specs.declared.own.Owner.the-variants as owner
 use Rattle.run.specs.declared.segments.Due.{Due}
 use Rattle.run.specs.declared.segments.Due.the-variants as due
-use Rattle.run.specs.Went.{ownerBy, Gives}
-use Rattle.run.proofs.Reading.{source-is, table-small}
+use Rattle.run.specs.Went.{ownerBy, tableIn, Owned, Gives, Closes}
+use Rattle.run.proofs.Reading.{source-is, table-small, rows-none}
 
 -- ---- the row of a table
 
@@ -90,13 +95,19 @@ module _ (j : Job) (l : ℕ) (c : Context) (k : P.Instances) (e : k ≡ (A.planO
   own-tableless h = rw (kind, ← q) (rw h refl)
 
 -- its stop
-module _ (j : Job) (l : ℕ) (own : Option Row) (x : Owner) (e : ownerBy x ≡ own) where
-  pub stops-there : {s n : State} {d g f f′ p p′ : List ℕ} (t : TableId) (r : RowId) → x ≡ owner.Row t r
-      → Did (stopOut (outlineOf j) l (t .0) (r .0) (stateOf s)) s n d d g g f f′ p p′ → Did (stepsOut j (stopAt l own) (stateOf s)) s n d d g g f f′ p p′
-  stops-there {s = s} t r q y = rw (← e) (rw q (did-step j (stop l (t .0) (r .0)) (rw (step-stop j l (t .0) (r .0) (stateOf s)) y)))
+module _ (j : Job) (l : ℕ) (x : Owner) where
+  pub stops-there : {m n : Mark} {s k : Counts} {d g f f′ p p′ : List ℕ} (t : TableId) (r : RowId) → x ≡ owner.Row t r
+      → DidMark (t .0) (stopOut (outlineOf j) l (t .0) (r .0)) m n s k d d g g f f′ p p′ → DidMark (tableIn x) (stepsOut j (stopAt l (ownerBy x))) m n s k d d g g f f′ p p′
+  stops-there {m} {s = s} t r q y = rw q (λ high counter h. did-step j (stop l (t .0) (r .0)) (rw (step-stop j l (t .0) (r .0) (stateOf (stateWith (set high (t .0) m) counter s))) (y high counter h)))
 
-  pub stops-not : {d g f p : List ℕ} (s : State) → x ≡ owner.Nothing → Small s → Did (stepsOut j (stopAt l own) (stateOf s)) s s d d g g f f p p
-  stops-not s q h = rw (← e) (rw q (rw (steps-none j (stateOf s)) (did-nothing s h)))
+  pub stops-not : {d g f p : List ℕ} (m : Mark) (s : Counts) → x ≡ owner.Nothing → Within s → DidMark (tableIn x) (stepsOut j (stopAt l (ownerBy x))) m m s s d d g g f f p p
+  stops-not m s q h = rw q (λ high counter k. took-none j (stateWith (set high 0 m) counter s) h .did)
+
+  -- of a state
+  pub stops-in : {n : Mark} {k : Counts} {d g f f′ p p′ : List ℕ} (i : ℕ) (own : Option Row) (s : State) (m : Mark) → ownerBy x ≡ own → i ≡ tableIn x → m ≡ getD (s .high) i noMark → i < length (s .high)
+      → DidMark (tableIn x) (stepsOut j (stopAt l (ownerBy x))) m n (s .counts) k d d g g f f′ p p′
+      → Did (stepsOut j (stopAt l own) (stateOf s)) s (stateWith (set (s .high) i n) (s .counter) k) d d g g f f′ p p′
+  stops-in i own s m e q em h y = rw (← e, q) (did-mark (stepsOut j (stopAt l (ownerBy x))) s (tableIn x) m (rw (← q) em) (rw (← q) h) y)
 
 -- its row is there
 own-row-there : (o : Outline) (k : O.Kind) (c : Context) (t r : ℕ) → Sound o c → ownRow k c ≡ some (record { table = t; row = r }) → r < rowCount o t
@@ -121,6 +132,13 @@ own-known {b} l c x t r R h e q =
     let z = own-row-there (outlineAt b) (kindOf (outlineAt b) l) (contextBy c) (t .0) (r .0) h y in
     (table-small b (R .passed) (t .0) (r .0) z, z)
 
+pub owned : {b idx : List ℕ} (l : ℕ) (c : Kept) (x : Owner) → Ready b idx → Sound (outlineAt b) (contextBy c) → ownerBy x ≡ ownRow (kindOf (outlineAt b) l) (contextBy c) → Owned (outlineAt b) x
+owned {b} l c x R h e = (go x refl, (λ t r q. own-known l c x t r R h e q .1))
+  where
+    go : (y : Owner) → x ≡ y → tableIn y < 16
+    go owner.Nothing q = omega arith
+    go (owner.Row t r) q = own-known l c x t r R h e q .0
+
 -- a table has at most 4,096 rows
 row-few : {b idx : List ℕ} (t r : ℕ) → Ready b idx → r < rowCount (outlineAt b) t → r < 4096
 row-few {b} t r R h = omega (arith, rows-few (jobOf b) t (few (jobOf b) (R .passed .limits) .rows), h)
@@ -128,13 +146,13 @@ row-few {b} t r R h = omega (arith, rows-few (jobOf b) t (few (jobOf b) (R .pass
 -- ---- what a planned segment gives, by its source
 
 gives-nothing : (o : Outline) (l i : ℕ) (xs : List Step) → xs ≡ [] → Gives o l i xs due.Nothing
-gives-nothing o l i xs e = record { steps = e; few = omega arith }
+gives-nothing o l i xs e = record { steps = e; few = omega arith; table = omega arith }
 
 module _ (o : Outline) (l i : ℕ) where
   -- the trigger of a loop with `control`
   module _ (a : Bool) (e : a ≡ (loopOf o l) .controlled) where
     pub gives-opener : a ≡ true → Gives o l i (cond ((loopOf o l) .controlled) (opener l ∷ []) []) due.Opener
-    gives-opener q = record { steps = rw (← e) (rw q refl); few = omega arith }
+    gives-opener q = record { steps = rw (← e) (rw q refl); few = omega arith; table = omega arith }
 
     pub gives-no-opener : a ≡ false → Gives o l i (cond ((loopOf o l) .controlled) (opener l ∷ []) []) due.Nothing
     gives-no-opener q = gives-nothing o l i _ (rw (← e) (rw q refl))
@@ -145,7 +163,7 @@ module _ (o : Outline) (l i : ℕ) where
     row = cond (hasOccurrence o l i && dueRow o l i (t .0) (r .0)) (rowSegment l i (t .0) (r .0) ∷ []) []
 
     pub gives-row : (b : Bool) → b ≡ dueRow o l i (t .0) (r .0) → a ≡ true → b ≡ true → Gives o l i row (due.Row t r)
-    gives-row b eb qa qb = record { steps = rw (← ea, ← eb) (rw (qa, qb) refl); few = omega arith }
+    gives-row b eb qa qb = record { steps = rw (← ea, ← eb) (rw (qa, qb) refl); few = omega arith; table = omega arith }
 
     pub gives-no-row : (b : Bool) → b ≡ dueRow o l i (t .0) (r .0) → a ≡ true → b ≡ false → Gives o l i row due.Nothing
     gives-no-row b eb qa qb = gives-nothing o l i _ (rw (← ea, ← eb) (rw (qa, qb) refl))
@@ -164,8 +182,8 @@ module _ (o : Outline) (l i : ℕ) where
   -- the repeat segments of an instance that a row opened
   module _ (t : TableId) (c : Context) (a : Bool) (ea : a ≡ hasOccurrence o l i) where
     module _ (x : Owner) (e : ownerBy x ≡ ownRow (kindOf o l) c) where
-      gives-repeat : (u : TableId) (p : RowId) → a ≡ true → x ≡ owner.Row u p → p .0 < 4096 → Gives o l i (fromSource o l i c (O.ofRepeat (t .0))) (due.Repeat t p)
-      gives-repeat u p qa q h = record { steps = rw (← ea, ← e) (rw (qa, q) refl); few = h }
+      gives-repeat : (u : TableId) (p : RowId) → a ≡ true → x ≡ owner.Row u p → p .0 < 4096 → t .0 < 16 → Gives o l i (fromSource o l i c (O.ofRepeat (t .0))) (due.Repeat t p)
+      gives-repeat u p qa q h k = record { steps = rw (← ea, ← e) (rw (qa, q) refl); few = h; table = k }
 
       pub ownerless : a ≡ true → x ≡ owner.Nothing → Gives o l i (fromSource o l i c (O.ofRepeat (t .0))) due.Nothing
       ownerless qa q = gives-nothing o l i _ (rw (← ea, ← e) (rw (qa, q) refl))
@@ -174,9 +192,22 @@ module _ (o : Outline) (l i : ℕ) where
     repeat-nameless qa = gives-nothing o l i _ (rw (← ea) (rw qa refl))
 
 pub repeat-there : {b idx : List ℕ} (l i : ℕ) (t : TableId) (c : Kept) (a : Bool) (x : Owner) (u : TableId) (p : RowId) → Ready b idx → Sound (outlineAt b) (contextBy c)
-    → a ≡ hasOccurrence (outlineAt b) l i → ownerBy x ≡ ownRow (kindOf (outlineAt b) l) (contextBy c) → a ≡ true → x ≡ owner.Row u p
+    → a ≡ hasOccurrence (outlineAt b) l i → ownerBy x ≡ ownRow (kindOf (outlineAt b) l) (contextBy c) → a ≡ true → x ≡ owner.Row u p → t .0 < 16
     → Gives (outlineAt b) l i (fromSource (outlineAt b) l i (contextBy c) (O.ofRepeat (t .0))) (due.Repeat t p)
-repeat-there {b} l i t c a x u p R h ea e qa q = gives-repeat (outlineAt b) l i t (contextBy c) a ea x e u p qa q (row-few (u .0) (p .0) R (own-known l c x u p R h e q .1))
+repeat-there {b} l i t c a x u p R h ea e qa q k = gives-repeat (outlineAt b) l i t (contextBy c) a ea x e u p qa q (row-few (u .0) (p .0) R (own-known l c x u p R h e q .1)) k
+
+-- a table with a higher number than there are tables has no rows
+pub repeat-past : {b idx : List ℕ} (l i : ℕ) (t : TableId) (c : Context) → Ready b idx → 16 ≤ t .0 → Gives (outlineAt b) l i (fromSource (outlineAt b) l i c (O.ofRepeat (t .0))) due.Nothing
+unfolding repeatRows
+repeat-past {b} l i t c R h = gives-nothing (outlineAt b) l i _ (go (hasOccurrence (outlineAt b) l i) (ownRow (kindOf (outlineAt b) l) c))
+  where
+    no-row : rowCount (outlineAt b) (t .0) ≡ 0
+    no-row = rows-none b (R .passed) (t .0) h
+
+    go : (a : Bool) (x : Option Row) → cond a (on x (λ p. repeatSteps (outlineAt b) l i (t .0) (p .row)) []) [] ≡ []
+    go false x = refl
+    go true none = refl
+    go true (some p) = repeat-none (outlineAt b) l i (t .0) (p .row) (rw no-row refl)
 
 -- a planned segment gives what its source does
 module _ (j : Job) (l i : ℕ) (c : Context) (n : ℕ) (e : n ≡ length ((A.planOf j l) .segments)) where
@@ -207,9 +238,10 @@ module _ (j : Job) {l i : ℕ} {xs : List Step} {x : Due} (w : Gives (outlineOf 
   pub takes-nothing : {s : State} {d g f p : List ℕ} → x ≡ due.Nothing → Small s → Took j xs s (record { state = s; written = 0 }) d d g g f f p p
   takes-nothing {s = s} q h = rw (w .steps, q) (took-none j s h)
 
-  pub takes-opener : {s n : State} {d d′ g g′ f f′ : List ℕ} → x ≡ due.Opener → ((p : List ℕ) → Did (openerOut j l (stateOf s)) s n d d′ g g′ f f′ p p)
-      → (p : List ℕ) → Took j xs s (record { state = n; written = 1 }) d d′ g g′ f f′ p p
-  takes-opener {s = s} q y p = rw (w .steps, q) (took-one j (opener l) 1 (opener-one l) (rw (step-opener j l (stateOf s)) (y p)))
+  pub takes-opener : {s : State} {a n : ℕ} {k : Counts} {d d′ g g′ f f′ : List ℕ} → x ≡ due.Opener → a ≡ getD (s .counter) l 0 → l < length (s .counter)
+      → ((p : List ℕ) → DidNumber l (openerOut j l) a n (s .counts) k d d′ g g′ f f′ p p)
+      → (p : List ℕ) → Took j xs s (record { state = stateWith (s .high) (set (s .counter) l n) k; written = 1 }) d d′ g g′ f f′ p p
+  takes-opener {s = s} {a} q e h y p = rw (w .steps, q) (took-one j (opener l) 1 (opener-one l) (rw (step-opener j l (stateOf s)) (did-number (openerOut j l) s l a e h (y p))))
 
   pub takes-row : {n : Counts} {d d′ g g′ f f′ : List ℕ} (s : State) (t : TableId) (r : RowId) → x ≡ due.Row t r → ((p : List ℕ) → DidCounts (rowOut j l i (t .0) (r .0)) (s .counts) n d d′ g g′ f f′ p p)
       → (p : List ℕ) → Took j xs s (record { state = stateWith (s .high) (s .counter) n; written = 1 }) d d′ g g′ f f′ p p
@@ -222,9 +254,13 @@ module _ (j : Job) {l i : ℕ} {xs : List Step} {x : Due} (w : Gives (outlineOf 
     pub repeat-room : segmentsIn xs < cap → segmentsIn (repeatSteps (outlineOf j) l i (t .0) (p .0)) < cap
     repeat-room h = rw (w .steps, q) at h
 
-    pub takes-repeat : {s : State} {n : Taken} {d d′ g g′ f f′ v v′ : List ℕ}
-        → Took j (repeatSteps (outlineOf j) l i (t .0) (p .0)) s n d d′ g g′ f f′ v v′ → Took j xs s n d d′ g g′ f f′ v v′
-    takes-repeat y = rw (w .steps, q) y
+    pub repeat-table : t .0 < 16
+    repeat-table = rw q at (w .table)
+
+    pub takes-repeat : {s : State} {m : Mark} {n : Repeated} {d d′ g g′ f f′ v v′ : List ℕ} → m ≡ getD (s .high) (t .0) noMark → t .0 < length (s .high)
+        → Repeats j (repeatSteps (outlineOf j) l i (t .0) (p .0)) (t .0) m (s .counts) n d d′ g g′ f f′ v v′
+        → Took j xs s (record { state = stateWith (set (s .high) (t .0) (n .mark)) (s .counter) (n .counts); written = n .written }) d d′ g g′ f f′ v v′
+    takes-repeat {s} {m} e h y = rw (w .steps, q) (record { did = did-mark (stepsOut j (repeatSteps (outlineOf j) l i (t .0) (p .0))) s (t .0) m e h (y .did); written = y .written })
 
 -- ---- the closer
 
@@ -232,15 +268,25 @@ closer-one : (l : ℕ) (o : Bool) (n m : ℕ) → 1 ≡ segmentsIn (closer l o n
 unfolding segmentsIn
 closer-one l o n m = refl
 
-module _ (j : Job) (l : ℕ) (s : State) (children count : ℕ) (a : Bool) (ea : a ≡ ((loopOf (outlineOf j) l) .ends && (loopOf (outlineOf j) l) .controlled)) where
-  pub takes-closer : {n : State} {d d′ g g′ : List ℕ} (o : Bool) → o ≡ opened (outlineOf j) l → a ≡ true
-      → ((f p : List ℕ) → Did (closerOut j l o children (count + 1) (stateOf s)) s n d d′ g g′ f f p p)
-      → (body : List Step) (f p : List ℕ) → count ≡ segmentsIn body → Took j (closeSteps (outlineOf j) l children body) s (record { state = n; written = 1 }) d d′ g g′ f f p p
+module _ (j : Job) (l number : ℕ) (s : Counts) (children count : ℕ) (a : Bool) (ea : a ≡ ((loopOf (outlineOf j) l) .ends && (loopOf (outlineOf j) l) .controlled)) where
+  pub takes-closer : {n : Counts} {d d′ g g′ : List ℕ} (o : Bool) → o ≡ opened (outlineOf j) l → a ≡ true
+      → ((f p : List ℕ) → DidNumber l (closerOut j l o children (count + 1)) number number s n d d′ g g′ f f p p)
+      → (body : List Step) (f p : List ℕ) → count ≡ segmentsIn body → Closes j (closeSteps (outlineOf j) l children body) l number s (record { counts = n; written = 1 }) d d′ g g′ f f p p
   unfolding closeSteps
   takes-closer o eo qa x body f p ec =
-      rw (← ea, ← eo, ← ec) (rw (qa, ← add-one count) (took-one j (closer l o children (count + 1)) 1 (closer-one l o children (count + 1)) (rw (step-closer j l o children (count + 1) (stateOf s)) (x f p))))
+      rw (← ea, ← eo, ← ec)
+      (rw (qa, ← add-one count)
+      (record {
+        did = λ high counter h. did-step j (closer l o children (count + 1)) (rw (step-closer j l o children (count + 1) (stateOf (stateWith high (set counter l number) s))) (x f p high counter h));
+        written = closer-one l o children (count + 1);
+      }))
 
-  pub leaves-closer : {d g : List ℕ} → a ≡ false → Small s
-      → (body : List Step) (f p : List ℕ) → count ≡ segmentsIn body → Took j (closeSteps (outlineOf j) l children body) s (record { state = s; written = 0 }) d d g g f f p p
-  unfolding closeSteps
-  leaves-closer qa h body f p ec = rw (← ea) (rw qa (took-none j s h))
+  pub leaves-closer : {d g : List ℕ} → a ≡ false → Within s
+      → (body : List Step) (f p : List ℕ) → count ≡ segmentsIn body → Closes j (closeSteps (outlineOf j) l children body) l number s (record { counts = s; written = 0 }) d d g g f f p p
+  unfolding closeSteps segmentsIn
+  leaves-closer qa h body f p ec = rw (← ea) (rw qa (record { did = λ high counter k. took-none j (stateWith high (set counter l number) s) h .did; written = refl }))
+
+-- what a closer came to, of a state
+pub took-closer : {d d₁ g g₁ f f₁ p p₁ : List ℕ} (j : Job) (xs : List Step) (l a : ℕ) (s : State) (r : Closed) → a ≡ getD (s .counter) l 0 → l < length (s .counter)
+    → Closes j xs l a (s .counts) r d d₁ g g₁ f f₁ p p₁ → Took j xs s (record { state = stateWith (s .high) (s .counter) (r .counts); written = r .written }) d d₁ g g₁ f f₁ p p₁
+took-closer j xs l a s r e h x = record { did = rw (e, set-getD (s .counter) l 0) at (x .did (s .high) (s .counter) h); written = x .written }

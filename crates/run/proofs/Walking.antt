@@ -41,10 +41,6 @@ use Rattle.nest.proofs.Bridge.{order-length, order-item}
 use Rattle.run.proofs.Few.{instances-few, children-few}
 use Rattle.run.proofs.Along.{Along, along-none, along-next, along-end, along-room}
 
--- the same from another state on
-pub walks-on : {b idx n : List ℕ} {s t : State} {l : ℕ} {c : Kept} → Walks b idx n s l c → Small t → Walks b idx n t l c
-walks-on w h = record { nested = w .nested; small = h; sound = w .sound; loop = w .loop }
-
 pub went-as : {j : Job} {xs : List Step} {n : ℕ} {s : State} {r v : Visited} {d d₁ g g₁ f f₁ p p₁ : List ℕ} → r ≡ v → Went j xs n s v d d₁ g g₁ f f₁ p p₁ → Went j xs n s r d d₁ g g₁ f f₁ p p₁
 went-as e x = rw e x
 

@@ -1,7 +1,6 @@
 // The closer of an instance.
 use crate::segments;
-use emit::state::State;
-use emit::state::Taken;
+use emit::state::Counts;
 use spec::ids::LoopId;
 use spec::ids::Text;
 ghost use mathlib.Core.Path.{_≡_};
@@ -13,7 +12,8 @@ ghost use Rattle.lent.specs.Fit.{cap};
 ghost use Rattle.nest.specs.Outline.{loopOf};
 ghost use Rattle.nest.specs.Ready.{Ready, outlineAt};
 ghost use Rattle.walk.specs.Tour.{Step, segmentsIn, closeSteps};
-ghost use Rattle.emit.specs.Did.{Small, Took};
+ghost use Rattle.emit.specs.Did.{Within};
+ghost use Rattle.run.specs.Went.{Closes};
 
 // Whether a loop has `end`.
 fn ends(job: &[u8], index: &[u32], l: LoopId) -> bool
@@ -39,32 +39,50 @@ fn closes(job: &[u8], index: &[u32], l: LoopId) -> bool
     false
 }
 
-// The closer of an instance with so many child instances, behind so many segments of its own: it counts itself.
+// The counts behind a closer, and how many segments it is.
+pub struct Closed {
+    pub counts: Counts,
+    pub written: usize,
+}
+
+// The closer of an instance with so many child instances, behind so many segments of its own: it counts itself. `number` is the loop's next.
 pub fn close(
     job: &[u8],
     index: &[u32],
     doc: &mut [u8],
     segments: &mut [u64],
-    s: State,
+    s: Counts,
+    number: u64,
     l: LoopId,
     children: usize,
     count: usize,
-) -> Taken
-    requires { ⌜ Ready (now job) (now index) × Small s × (l .0 < 32) × (count < cap) ⌝ }
-    ensures { λ r. ⌜ ((body : List Step) (f p : List ℕ) → count ≡ segmentsIn body → Took (jobOf (now (job .entry))) (closeSteps (outlineAt (now (job .entry))) (l .0) children body) s r
+) -> Closed
+    requires { ⌜ Ready (now job) (now index) × Within s × (l .0 < 32) × (count < cap) ⌝ }
+    ensures { λ r. ⌜ ((body : List Step) (f p : List ℕ) → count ≡ segmentsIn body → Closes (jobOf (now (job .entry))) (closeSteps (outlineAt (now (job .entry))) (l .0) children body) (l .0) number s r
         (now (doc .entry)) (now (doc .exit)) (now (segments .entry)) (now (segments .exit)) f f p p) ⌝ }
 {
     let last = closes(job, index, l);
     if last {
         let opened = due::opened(job, index, l);
-        let n = trigger::write_close(job, index, doc, segments, s, l, opened, children, count + 1);
-        return Taken {
-            state: n,
+        let n = trigger::write_close(
+            job,
+            index,
+            doc,
+            segments,
+            s,
+            number,
+            l,
+            opened,
+            children,
+            count + 1,
+        );
+        return Closed {
+            counts: n,
             written: 1,
         };
     }
-    Taken {
-        state: s,
+    Closed {
+        counts: s,
         written: 0,
     }
 }

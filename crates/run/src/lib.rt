@@ -1,6 +1,8 @@
 // The walk that writes: every instance of a loop that the rows give, its segments and child loops in the order of the layout, and its closer.
 use crate::closing::close;
 use crate::own::enter_own;
+use crate::own::own_row;
+use crate::own::table_in;
 use crate::segments::Due;
 use crate::segments::segment_due;
 use emit::state::State;
@@ -82,7 +84,15 @@ fn visits(
         let more = next.more;
         if more {
             let d = context_in(cur, next);
-            let w = instance(
+            let own = own_row(job, index, l, d);
+            let i = table_in(own);
+            let m = t.high[i];
+            let e = enter_own(job, index, nest, findings, stops, m, t.counts, l, own);
+            let mark = e.mark;
+            let counts = e.counts;
+            t.high[i] = mark;
+            t.counts = counts;
+            let v = items(
                 job,
                 index,
                 nest,
@@ -95,8 +105,24 @@ fn visits(
                 d,
                 height - 1,
             );
+            let w = v.taken;
             t = w.state;
-            written += w.written;
+            let k = l.0 as usize;
+            let number = t.counter[k];
+            let last = close(
+                job,
+                index,
+                doc,
+                segments,
+                t.counts,
+                number,
+                l,
+                v.instances,
+                w.written,
+            );
+            let behind = last.counts;
+            t.counts = behind;
+            written += w.written + last.written;
             n += 1;
             cur.kind = next.kind;
             cur.seen = next.seen;
@@ -104,56 +130,6 @@ fn visits(
         } else {
             return tally(t, written, n);
         }
-    }
-}
-
-// One instance: its stop, its items and its closer.
-fn instance(
-    job: &[u8],
-    index: &[u32],
-    nest: &[u32],
-    doc: &mut [u8],
-    segments: &mut [u64],
-    findings: &mut [u64],
-    stops: &mut [u64],
-    s: State,
-    l: LoopId,
-    c: Context,
-    height: u32,
-) -> Taken
-    requires { ⌜ Walks (now job) (now index) (now nest) s (l .0) c × (T.segmentsIn (T.instanceSteps (I.instances (outlineAt (now job)) height) (T.visits (outlineAt (now job)) height) (outlineAt (now job)) (l .0) (contextBy c)) < cap) ⌝ }
-    ensures { λ r. ⌜ Took (jobOf (now (job .entry))) (T.instanceSteps (I.instances (outlineAt (now (job .entry))) height) (T.visits (outlineAt (now (job .entry))) height) (outlineAt (now (job .entry))) (l .0) (contextBy c)) s r
-        (now (doc .entry)) (now (doc .exit)) (now (segments .entry)) (now (segments .exit)) (now (findings .entry)) (now (findings .exit)) (now (stops .entry)) (now (stops .exit)) ⌝ }
-{
-    let begun = enter_own(job, index, nest, findings, stops, s, l, c);
-    let v = items(
-        job,
-        index,
-        nest,
-        doc,
-        segments,
-        findings,
-        stops,
-        begun,
-        l,
-        c,
-        height,
-    );
-    let w = v.taken;
-    let last = close(
-        job,
-        index,
-        doc,
-        segments,
-        w.state,
-        l,
-        v.instances,
-        w.written,
-    );
-    let t = last.state;
-    Taken {
-        state: t,
-        written: w.written + last.written,
     }
 }
 
@@ -191,7 +167,22 @@ fn items(
                 match due {
                     Due::Nothing => {}
                     Due::Opener => {
-                        t = write_opener(job, index, doc, segments, findings, t, l);
+                        let b = l.0 as usize;
+                        let number = t.counter[b];
+                        let o = write_opener(
+                            job,
+                            index,
+                            doc,
+                            segments,
+                            findings,
+                            t.counts,
+                            number,
+                            l,
+                        );
+                        let after = o.number;
+                        let counts = o.counts;
+                        t.counter[b] = after;
+                        t.counts = counts;
                         written += 1;
                     }
                     Due::Row(u, r) => {
@@ -211,6 +202,8 @@ fn items(
                         written += 1;
                     }
                     Due::Repeat(u, p) => {
+                        let at = u.0 as usize;
+                        let m = t.high[at];
                         let w = write_repeats(
                             job,
                             index,
@@ -219,13 +212,17 @@ fn items(
                             segments,
                             findings,
                             stops,
-                            t,
+                            m,
+                            t.counts,
                             l,
                             i,
                             u,
                             p,
                         );
-                        t = w.state;
+                        let mark = w.mark;
+                        let counts = w.counts;
+                        t.high[at] = mark;
+                        t.counts = counts;
                         written += w.written;
                     }
                 }

@@ -1,5 +1,7 @@
 // The row that opened an instance of a `Rows` loop.
-use emit::state::State;
+use emit::state::Counts;
+use emit::state::Mark;
+use enter::Entered;
 use nest::Found;
 use spec::ids::LoopId;
 use spec::ids::Number;
@@ -16,10 +18,11 @@ ghost use Rattle.nest.specs.Outline.{kindOf};
 ghost use Rattle.nest.specs.Nest.{rowOf};
 ghost use Rattle.nest.specs.Ready.{Ready, outlineAt};
 ghost use Rattle.walk.specs.Contexts.{contextBy};
+ghost use Rattle.walk.specs.Nested.{Nested};
 ghost use Rattle.walk.specs.Tour.{ownRow, stopAt};
 ghost use Rattle.emit.specs.Fold.{stepsOut};
-ghost use Rattle.emit.specs.Did.{stateOf, Did};
-ghost use Rattle.run.specs.Went.{Walks, ownerBy};
+ghost use Rattle.emit.specs.Did.{DidMark, Within};
+ghost use Rattle.run.specs.Went.{Owned, ownerBy, tableIn};
 
 pub enum Owner {
     Row(TableId, RowId),
@@ -59,24 +62,34 @@ pub fn own_row(job: &[u8], index: &[u32], l: LoopId, c: Context) -> Owner
     }
 }
 
-// An instance of a `Rows` loop stops at the row that opened it.
+// The table of the row that opened an instance, 0 where none did.
+pub fn table_in(own: Owner) -> usize
+    ensures { λ n. ⌜ n ≡ tableIn own ⌝ }
+{
+    match own {
+        Owner::Row(t, _) => t.0 as usize,
+        Owner::Nothing => 0,
+    }
+}
+
+// An instance of a `Rows` loop stops at the row that opened it, where m is the highest row of the row's table.
 pub fn enter_own(
     job: &[u8],
     index: &[u32],
     nest: &[u32],
     findings: &mut [u64],
     stops: &mut [u64],
-    s: State,
+    m: Mark,
+    c: Counts,
     l: LoopId,
-    c: Context,
-) -> State
-    requires { ⌜ Walks (now job) (now index) (now nest) s (l .0) c ⌝ }
-    ensures { λ n. ⌜ ((d g : List ℕ) → Did (stepsOut (jobOf (now (job .entry))) (stopAt (l .0) (ownRow (kindOf (outlineAt (now (job .entry))) (l .0)) (contextBy c))) (stateOf s)) s n d d g g
+    own: Owner,
+) -> Entered
+    requires { ⌜ Nested (now job) (now index) (now nest) × Within c × Owned (outlineAt (now job)) own ⌝ }
+    ensures { λ n. ⌜ ((d g : List ℕ) → DidMark (tableIn own) (stepsOut (jobOf (now (job .entry))) (stopAt (l .0) (ownerBy own))) m (n .mark) c (n .counts) d d g g
         (now (findings .entry)) (now (findings .exit)) (now (stops .entry)) (now (stops .exit))) ⌝ }
 {
-    let own = own_row(job, index, l, c);
     match own {
-        Owner::Row(t, r) => enter::enter(job, index, nest, findings, stops, s, l, t, r),
-        Owner::Nothing => s,
+        Owner::Row(t, r) => enter::enter(job, index, nest, findings, stops, m, c, l, t, r),
+        Owner::Nothing => Entered { mark: m, counts: c },
     }
 }

@@ -94,6 +94,9 @@ fn repeat_due(
     requires { ⌜ Ready (now job) (now index) × Sound (outlineAt (now job)) (contextBy c) × (l .0 < 32) × PlannedIs (now job) (l .0) i s ⌝ }
     ensures { λ d. ⌜ Gives (outlineAt (now (job .entry))) (l .0) i (fromSource (outlineAt (now (job .entry))) (l .0) i (contextBy c) (ofRepeat (t .0))) d ⌝ }
 {
+    if 16 <= t.0 {
+        return Due::Nothing;
+    }
     let named = due::has_occurrence(job, index, l, i, s);
     if named {
         let own = own::own_row(job, index, l, c);

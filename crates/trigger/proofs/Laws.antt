@@ -4,6 +4,7 @@ use mathlib.Core.Path.{_≡_, refl, sym, ap, _∙_}
 use mathlib.Core.Bool.{Bool}
 use mathlib.Core.List.{List, []}
 use mathlib.Core.Option.{Option, none, some}
+use lib.ListN.{getD}
 use Rattle.format.specs.Spec.{Control}
 use Rattle.format.specs.Job.{Job}
 use Rattle.format.specs.Ask.{loopOf, minOf}
@@ -18,7 +19,7 @@ use Rattle.segment.specs.Parts.{pick}
 use Rattle.texts.specs.Pad.{controlText}
 use Rattle.emit.specs.Envelope.{minIn, closerPut, controlIn}
 use Rattle.emit.specs.Fold as F
-use Rattle.emit.specs.Fold.{Out, quiet, segmentOut, closerOut, openerOut, taken, countOf}
+use Rattle.emit.specs.Fold.{Out, quiet, segmentOut, closerOut, openerOut, previous, countOf}
 
 pub control-is : (j : Job) (l opener number : ℕ) (trigger text : List ℕ) (min : Option ℕ) → trigger ≡ (loopOf j l) .trigger → min ≡ minOf j trigger opener → text ≡ controlText number (minIn min)
     → (k : Control) → k .opener ≡ opener → text ≡ controlIn j l k number
@@ -34,10 +35,10 @@ module _ (j : Job) (l : ℕ) (opened : Bool) (children count : ℕ) (s : F.State
   unfolding closerOut
   close-endless c e f = rw (e, f)
 
-  pub close-is : (c : Control) (id control : List ℕ) (n : ℕ) → (loopOf j l) .control ≡ some c → (loopOf j l) .end ≡ some id → control ≡ pick opened (controlIn j l c (taken l s)) [] → n ≡ countOf (c .counted) children count
+  pub close-is : (c : Control) (id control : List ℕ) (number n : ℕ) → (loopOf j l) .control ≡ some c → (loopOf j l) .end ≡ some id → getD (s .counter) l 0 ≡ number → control ≡ pick opened (controlIn j l c (previous number)) [] → n ≡ countOf (c .counted) children count
       → closerOut j l opened children count s ≡ segmentOut j id ((closerPut c control n) .parts) ((closerPut c control n) .findings) ((closerPut c control n) .entries) none s
   unfolding closerOut
-  close-is c id control n e f g h = rw (e, f, g, h)
+  close-is c id control number n e f q g h = rw (e, f, q, g, h)
 
 -- ---- what an answer says, by its case
 

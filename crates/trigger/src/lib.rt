@@ -5,8 +5,8 @@ use crate::opener::put_opener;
 use emit::closer;
 use emit::signs;
 use emit::state;
+use emit::state::Counts;
 use emit::state::From;
-use emit::state::State;
 use segment::Value;
 use spec::ids::ControlRule;
 use spec::ids::Controls;
@@ -24,8 +24,8 @@ ghost use Rattle.segment.specs.Parts.{pick};
 ghost use Rattle.segment.specs.Pen.{valueText};
 ghost use Rattle.nest.specs.Ready.{Ready};
 ghost use Rattle.emit.specs.Envelope.{controlIn};
-ghost use Rattle.emit.specs.Fold.{taken, countOf, openerOut, closerOut};
-ghost use Rattle.emit.specs.Did.{stateOf, Did, Small};
+ghost use Rattle.emit.specs.Fold.{next, previous, countOf, openerOut, closerOut};
+ghost use Rattle.emit.specs.Did.{DidNumber, Within};
 ghost use Rattle.trigger.specs.Drawn.{Framed};
 
 pub mod given;
@@ -62,35 +62,31 @@ fn open_loop(
     doc: &mut [u8],
     segments: &mut [u64],
     findings: &mut [u64],
-    s: State,
+    s: Counts,
+    number: u64,
     l: LoopId,
     opener: u32,
-) -> State
-    requires { ⌜ Ready (now job) (now index) × Small s × (l .0 < 32) ⌝ }
+) -> Counts
+    requires { ⌜ Ready (now job) (now index) × Within s × (l .0 < 32) ⌝ }
     ensures { λ n. ⌜ ((k : Control) (p : List ℕ) → k .opener ≡ opener → (loopOf (jobOf (now (job .entry))) (l .0)) .control ≡ some k
-        → Did (openerOut (jobOf (now (job .entry))) (l .0) (stateOf s)) s n (now (doc .entry)) (now (doc .exit)) (now (segments .entry)) (now (segments .exit)) (now (findings .entry)) (now (findings .exit)) p p) ⌝ }
+        → DidNumber (l .0) (openerOut (jobOf (now (job .entry))) (l .0)) number (next number) s n (now (doc .entry)) (now (doc .exit)) (now (segments .entry)) (now (segments .exit)) (now (findings .entry)) (now (findings .exit)) p p) ⌝ }
 {
-    let number = state::number_of(s, l);
     let w = frame_of(job, index, l, opener, number);
-    let put = put_opener(
-        job,
-        index,
-        doc,
-        findings,
-        w,
-        s.counts.bytes,
-        s.counts.findings,
-    );
-    let mut n = state::take_number(s, l);
-    n.counts = state::finish_segment(
+    let put = put_opener(job, index, doc, findings, w, s.bytes, s.findings);
+    state::finish_segment(
         segments,
-        s.counts,
+        s,
         From::Envelope,
         put.entries,
         put.bytes,
         put.findings,
-    );
-    n
+    )
+}
+
+// The counts, and the loop's next control number.
+pub struct Numbered {
+    pub counts: Counts,
+    pub number: u64,
 }
 
 // The trigger of loop l, with the loop's next control number.
@@ -100,19 +96,25 @@ pub fn write_opener(
     doc: &mut [u8],
     segments: &mut [u64],
     findings: &mut [u64],
-    s: State,
+    s: Counts,
+    number: u64,
     l: LoopId,
-) -> State
-    requires { ⌜ Ready (now job) (now index) × Small s × (l .0 < 32) ⌝ }
-    ensures { λ n. ⌜ ((p : List ℕ) → Did (openerOut (jobOf (now (job .entry))) (l .0) (stateOf s)) s n (now (doc .entry)) (now (doc .exit)) (now (segments .entry)) (now (segments .exit)) (now (findings .entry)) (now (findings .exit)) p p) ⌝ }
+) -> Numbered
+    requires { ⌜ Ready (now job) (now index) × Within s × (l .0 < 32) ⌝ }
+    ensures { λ n. ⌜ ((p : List ℕ) → DidNumber (l .0) (openerOut (jobOf (now (job .entry))) (l .0)) number (n .number) s (n .counts) (now (doc .entry)) (now (doc .exit)) (now (segments .entry)) (now (segments .exit)) (now (findings .entry)) (now (findings .exit)) p p) ⌝ }
 {
     let control = spec::loops::control(job, index, l);
     match control {
         Controls::None => {
-            return s;
+            return Numbered { counts: s, number };
         }
         Controls::Is(c) => {
-            return open_loop(job, index, doc, segments, findings, s, l, c.opener);
+            let counts = open_loop(job, index, doc, segments, findings, s, number, l, c.opener);
+            let after = state::next_number(number);
+            return Numbered {
+                counts,
+                number: after,
+            };
         }
     }
 }
@@ -129,14 +131,14 @@ fn counted(kids: bool, children: usize, count: usize) -> u64
     count as u64
 }
 
-// The control number that a closer repeats; empty where no opener was written.
-fn repeated(job: &[u8], index: &[u32], s: State, l: LoopId, opener: u32, opened: bool) -> Value
+// The control number that a closer repeats, where `number` is the loop's next; empty where no opener was written.
+fn repeated(job: &[u8], index: &[u32], number: u64, l: LoopId, opener: u32, opened: bool) -> Value
     requires { ⌜ Ready (now job) (now index) × (l .0 < 32) ⌝ }
-    ensures { λ v. ⌜ ((k : Control) → k .opener ≡ opener → valueText (now (job .entry)) v ≡ pick opened (controlIn (jobOf (now (job .entry))) (l .0) k (taken (l .0) (stateOf s))) []) ⌝ }
+    ensures { λ v. ⌜ ((k : Control) → k .opener ≡ opener → valueText (now (job .entry)) v ≡ pick opened (controlIn (jobOf (now (job .entry))) (l .0) k (previous number)) []) ⌝ }
 {
     if opened {
-        let number = state::taken_number(s, l);
-        return control_in(job, index, l, opener, number);
+        let last = state::last_number(number);
+        return control_in(job, index, l, opener, last);
     }
     segment::held(0, 0)
 }
@@ -146,15 +148,16 @@ fn close_loop(
     index: &[u32],
     doc: &mut [u8],
     segments: &mut [u64],
-    s: State,
+    s: Counts,
+    number: u64,
     l: LoopId,
     c: ControlRule,
     opened: bool,
     children: usize,
     count: usize,
-) -> State
-    requires { ⌜ Ready (now job) (now index) × Small s × (l .0 < 32) × ((loopOf (jobOf (now job)) (l .0)) .control ≡ some (ruleOf c)) ⌝ }
-    ensures { λ n. ⌜ ((f p : List ℕ) → Did (closerOut (jobOf (now (job .entry))) (l .0) opened children count (stateOf s)) s n (now (doc .entry)) (now (doc .exit)) (now (segments .entry)) (now (segments .exit)) f f p p) ⌝ }
+) -> Counts
+    requires { ⌜ Ready (now job) (now index) × Within s × (l .0 < 32) × ((loopOf (jobOf (now job)) (l .0)) .control ≡ some (ruleOf c)) ⌝ }
+    ensures { λ n. ⌜ ((f p : List ℕ) → DidNumber (l .0) (closerOut (jobOf (now (job .entry))) (l .0) opened children count) number number s n (now (doc .entry)) (now (doc .exit)) (now (segments .entry)) (now (segments .exit)) f f p p) ⌝ }
 {
     let end = spec::loops::loop_end(job, index, l);
     match end {
@@ -162,15 +165,14 @@ fn close_loop(
             return s;
         }
         Text::Is(id) => {
-            let control = repeated(job, index, s, l, c.opener, opened);
+            let control = repeated(job, index, number, l, c.opener, opened);
             let n = counted(c.children, children, count);
             let sep = signs::separators_of(job, index);
-            let mut u = s;
-            u.counts = closer::write_closer(
+            return closer::write_closer(
                 doc,
                 segments,
                 job,
-                s.counts,
+                s,
                 sep,
                 id.start,
                 id.len,
@@ -179,7 +181,6 @@ fn close_loop(
                 c.count as usize,
                 n,
             );
-            return u;
         }
     }
 }
@@ -190,14 +191,15 @@ pub fn write_close(
     index: &[u32],
     doc: &mut [u8],
     segments: &mut [u64],
-    s: State,
+    s: Counts,
+    number: u64,
     l: LoopId,
     opened: bool,
     children: usize,
     count: usize,
-) -> State
-    requires { ⌜ Ready (now job) (now index) × Small s × (l .0 < 32) ⌝ }
-    ensures { λ n. ⌜ ((f p : List ℕ) → Did (closerOut (jobOf (now (job .entry))) (l .0) opened children count (stateOf s)) s n (now (doc .entry)) (now (doc .exit)) (now (segments .entry)) (now (segments .exit)) f f p p) ⌝ }
+) -> Counts
+    requires { ⌜ Ready (now job) (now index) × Within s × (l .0 < 32) ⌝ }
+    ensures { λ n. ⌜ ((f p : List ℕ) → DidNumber (l .0) (closerOut (jobOf (now (job .entry))) (l .0) opened children count) number number s n (now (doc .entry)) (now (doc .exit)) (now (segments .entry)) (now (segments .exit)) f f p p) ⌝ }
 {
     let control = spec::loops::control(job, index, l);
     match control {
@@ -205,7 +207,19 @@ pub fn write_close(
             return s;
         }
         Controls::Is(c) => {
-            return close_loop(job, index, doc, segments, s, l, c, opened, children, count);
+            return close_loop(
+                job,
+                index,
+                doc,
+                segments,
+                s,
+                number,
+                l,
+                c,
+                opened,
+                children,
+                count,
+            );
         }
     }
 }

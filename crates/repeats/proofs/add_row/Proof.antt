@@ -1,12 +1,13 @@
+-- `repeats::add_row` meets its contract. Assumes nothing.
 use native.Mathlib.Omega.{arith}
 use Prim.Native.Nat.{_≤_}
+use mathlib.Core.List.{[]}
 use lib.ListN.{length}
 use denote.Ref.{now}
 use Rattle.lent.specs.Fit.{cap, wide}
+use Rattle.emit.specs.Fold.{stopOut}
 use Rattle.repeats.proofs.RowLaws.{table-small}
-use Rattle.repeats.proofs.Adding.{row-added}
-use Rattle.emit.proofs.DidLaws.{did-small}
-use mathlib.Core.List.{[]}
+use Rattle.repeats.proofs.Adding.{row-added, mark-small}
 use borrow.Author.Needs.{needs}
 use Rattle.repeats.proofs.add_row.Statement.{statement}
 use Rattle.repeats.proofs.add_row.Tie as tie
@@ -21,7 +22,7 @@ enter-requires : tie.Need-enter-requires
 enter-requires c κs = (c .before .before .before .before .before .before .before .before .pre .0, c .before .before .before .before .before .before .before .before .pre .1, table-small (c .before .before .before .before .before .before .before .before .pre .0 .ready) _ _ (c .before .before .before .before .before .before .before .before .pre .3), c .before .before .before .before .before .before .before .before .pre .3)
 
 fill-row-requires : tie.Need-fill-row-requires
-fill-row-requires c κs = (c .before .before .before .before .before .before .before .before .before .before .before .before .before .before .pre .0 .ready, did-small (c .before .before .before .before .before .enter .ensures [] []), c .before .before .before .before .before .before .before .before .before .before .before .before .before .before .pre .2, c .before .before .before .before .before .before .before .before .before .before .before .before .before .before .pre .4)
+fill-row-requires c κs = (c .before .before .before .before .before .before .before .before .before .before .before .before .before .before .pre .0 .ready, mark-small _ (stopOut _ _ _ _) (c .before .before .before .before .before .enter .ensures [] []), c .before .before .before .before .before .before .before .before .before .before .before .before .before .before .pre .2, c .before .before .before .before .before .before .before .before .before .before .before .before .before .before .pre .4)
 
 same-length : tie.Need-same-length
 same-length c = search needs

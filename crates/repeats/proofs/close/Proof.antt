@@ -1,3 +1,4 @@
+-- `repeats::close` meets its contract. Assumes nothing.
 use mathlib.Core.Path.{refl}
 use Rattle.repeats.proofs.Adding.{chunk-closed}
 use borrow.Author.Needs.{needs}
@@ -20,9 +21,15 @@ same-length-2 : tie.Need-same-length-2
 same-length-2 c = search needs
 
 returns : tie.Need-returns
-returns c = ((λ f p. chunk-closed _ _ _ _ _ _ (c .before .before .before .before .before .write-chunk .ensures f p)), refl)
+returns c = ((λ f p. chunk-closed _ _ _ _ _ _ _ (c .before .before .before .before .before .before .write-chunk .ensures f p)), refl)
 
 pub close-spec : {M : Type 1} → statement M
 close-spec =
     tie.close
-    (tie.spec cast-count write-chunk-requires add-written same-length same-length-2 returns)
+    (tie.spec
+    cast-count
+    write-chunk-requires
+    add-written
+    same-length
+    same-length-2
+    returns)

@@ -23,7 +23,7 @@ begin-requires : tie.Need-begin-requires
 begin-requires c κs = let a = c .before .before .before .before .before .before .before .before .before .before .before .before .before .before .before .before .before .before .before .args in let v = c .before .before .before .before .before .before .before .before .before .before .part-of .result in let y = next-found (hookedAt (now (a .nest)) (v .table .base) (a .l .0) (a .p .0)) (v .from) (v .table .rows) _ (c .before .before .before .before .before .before .before .before .next-hooked .ensures) _ (c .before .before .before .before .before .before .f .given .1) in (c .before .before .before .before .before .before .before .before .before .before .before .before .before .before .before .before .before .before .before .pre .0, c .before .before .before .before .before .before .before .before .before .before .before .before .before .before .before .before .before .before .before .pre .1, c .before .before .before .before .before .before .before .before .before .before .before .before .before .before .before .before .before .before .before .pre .2, c .before .before .before .before .before .before .before .before .before .before .before .before .before .before .before .before .before .before .before .pre .3, c .before .before .before .before .before .before .before .before .before .before .part-of .ensures (a .l .0) .is, y .within, c .before .before .before .before .before .before .before .before .before .before .before .before .before .before .before .before .before .before .before .pre .4, hooked-few _ _ _ _ _ (c .before .before .before .before .before .before .before .before .before .before .part-of .ensures (a .l .0)) _ y (c .before .before .before .before .before .before .before .before .before .before .before .before .before .before .before .before .before .before .before .pre .6))
 
 returns : tie.Need-returns
-returns c = let a = c .before .before .before .before .before .before .before .before .before .before .before .before .before .args in let v = c .before .before .before .before .part-of .result in took-nothing _ _ _ (c .before .before .before .before .before .before .before .before .before .before .before .before .before .pre .0) _ _ _ _ _ (c .before .before .before .before .before .before .before .before .before .before .before .before .before .pre .1) (hooked-none _ (a .i) _ _ _ (c .before .before .before .before .part-of .ensures (a .l .0)) (next-none (hookedAt (now (a .nest)) (v .table .base) (a .l .0) (a .p .0)) (v .from) (v .table .rows) _ (c .before .before .next-hooked .ensures) (c .enum-told .given .1)))
+returns c = let a = c .before .before .before .before .before .before .before .before .before .before .before .before .before .args in let v = c .before .before .before .before .part-of .result in took-nothing _ _ _ (c .before .before .before .before .before .before .before .before .before .before .before .before .before .pre .0) _ _ _ _ _ _ (c .before .before .before .before .before .before .before .before .before .before .before .before .before .pre .1) (hooked-none _ (a .i) _ _ _ (c .before .before .before .before .part-of .ensures (a .l .0)) (next-none (hookedAt (now (a .nest)) (v .table .base) (a .l .0) (a .p .0)) (v .from) (v .table .rows) _ (c .before .before .next-hooked .ensures) (c .enum-told .given .1)))
 
 same-length : tie.Need-same-length
 same-length c = search needs

@@ -31,7 +31,7 @@ returns : tie.Need-returns
 returns c = search needs
 
 returns-2 : tie.Need-returns-2
-returns-2 c = took-nothing _ _ _ (c .before .before .before .before .before .before .before .before .before .pre .0) _ _ _ _ _ (c .before .before .before .before .before .before .before .before .before .pre .1) (rows-plain _ _ _ _ _ (c .before .repeats .ensures) (c .if1 .left))
+returns-2 c = took-nothing _ _ _ (c .before .before .before .before .before .before .before .before .before .pre .0) _ _ _ _ _ _ (c .before .before .before .before .before .before .before .before .before .pre .1) (rows-plain _ _ _ _ _ (c .before .repeats .ensures) (c .if1 .left))
 
 pub write-repeats-spec : {M : Type 1} → statement M
 write-repeats-spec =

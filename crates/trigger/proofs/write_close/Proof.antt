@@ -4,10 +4,6 @@ use Rattle.emit.proofs.DidLaws.{did-nothing}
 use borrow.Author.Needs.{needs}
 use Rattle.trigger.proofs.write_close.Statement.{statement}
 use Rattle.trigger.proofs.write_close.Tie as tie
-use Rattle.trigger.proofs.write_close.Reads as reads
-use Rattle.trigger.proofs.write_close.Lts as lts
-use Rattle.spec.proofs.loops.control.Reads as control-reads
-use Rattle.trigger.proofs.close_loop.Reads as close-loop-reads
 
 control-requires : tie.Need-control-requires
 control-requires c κs = search needs
@@ -16,7 +12,7 @@ enum-told : tie.Need-enum-told
 enum-told c = search needs
 
 returns : tie.Need-returns
-returns c = λ f p. rw (close-uncontrolled _ _ _ _ _ _ (control-gone _ _ (c .before .before .control .ensures) (c .enum-told .given .1))) (did-nothing _ (c .before .before .before .before .before .before .before .pre .1))
+returns c = λ f p high counter h. rw (close-uncontrolled _ _ _ _ _ _ (control-gone _ _ (c .before .before .control .ensures) (c .enum-told .given .1))) (did-nothing _ (c .before .before .before .before .before .before .before .pre .1))
 
 enum-known-control : tie.Need-enum-known-control
 enum-known-control c = search needs

@@ -1,3 +1,4 @@
+-- `run::closing::close` meets its contract. Assumes nothing.
 use Rattle.run.proofs.Taking.{takes-closer, leaves-closer}
 use borrow.Author.Needs.{needs}
 use Rattle.run.proofs.closing.close.Statement.{statement}
@@ -22,10 +23,10 @@ same-length-2 : tie.Need-same-length-2
 same-length-2 c = search needs
 
 returns : tie.Need-returns
-returns c = takes-closer _ _ _ _ _ _ (c .before .before .before .before .before .before .before .before .before .closes .ensures) _ (c .before .before .before .before .before .before .before .opened .ensures) (c .before .before .before .before .before .before .before .before .if1 .taken) (c .before .before .before .before .write-close .ensures)
+returns c = takes-closer _ _ _ _ _ _ _ (c .before .before .before .before .before .before .before .before .before .closes .ensures) _ (c .before .before .before .before .before .before .before .opened .ensures) (c .before .before .before .before .before .before .before .before .if1 .taken) (c .before .before .before .before .write-close .ensures)
 
 returns-2 : tie.Need-returns-2
-returns-2 c = leaves-closer _ _ _ _ _ _ (c .before .closes .ensures) (c .if1 .left) (c .before .before .before .before .before .before .pre .1)
+returns-2 c = leaves-closer _ _ _ _ _ _ _ (c .before .closes .ensures) (c .if1 .left) (c .before .before .before .before .before .before .pre .1)
 
 pub close-spec : {M : Type 1} → statement M
 close-spec =
