@@ -15,10 +15,10 @@ use Rattle.codec.specs.Forms.{numC, bytesC, optC, flagC}
 use Rattle.codec.specs.Field.{is-map, is-enum, is-le, is-none, is-some, is-list, room-of, count-of}
 use Rattle.codec.specs.Ways.{tag-in, skip-opt, opt-none, opt-some, skip-flag, case-in}
 use Rattle.codec.specs.Answers.{skip-les, byte-item}
-use Rattle.format.specs.Plan.{Instances, absent, enveloped, rowsOf, inside, groupsOf, implied, instancesC, Source, fromEnvelope, fromRow, fromRepeat, sourceC, Value, fromColumn, fromGroup, fromCode, valueC, ElementPlan as ElementPlanIn, elementPlanC, SegmentPlan, segmentPlanC}
+use Rattle.format.specs.Plan.{Instances, absent, enveloped, rowsOf, inside, groupsOf, implied, instancesC, Source, fromEnvelope, fromRow, fromRepeat, sourceC, Value, fromColumn, fromGroup, fromCode, valueC, ElementPlan as ElementPlanIn, elementPlanC, SegmentPlan, segmentPlanC, LoopPlan}
 use Rattle.format.specs.Layout.{Item, segmentItem, loopItem, itemC}
-use Rattle.format.specs.Fields.{instances-tag, is-rowsOf, is-inside, is-groupsOf, source-tag, is-fromRow, is-fromRepeat, value-tag, is-fromColumn, is-fromGroup, is-fromCode, item-tag, is-segmentItem, is-loopItem, ElementPlanIs, is-elementPlan, SegmentPlanIs, is-segmentPlan}
-use Rattle.format.specs.Ends.{source-low, source-table, value-column, value-code, item-is}
+use Rattle.format.specs.Fields.{instances-tag, is-rowsOf, is-inside, is-groupsOf, source-tag, is-fromRow, is-fromRepeat, value-tag, is-fromColumn, is-fromGroup, is-fromCode, item-tag, is-segmentItem, is-loopItem, ElementPlanIs, is-elementPlan, SegmentPlanIs, is-segmentPlan, LoopPlanIs}
+use Rattle.format.specs.Ends.{instances-low, instances-high, source-low, source-table, value-column, value-code, item-is}
 use Rattle.spec.specs.Answers.{stretchOf, numberOf}
 use Rattle.spec.specs.declared.ids.Number.{Number}
 use Rattle.spec.specs.declared.ids.Number.the-variants.{None, Is as IsNumber}
@@ -140,6 +140,37 @@ module _ (b : List ℕ) (e at x : ℕ) (i : Is numC b e (at + 1) x) where
 
   case-end : at + 5 ≡ skip numC b (at + 1) e
   case-end = let r : at + 5 ≡ at + 1 + 4 = omega arith in r ∙ sym (skip-number b e (at + 1) x i)
+
+-- the instances of a planned loop and the count of its segments behind them take five bytes
+instances-room : (b : List ℕ) (e at : ℕ) (v : Instances) → Is instancesC b e at v → at < e
+unfolding instancesC
+instances-room b e at v h = is-enum _ b e at _ (is-map _ _ _ _ _ b e at v h) .room
+
+pub plan-room : (b : List ℕ) (e at : ℕ) (v : LoopPlan) → LoopPlanIs b e at v → at + 5 ≤ e
+plan-room b e at v f = go (v .instances) (f .instances)
+  where
+    r : skip instancesC b at e + 4 ≤ e
+    r = is-list segmentPlanC b e _ (v .segments) (f .segments) .room
+
+    go : (k : Instances) → Is instancesC b e at k → at + 5 ≤ e
+    go absent j =
+        let m = instances-room b e at _ j in
+        let g = instances-tag b e at _ j in
+        let s = instances-low b at e (getD b at 0) (at + 1) (sym (tag-in b at e m)) (sym (skip-le 1 b at e (omega arith))) (omega arith) in
+        omega (arith, r)
+    go enveloped j =
+        let m = instances-room b e at _ j in
+        let g = instances-tag b e at _ j in
+        let s = instances-low b at e (getD b at 0) (at + 1) (sym (tag-in b at e m)) (sym (skip-le 1 b at e (omega arith))) (omega arith) in
+        omega (arith, r)
+    go (rowsOf x) j = case-number b e at x (is-rowsOf b e at x j)
+    go (inside x) j = case-number b e at x (is-inside b e at x j)
+    go (groupsOf x) j = case-number b e at x (is-groupsOf b e at x j)
+    go implied j =
+        let m = instances-room b e at _ j in
+        let g = instances-tag b e at _ j in
+        let s = instances-high b at e (getD b at 0) (at + 1) (sym (tag-in b at e m)) (sym (skip-le 1 b at e (omega arith))) (omega arith) (omega arith) in
+        omega (arith, r)
 
 source-room : (b : List ℕ) (e at : ℕ) (v : Source) → Is sourceC b e at v → at < e
 unfolding sourceC

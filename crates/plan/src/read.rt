@@ -19,10 +19,14 @@ use spec::ids::Number;
 use spec::ids::Stretch;
 use spec::ids::TableId;
 
+// The instances of the planned loop that stands at a place: the count of its segments is behind them, so that it has five bytes or more.
 pub fn instances_at(job: &[u8], at: usize) -> Instances
     requires { ⌜ at < 4294967296 ⌝ }
-    ensures { λ r. ⌜ ((e : ℕ) (v : InstancesIn) → Is instancesC (now (job .entry)) e at v → instancesOf r ≡ v) ⌝ }
+    ensures { λ r. ⌜ ((e : ℕ) (v : InstancesIn) → at + 5 ≤ length (now (job .entry)) → Is instancesC (now (job .entry)) e at v → instancesOf r ≡ v) ⌝ }
 {
+    if job.len() < at + 5 {
+        return Instances::Absent;
+    }
     let t = codec::byte_at(job, at);
     let n = codec::num(job, at + 1);
     if t == 0 {
