@@ -20,6 +20,7 @@ use Rattle.column.specs.declared.Cell.{Cell as Read}
 use Rattle.column.specs.declared.Cell.the-variants.{None, Null}
 use Rattle.column.specs.declared.Bit.{Bit}
 use Rattle.column.specs.declared.Bit.the-variants.{Missing, Unset, Set}
+use Rattle.column.proofs.Bits.{bit-outside}
 use Rattle.column.proofs.Read.{reads-none, reads-null}
 use Rattle.column.proofs.Values.{Reader, Ending, value-is, other-value, ending-room, ends-at}
 
@@ -33,6 +34,13 @@ column-end b at p n f i e v is =
     let r : skip bytesC b p e ≡ p + 4 + n = skip-les 1 b e p (v .validity) (t .0) ∙ o in
     let s : p + 4 + n + 4 ≤ e = rw r at (is-le 4 b e _ (v .length) (t .1) .0) in
     sym (skip-map _ _ _ _ _ b at e ∙ skip-pair _ _ b at e ∙ rw (← q) (skip-pair bytesC numC b p e ∙ rw r (skip-le 4 b (p + 4 + n) e s)))
+
+-- no column of kind k stands where its validity would pass the end
+pub column-outside : {A : Type 0} (b : List ℕ) (at n k p : ℕ) → n ≡ le 4 b (at + 1) → getD b at 0 ≡ k → p ≡ Ending b at n k → length b < p + 8 → (e : ℕ) (v : Column) → e ≤ length b → Is columnC b e at v → A
+column-outside b at n k p i h j o e v l is =
+    let c : ColumnIs b e at v = is-column b e at v is in
+    let q : p ≡ skip valuesC b at e = ends-at b at n k p i h j e (v .values) (c .values) in
+    bit-outside b p (le 4 b p) refl (omega arith) e (v .validity) (v .length) l (rw q (c .validity))
 
 -- ---- the cell of a row in a column of kind k, whose validity stands at p: its bit decides
 module _ (b : List ℕ) (at row n k p : ℕ) (i : n ≡ le 4 b (at + 1)) (h : getD b at 0 ≡ k) (j : p ≡ Ending b at n k) (bit : Bit)

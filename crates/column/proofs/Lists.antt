@@ -3,12 +3,14 @@ use Prim.Native.Nat.{ℕ, zero, suc, _+_, _*_, _-_, _≤_, _<_}
 use mathlib.Core.Path.{_≡_, refl, sym, ap, _∙_}
 use mathlib.Core.List.{List}
 use mathlib.Core.Option.{none, some}
+use mathlib.Core.Bool.{Bool, true, false}
 use native.Mathlib.Omega.{arith}
 use native.Mathlib.Nat.{add-zero, zero-add, mul-assoc}
 use lib.ListN.{length, getD, take, drop, length-drop}
+use lib.Dec.{leb}
 use lib.Seq.{ext-getD, getD-take, getD-drop, length-take-le}
 use borrow.Author.Tests.{lt-ltb, le-ltb, le-leb, lt-leb}
-use Rattle.codec.specs.Codec.{Codec, _⊗_, le, leC, listC, cap}
+use Rattle.codec.specs.Codec.{Codec, _⊗_, le, leC, listC, cap, pick}
 use Rattle.codec.specs.Skip.{skip, Is}
 use Rattle.codec.specs.Field.{is-pair, is-list, is-le, item-of, room-of}
 use Rattle.codec.specs.Forms.{numC, byteC, wideC, bytesC}
@@ -59,28 +61,30 @@ pub le-sixteen : (b : List ℕ) (at : ℕ) → le 16 b at ≡ le 8 b at + 184467
 le-sixteen b at = le-split 8 8 b at
 
 -- ---- bytes by their offsets
+pick-same : {A : Type 0} (t : Bool) (x : A) → pick t x x ≡ x
+pick-same true x = refl
+pick-same false x = refl
+
 module _ (at n from to : ℕ) where
-  pub from-negative : 2147483648 ≤ from → (b : List ℕ) (e : ℕ) (bytes : List ℕ) → n ≡ le 4 b at → e ≤ length b → Is bytesC b e at bytes → Reads b None (between bytes from to)
+  pub to-negative : 2147483648 ≤ to → (b : List ℕ) (e : ℕ) (bytes : List ℕ) → n ≡ le 4 b at → e ≤ length b → Is bytesC b e at bytes → Reads b None (between bytes from to)
   unfolding between
-  from-negative h b e bytes i l is = reads-none b (sym (simp (le-leb _ _ h)))
+  to-negative j b e bytes i l is = reads-none b (sym (simp (le-leb _ _ j) (pick-same (leb 2147483648 from) none)))
 
-  pub to-negative : from < 2147483648 → 2147483648 ≤ to → (b : List ℕ) (e : ℕ) (bytes : List ℕ) → n ≡ le 4 b at → e ≤ length b → Is bytesC b e at bytes → Reads b None (between bytes from to)
+  pub falling : to < 2147483648 → to < from → (b : List ℕ) (e : ℕ) (bytes : List ℕ) → n ≡ le 4 b at → e ≤ length b → Is bytesC b e at bytes → Reads b None (between bytes from to)
   unfolding between
-  to-negative h j b e bytes i l is = reads-none b (sym (simp (lt-leb _ _ h, le-leb _ _ j)))
+  falling j k b e bytes i l is = reads-none b (sym (simp (lt-leb _ _ j, lt-ltb _ _ k) (pick-same (leb 2147483648 from) none)))
 
-  pub falling : from < 2147483648 → to < 2147483648 → to < from → (b : List ℕ) (e : ℕ) (bytes : List ℕ) → n ≡ le 4 b at → e ≤ length b → Is bytesC b e at bytes → Reads b None (between bytes from to)
+  pub passing : to < 2147483648 → from ≤ to → n < to → (b : List ℕ) (e : ℕ) (bytes : List ℕ) → n ≡ le 4 b at → e ≤ length b → Is bytesC b e at bytes → Reads b None (between bytes from to)
   unfolding between
-  falling h j k b e bytes i l is = reads-none b (sym (simp (lt-leb _ _ h, lt-leb _ _ j, lt-ltb _ _ k)))
-
-  pub passing : from < 2147483648 → to < 2147483648 → from ≤ to → n < to → (b : List ℕ) (e : ℕ) (bytes : List ℕ) → n ≡ le 4 b at → e ≤ length b → Is bytesC b e at bytes → Reads b None (between bytes from to)
-  unfolding between
-  passing h j k m b e bytes i l is =
+  passing j k m b e bytes i l is =
+      let h : from < 2147483648 = omega arith in
       let q : length bytes < to = rw (is-list (leC 1) b e at bytes is .counted, ← i) m in
       reads-none b (sym (simp (lt-leb _ _ h, lt-leb _ _ j, le-ltb _ _ k, lt-ltb _ _ q)))
 
-  pub stretch-is : from < 2147483648 → to < 2147483648 → from ≤ to → to ≤ n → (b : List ℕ) (e : ℕ) (bytes : List ℕ) → n ≡ le 4 b at → e ≤ length b → Is bytesC b e at bytes → Reads b (Bytes (at + 4 + from) (to - from)) (between bytes from to)
+  pub stretch-is : to < 2147483648 → from ≤ to → to ≤ n → (b : List ℕ) (e : ℕ) (bytes : List ℕ) → n ≡ le 4 b at → e ≤ length b → Is bytesC b e at bytes → Reads b (Bytes (at + 4 + from) (to - from)) (between bytes from to)
   unfolding between
-  stretch-is h j k m b e bytes i l is =
+  stretch-is j k m b e bytes i l is =
+      let h : from < 2147483648 = omega arith in
       let q : to ≤ length bytes = rw (is-list (leC 1) b e at bytes is .counted, ← i) m in
       let r : at + 4 + length bytes ≤ e = fits (length bytes) refl in
       reads-bytes b _ _ (omega arith) (ap (λ (xs : List ℕ). some (Cell.binary xs)) (equal q r) ∙ sym (simp (lt-leb _ _ h, lt-leb _ _ j, le-ltb _ _ k, le-ltb _ _ q)))

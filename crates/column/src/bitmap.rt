@@ -19,29 +19,37 @@ pub fn bit_of(byte: usize, k: usize) -> bool
     (byte >> k) % 2 == 1
 }
 
-// The bit of a row in the validity that stands at a place. Two tests of the job's length spare those of each read.
+// The bit of a row in the validity that stands at a place. Behind its two counts, the job has room for so many bytes.
+pub fn bit_in(job: &[u8], at: usize, room: usize, row: u32) -> Bit
+    requires { ⌜ (at < 4398046511104) × (at + 8 + room ≡ length (now job)) ⌝ }
+    ensures { λ r. ⌜ ((e : ℕ) (bytes : List ℕ) (count : ℕ) → e ≤ length (now (job .entry)) → Is (bytesC ⊗ numC) (now (job .entry)) e at (bytes, count) → bitIs r ≡ bitOf bytes count row) ⌝ }
+{
+    let n = codec::num(job, at);
+    if room < n {
+        return Bit::Missing;
+    }
+    let count = codec::num(job, at + 4 + n);
+    if count <= row as usize {
+        return Bit::Missing;
+    }
+    let k = (row / 8) as usize;
+    if n <= k {
+        return Bit::Missing;
+    }
+    let byte = job[at + 4 + k] as usize;
+    if bit_of(byte, (row % 8) as usize) {
+        return Bit::Set;
+    }
+    Bit::Unset
+}
+
+// The bit of a row in the validity that stands at a place.
 pub fn bit_at(job: &[u8], at: usize, row: u32) -> Bit
     requires { ⌜ at < 4398046511104 ⌝ }
     ensures { λ r. ⌜ ((e : ℕ) (bytes : List ℕ) (count : ℕ) → e ≤ length (now (job .entry)) → Is (bytesC ⊗ numC) (now (job .entry)) e at (bytes, count) → bitIs r ≡ bitOf bytes count row) ⌝ }
 {
-    if job.len() < at + 4 {
+    if job.len() < at + 8 {
         return Bit::Missing;
     }
-    let n = codec::num(job, at);
-    if job.len() < at + 8 + n {
-        return Bit::Missing;
-    }
-    let count = codec::num(job, at + 4 + n);
-    let row = row as usize;
-    if count <= row {
-        return Bit::Missing;
-    }
-    if n <= row / 8 {
-        return Bit::Missing;
-    }
-    let byte = job[at + 4 + row / 8] as usize;
-    if bit_of(byte, row % 8) {
-        return Bit::Set;
-    }
-    Bit::Unset
+    bit_in(job, at, job.len() - (at + 8), row)
 }

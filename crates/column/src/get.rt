@@ -12,15 +12,13 @@ ghost use Rattle.column.specs.Answers.{Reads};
 use crate::Bit;
 use crate::Cell;
 use crate::bitmap::bit_at;
+use crate::bitmap::bit_in;
 
 // The bytes from one offset up to another of the n bytes whose count stands at a place.
 pub fn stretch(at: usize, n: usize, from: u32, to: u32) -> Cell
     requires { ⌜ at < 8796093022208 ⌝ }
     ensures { λ r. ⌜ ((b : List ℕ) (e : ℕ) (bytes : List ℕ) → n ≡ le 4 b at → e ≤ length b → Is bytesC b e at bytes → Reads b r (between bytes from to)) ⌝ }
 {
-    if 2147483648 <= from {
-        return Cell::None;
-    }
     if 2147483648 <= to {
         return Cell::None;
     }
@@ -33,24 +31,31 @@ pub fn stretch(at: usize, n: usize, from: u32, to: u32) -> Cell
     Cell::Bytes(at + 4 + from as usize, (to - from) as usize)
 }
 
-// The cell of a row in the column of bytes, with n offsets, that stands at a place.
+// The cell of a row in the column of bytes, with n offsets, that stands at a place. Behind the offsets stand three counts.
 pub fn bytes_cell(job: &[u8], at: usize, n: usize, row: u32) -> Cell
     requires { ⌜ (at < 2199023255552) × (n < 4294967296) × (getD (now job) at 0 ≡ 0) × (n ≡ le 4 (now job) (at + 1)) ⌝ }
     ensures { λ r. ⌜ ((e : ℕ) (v : Column) → e ≤ length (now (job .entry)) → Is columnC (now (job .entry)) e at v → Reads (now (job .entry)) r (getOf v row)) ⌝ }
 {
     let data = at + 5 + n * 4;
+    if job.len() < data + 12 {
+        return Cell::None;
+    }
+    let room = job.len() - (data + 12);
     let m = codec::num(job, data);
-    let bit = bit_at(job, data + 4 + m, row);
+    if room < m {
+        return Cell::None;
+    }
+    let bit = bit_in(job, data + m + 4, room - m, row);
     match bit {
         Bit::Missing => Cell::None,
         Bit::Unset => Cell::Null,
         Bit::Set => {
-            let next = row as usize + 1;
-            if n <= next {
+            let next = at + 9 + row as usize * 4;
+            if data <= next {
                 return Cell::None;
             }
-            let from = codec::num(job, at + 5 + row as usize * 4);
-            let to = codec::num(job, at + 5 + next * 4);
+            let from = codec::num(job, next - 4);
+            let to = codec::num(job, next);
             stretch(data, m, from as u32, to as u32)
         }
     }
@@ -124,14 +129,14 @@ pub fn get(job: &[u8], at: usize, row: u32) -> Cell
 {
     let kind = codec::byte_at(job, at);
     let n = codec::num(job, at + 1);
-    if kind == 0 {
-        return bytes_cell(job, at, n, row);
+    if kind == 2 {
+        return wide_cell(job, at, n, row);
     }
     if kind == 1 {
         return int_cell(job, at, n, row);
     }
-    if kind == 2 {
-        return wide_cell(job, at, n, row);
+    if kind == 0 {
+        return bytes_cell(job, at, n, row);
     }
     short_cell(job, at, kind, n, row)
 }

@@ -1,8 +1,7 @@
 -- `column::bitmap::bit_at` meets its contract. Assumes nothing.
-use Rattle.column.proofs.Bits.{bit-outside, bit-past, bit-short, bit-is}
-use Prim.Native.Nat.{_+_, _/_}
+use Rattle.column.proofs.Bits.{bit-outside}
 use native.Mathlib.Omega.{arith}
-use mathlib.Core.Path.{refl, sym, _∙_}
+use mathlib.Core.Path.{refl}
 use borrow.Author.Needs.{needs}
 use Rattle.column.proofs.bitmap.bit_at.Statement.{statement}
 use Rattle.column.proofs.bitmap.bit_at.Tie as tie
@@ -10,26 +9,5 @@ use Rattle.column.proofs.bitmap.bit_at.Tie as tie
 returns : tie.Need-returns
 returns c = λ e bytes count l is. bit-outside _ _ _ refl (omega arith) e bytes count l is
 
-returns-2 : tie.Need-returns-2
-returns-2 c = λ e bytes count l is. bit-outside _ _ _ (c .before .num .ensures .0) (c .if2 .taken) e bytes count l is
-
-returns-3 : tie.Need-returns-3
-returns-3 c = bit-past _ _ _ _ _ (c .before .before .before .num .ensures .0) (c .before .num2 .ensures .0) (c .if3 .taken)
-
-returns-4 : tie.Need-returns-4
-returns-4 c = bit-short _ _ _ _ _ (c .before .before .before .before .num .ensures .0) (c .before .before .num2 .ensures .0) (c .before .if3 .left) (c .if4 .taken)
-
-cast-byte : tie.Need-cast-byte
-cast-byte c = omega (arith, c .shared-slice-known2 .given (c .before .before .before .before .before .before .before .before .args .at + 4 + c .before .before .before .before .before .before .before .before .args .row / 8))
-
-bit-of-requires : tie.Need-bit-of-requires
-bit-of-requires c κs = (omega (arith, c .shared-slice-known2 .given (c .before .before .before .before .before .before .before .before .args .at + 4 + c .before .before .before .before .before .before .before .before .args .row / 8)), omega arith)
-
-returns-5 : tie.Need-returns-5
-returns-5 c = bit-is _ _ _ _ _ (c .before .before .before .before .before .before .before .num .ensures .0) (c .before .before .before .before .before .num2 .ensures .0) (c .before .before .before .before .if3 .left) (c .before .before .before .if4 .left) _ _ refl (sym (c .if5 .taken) ∙ c .before .bit-of .ensures)
-
-returns-6 : tie.Need-returns-6
-returns-6 c = bit-is _ _ _ _ _ (c .before .before .before .before .before .before .before .num .ensures .0) (c .before .before .before .before .before .num2 .ensures .0) (c .before .before .before .before .if3 .left) (c .before .before .before .if4 .left) _ _ refl (sym (c .if5 .left) ∙ c .before .bit-of .ensures)
-
 pub bit-at-spec : {M : Type 1} → statement M
-bit-at-spec = tie.close (tie.spec (λ c. search needs) returns (λ c κs. search needs) (λ c. search needs) (λ c. search needs) returns-2 (λ c. search needs) (λ c. search needs) (λ c κs. search needs) returns-3 returns-4 (λ c. search needs) (λ c. search needs) (λ c. search needs) cast-byte bit-of-requires returns-5 returns-6)
+bit-at-spec = tie.close (tie.spec (λ c. search needs) returns (λ c. search needs) (λ c. search needs) (λ c κs. search needs) (λ c. search needs))
