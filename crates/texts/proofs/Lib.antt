@@ -19,3 +19,4 @@ mod Passes
 mod Signs
 pub mod Spells
 pub mod Sizes
+mod Wholes

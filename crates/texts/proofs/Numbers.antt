@@ -1,10 +1,10 @@
 -- Laws of decimal digits.
-use Prim.Native.Nat.{ℕ, zero, suc, _+_, _-_, _/_, _%_, _^_, _<_, _≤_, max}
-use mathlib.Core.Path.{_≡_, refl, sym, ap, subst, _∙_}
+use Prim.Native.Nat.{ℕ, zero, suc, _+_, _-_, _*_, _/_, _%_, _^_, _<_, _≤_, max}
+use mathlib.Core.Path.{_≡_, refl, sym, ap, ap₂, subst, _∙_}
 use mathlib.Core.Bool.{Bool, true, false, cond, false≢true}
 use mathlib.Core.List.{List, [], _∷_, _++_, append-nil}
 use native.Mathlib.Omega.{arith}
-use native.Mathlib.Nat.{pow-suc, one-le-pow, pow-le-pow-right, div-div-eq-div-mul, div-lt-iff-lt-mul, div-eq-of-lt, le-trans, lt-of-lt-of-le, add-zero}
+use native.Mathlib.Nat.{pow-suc, one-le-pow, pow-le-pow-right, div-div-eq-div-mul, div-lt-iff-lt-mul, div-eq-of-lt, le-trans, lt-of-lt-of-le, add-zero, div-one}
 use lib.Dec.{ltb, lit<}
 use lib.ListN.{length}
 use lib.Pow.{pow-add}
@@ -17,6 +17,9 @@ ten-pos k = one-le-pow k 10 (lit< tt)
 
 pub ten-mono : {i j : ℕ} → i ≤ j → 10 ^ i ≤ 10 ^ j
 ten-mono h = pow-le-pow-right {n = 10} (lit< tt) h
+
+pub ten-next : (p k : ℕ) → p ≡ 10 ^ k → p * 10 ≡ 10 ^ (k + 1)
+ten-next p k e = ap (λ (x : ℕ). x * 10) e ∙ sym (pow-add 10 k 1)
 
 -- a power at most a number that is below another power is lower
 pub ten-below : (n i j : ℕ) → 10 ^ i ≤ n → n < 10 ^ j → i < j
@@ -96,6 +99,12 @@ pub size-least : (n j : ℕ) → 1 ≤ j → n < 10 ^ j → size n ≤ j
 unfolding size
 size-least n j h l = first-least (λ k. ltb n (10 ^ k)) n 1 j h (lt-ltb _ _ l)
 
+pub size-is : (n k : ℕ) → 1 ≤ k → n < 10 ^ k → ((j : ℕ) → 1 ≤ j → n < 10 ^ j → k ≤ j) → size n ≡ k
+size-is n k one h least =
+    let a : size n ≤ k = size-least n k one h in
+    let b : k ≤ size n = least (size n) (size-pos n) (size-above n) in
+    omega arith
+
 -- the digits before the point, of a number that has `count` of them
 pub size-whole : (n scale count : ℕ) → n < 10 ^ count → ((k : ℕ) → n < 10 ^ k → count ≤ k) → size (n / 10 ^ scale) ≡ max count (scale + 1) - scale
 size-whole n scale count h least =
@@ -111,6 +120,14 @@ pub figures-length : (k n : ℕ) → length (figures k n) ≡ k
 unfolding figures
 figures-length zero n = refl
 figures-length (suc k) n = ap suc (figures-length k n)
+
+-- the last of them
+pub figures-last : (k n : ℕ) → figures (suc k) n ≡ figures k (n / 10) ++ ((48 + n % 10) ∷ [])
+unfolding figures
+figures-last zero n = ap (λ (m : ℕ). (48 + m % 10) ∷ []) (div-one n)
+figures-last (suc k) n =
+    let e : suc k ≡ 1 + k = omega arith in
+    ap₂ (λ (d : ℕ) (ds : List ℕ). (48 + d) ∷ ds) (ap (λ (i : ℕ). digit n i) e ∙ sym (digit-shifted n 1 k)) (figures-last k n)
 
 -- without trailing zeros
 pub trim-none : (k n : ℕ) → ((i : ℕ) → i < k → digit n i ≡ 0) → trimmed (figures k n) ≡ []

@@ -20,11 +20,11 @@ pub int-plus : (z : ℤ) (n : ℕ) → pos n ≡ z → countText n ≡ intText z
 unfolding intText
 int-plus z n e = rw (← e)
 
-pub int-minus : (z : ℤ) (r n : ℕ) → negsuc r ≡ z → n ≡ r + 1 → minus true ++ fixedText n 0 ≡ intText z
+pub int-minus : (z : ℤ) (r n : ℕ) → negsuc r ≡ z → n ≡ r + 1 → minus true ++ countText n ≡ intText z
 unfolding intText
 int-minus z r n e h =
     let s : n ≡ suc r = omega arith in
-    ap (λ (t : List ℕ). minus true ++ t) (fixed-whole n ∙ ap countText s) ∙ ap intText e
+    ap (λ (t : List ℕ). minus true ++ t) (ap countText s) ∙ ap intText e
 
 pub decimal-plus : (lo hi s : ℕ) → lo < 2 ^ 64 → hi < 2 ^ 63 → minus false ++ fixedText (lo + hi * 2 ^ 64) s ≡ decimalText (signed128 (lo + hi * 2 ^ 64)) s
 unfolding decimalText

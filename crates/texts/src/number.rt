@@ -7,8 +7,8 @@ ghost use Prim.Native.Nat.{_+_, _-_, _^_, _≤_, _<_, min, max};
 ghost use lib.Dec.{ltb};
 ghost use Rattle.texts.specs.Held.{held, added};
 ghost use Rattle.texts.specs.Wide.{value, signed64, signed128};
-ghost use Rattle.texts.specs.Number.{countText, intText, decimalText, fixedText, minus};
-ghost use Rattle.texts.specs.Digits.{Tenths, Written, FirstFilled, down};
+ghost use Rattle.texts.specs.Number.{size, countText, intText, decimalText, fixedText, minus};
+ghost use Rattle.texts.specs.Digits.{Tenths, Written, FirstFilled, Shortens, down};
 
 // A 128-bit two's complement number in two halves.
 pub struct Wide {
@@ -161,8 +161,8 @@ fn larger(a: usize, b: usize) -> usize
     if a < b { b } else { a }
 }
 
-// The sign and the number in fixed point: its places down to the point, then those below up to the last that is no zero.
-fn fixed_text(negative: bool, w: Wide, scale: usize) -> Text
+// A number in fixed point by its places: those down to the point, then those below up to the last that is no zero.
+fn placed_text(negative: bool, w: Wide, scale: usize) -> Text
     requires { ⌜ scale ≤ 38 ⌝ }
     ensures { λ r. ⌜ r ≡ held (minus negative ++ fixedText (value w) scale) ⌝ }
 {
@@ -177,24 +177,86 @@ fn fixed_text(negative: bool, w: Wide, scale: usize) -> Text
     with_places(with_point(whole), places, low, scale)
 }
 
+// A number less trailing zeros of its fraction, and how many places of that are left.
+struct Shortened {
+    rest: u64,
+    scale: usize,
+}
+
+fn without_zeros(n: u64, scale: usize) -> Shortened
+    ensures { λ r. ⌜ Shortens n scale r ⌝ }
+{
+    let mut rest = n;
+    let mut left = scale;
+    while 0 < left {
+        if rest % 10 != 0 {
+            return Shortened { rest, scale: left };
+        }
+        rest /= 10;
+        left -= 1;
+    }
+    Shortened { rest, scale: left }
+}
+
+// How many digits a number is written with.
+fn size_of(n: u64) -> usize
+    ensures { λ r. ⌜ (r ≡ size n) × (r ≤ 20) ⌝ }
+{
+    if 10000000000000000000 <= n {
+        return 20;
+    }
+    let mut count: usize = 1;
+    let mut power: u64 = 10;
+    while power <= n {
+        power *= 10;
+        count += 1;
+    }
+    count
+}
+
+// The sign and a whole number, its digits put in their places from the last on.
+fn whole_text(negative: bool, n: u64) -> Text
+    ensures { λ r. ⌜ r ≡ held (minus negative ++ countText n) ⌝ }
+{
+    let t = sign_text(negative);
+    let first = t.len;
+    let mut bytes = t.bytes;
+    let len = first + size_of(n);
+    let mut rest = n;
+    let mut at = len;
+    while first < at {
+        at -= 1;
+        bytes[at] = 48 + (rest % 10) as u8;
+        rest /= 10;
+    }
+    Text { bytes, len }
+}
+
+// The sign and the number in fixed point; a number of 64 bits without a fraction is a whole number.
+fn fixed_text(negative: bool, w: Wide, scale: usize) -> Text
+    requires { ⌜ scale ≤ 38 ⌝ }
+    ensures { λ r. ⌜ r ≡ held (minus negative ++ fixedText (value w) scale) ⌝ }
+{
+    if w.hi == 0 {
+        let t = without_zeros(w.lo, scale);
+        if t.scale == 0 {
+            return whole_text(negative, t.rest);
+        }
+    }
+    placed_text(negative, w, scale)
+}
+
 pub fn count_text(value: u64) -> Text
     ensures { λ r. ⌜ r ≡ held (countText value) ⌝ }
 {
-    fixed_text(false, Wide { lo: value, hi: 0 }, 0)
+    whole_text(false, value)
 }
 
 pub fn int_text(value: i64) -> Text
     ensures { λ r. ⌜ r ≡ held (intText value) ⌝ }
 {
     if value < 0 {
-        return fixed_text(
-            true,
-            Wide {
-                lo: signed::below_zero64(value) + 1,
-                hi: 0,
-            },
-            0,
-        );
+        return whole_text(true, signed::below_zero64(value) + 1);
     }
     count_text(signed::from_zero64(value))
 }

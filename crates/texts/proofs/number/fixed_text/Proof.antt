@@ -1,23 +1,22 @@
 -- `texts::number::fixed_text` meets its contract. Assumes nothing.
+use Prim.Native.Nat.{ℕ}
+use mathlib.Core.Path.{sym, ap, _∙_}
+use mathlib.Core.List.{List, _++_}
 use borrow.Author.Needs.{needs}
-use Rattle.texts.proofs.Passes.{text-plain, text-pointed, minus-short}
+use Rattle.texts.specs.Held.{held}
+use Rattle.texts.specs.Number.{fixedText, minus}
+use Rattle.texts.proofs.Halves.{low-only}
+use Rattle.texts.proofs.Wholes.{fixed-shortened}
 use Rattle.texts.proofs.number.fixed_text.Statement.{statement}
 use Rattle.texts.proofs.number.fixed_text.Tie as tie
 
 returns : tie.Need-returns
 returns c =
-    let f = c .before .before .before in
-    let p = f .before .before .before in
-    text-plain _ _ _ _ _ _ _ _ (p .places-of .ensures) (f .first-filled .ensures) (p .before .pre) (minus-short (p .before .args .negative)) (f .before .larger .ensures)
-    (c .before .before .sign-text .ensures .0) (c .before .with-places .ensures .0) (c .if1 .taken)
-
-returns-2 : tie.Need-returns-2
-returns-2 c =
-    let i = c .before .before in
-    let f = i .before .before .before in
-    let p = f .before .before .before in
-    text-pointed _ _ _ _ _ _ _ _ (p .places-of .ensures) (f .first-filled .ensures) (p .before .pre) (minus-short (p .before .args .negative)) (f .before .larger .ensures)
-    (i .before .before .sign-text .ensures .0) (i .before .with-places .ensures .0) _ _ (i .if1 .left) (c .before .with-point .ensures .0) (c .with-places2 .ensures .0)
+    let z = c .before .before .before in
+    let a = c .before .before .before .before .before .before .args in
+    c .whole-text .ensures
+    ∙ ap (λ (x : List ℕ). held (minus (a .negative) ++ x))
+    (sym (ap (λ (n : ℕ). fixedText n (a .scale)) (low-only _ _ (c .before .before .before .before .if1 .taken)) ∙ fixed-shortened _ _ _ (z .without-zeros .ensures) (c .before .if2 .taken)))
 
 pub fixed-text-spec : {M : Type 1} → statement M
-fixed-text-spec = tie.close (tie.spec (λ c κs. search needs) (λ c. search needs) (λ c κs. search needs) (λ c κs. search needs) (λ c κs. search needs) (λ c κs. search needs) returns (λ c κs. search needs) (λ c κs. search needs) returns-2)
+fixed-text-spec = tie.close (tie.spec (λ c κs. search needs) (λ c κs. search needs) returns (λ c κs. search needs) (λ c. search needs))

@@ -1,6 +1,5 @@
 -- `texts::number::int_text` meets its contract. Assumes nothing.
-use mathlib.Core.Path.{ap, _∙_}
-use native.Mathlib.Nat.{add-zero}
+use mathlib.Core.Path.{refl, ap, _∙_}
 use mir.Facts.{toZ-ofZ}
 use borrow.Author.Needs.{needs}
 use Rattle.texts.specs.Held.{held}
@@ -10,7 +9,7 @@ use Rattle.texts.proofs.number.int_text.Statement.{statement}
 use Rattle.texts.proofs.number.int_text.Tie as tie
 
 returns : tie.Need-returns
-returns c = c .fixed-text .ensures ∙ ap held (int-minus _ _ _ (c .before .below-zero64 .ensures .0 ∙ toZ-ofZ (c .before .before .before .fits .value)) (add-zero _))
+returns c = c .whole-text .ensures ∙ ap held (int-minus _ _ _ (c .before .below-zero64 .ensures .0 ∙ toZ-ofZ (c .before .before .before .fits .value)) refl)
 
 from-zero64-requires : tie.Need-from-zero64-requires
 from-zero64-requires c κs = not-below _ (c .if1 .left)
