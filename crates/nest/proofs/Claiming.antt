@@ -118,18 +118,13 @@ module _ (j : Job) (l d n : ℕ) (e : n ≡ depthOf (outlineOf j) l) where
   pub anchor-elsewhere : (n ≡ d → ⊥) → none ≡ anchorTable (outlineOf j) l d
   anchor-elsewhere h = sym (rw (ne-eqb (depthOf (outlineOf j) l) d (λ x. h (e ∙ x))) refl)
 
--- ---- what is left to try: from depth d and place i on; last is the table of the last anchor tried
-pub record Trying (j : Job) (t r d i last : ℕ) : Type 0 where
-  pub claims : claimIn (outlineOf j) t r (anchors (outlineOf j) t) ≡ claimIn (outlineOf j) t r (left (outlineOf j) ((tableOf (outlineOf j) t) .loops) d i)
-  pub lasts : lastTable t (anchors (outlineOf j) t) ≡ lastTable last (left (outlineOf j) ((tableOf (outlineOf j) t) .loops) d i)
+-- ---- what is left of the anchors from depth d and place i on
 
-module _ (j : Job) (t r : ℕ) where
-  pub trying-all : (d : ℕ) → Within (outlineOf j) t (length ((tableOf (outlineOf j) t) .loops)) d → Trying j t r d 0 t
-  trying-all d w =
-      let a : anchors (outlineOf j) t ≡ left (outlineOf j) ((tableOf (outlineOf j) t) .loops) d 0 = left-all (outlineOf j) t d (all-at (λ l. depthOf (outlineOf j) l < suc d) ((tableOf (outlineOf j) t) .loops) (λ k h. omega (arith, w .of k h))) in
-      record { claims = ap (claimIn (outlineOf j) t r) a; lasts = ap (lastTable t) a }
+module _ (j : Job) (t : ℕ) where
+  pub all-left : (d : ℕ) → Within (outlineOf j) t (length ((tableOf (outlineOf j) t) .loops)) d → anchors (outlineOf j) t ≡ left (outlineOf j) ((tableOf (outlineOf j) t) .loops) d 0
+  all-left d w = left-all (outlineOf j) t d (all-at (λ l. depthOf (outlineOf j) l < suc d) ((tableOf (outlineOf j) t) .loops) (λ k h. omega (arith, w .of k h)))
 
-  module _ (d i last n l : ℕ) (w : Trying j t r d i last) (c : n ≡ length ((A.tableOf j t) .loops)) (h : i < n) (e : l ≡ getD ((A.tableOf j t) .loops) i 0) where
+  module _ (d i n l : ℕ) (c : n ≡ length ((A.tableOf j t) .loops)) (h : i < n) (e : l ≡ getD ((A.tableOf j t) .loops) i 0) where
     here : i < length ((tableOf (outlineOf j) t) .loops)
     here = rw (loops-is j t) (omega arith)
 
@@ -147,39 +142,52 @@ module _ (j : Job) (t r : ℕ) where
       with-rows : rowTable (kindOf (outlineOf j) l) ≡ some u
       with-rows = sym (rw (eq-eqb (depthOf (outlineOf j) l) d at-depth) refl) ∙ a
 
-      next : left (outlineOf j) ((tableOf (outlineOf j) t) .loops) d i ≡ record { loop = l; table = u } ∷ left (outlineOf j) ((tableOf (outlineOf j) t) .loops) d (i + 1)
-      next = rw it (left-anchor (outlineOf j) ((tableOf (outlineOf j) t) .loops) d i u here (rw (← it) at-depth) (rw (← it) with-rows))
+      pub left-here : left (outlineOf j) ((tableOf (outlineOf j) t) .loops) d i ≡ record { loop = l; table = u } ∷ left (outlineOf j) ((tableOf (outlineOf j) t) .loops) d (i + 1)
+      left-here = rw it (left-anchor (outlineOf j) ((tableOf (outlineOf j) t) .loops) d i u here (rw (← it) at-depth) (rw (← it) with-rows))
 
-      pub trying-here : (v : ℕ) → outlineOf j .reference t u r ≡ some v → Is (record { l = record { 0 = l }; table = record { 0 = u }; value = v }) ≡ claimBy (claimIn (outlineOf j) t r (anchors (outlineOf j) t)) (lastTable t (anchors (outlineOf j) t))
-      trying-here v q = rw (w .claims ∙ ap (claimIn (outlineOf j) t r) next ∙ claim-here (outlineOf j) t r v (record { loop = l; table = u }) _ q) refl
-
-      pub trying-null : outlineOf j .reference t u r ≡ none → Trying j t r d (i + 1) u
-      trying-null q = record {
-        claims = w .claims ∙ ap (claimIn (outlineOf j) t r) next ∙ claim-next (outlineOf j) t r (record { loop = l; table = u }) _ q;
-        lasts = w .lasts ∙ ap (lastTable last) next;
-      }
-
-    pub trying-other : anchorTable (outlineOf j) l d ≡ none → Trying j t r d (i + 1) last
-    trying-other a = go (eqb (depthOf (outlineOf j) l) d) refl a
+    pub left-passed : anchorTable (outlineOf j) l d ≡ none → left (outlineOf j) ((tableOf (outlineOf j) t) .loops) d i ≡ left (outlineOf j) ((tableOf (outlineOf j) t) .loops) d (i + 1)
+    left-passed a = go (eqb (depthOf (outlineOf j) l) d) refl a
       where
-        done : left (outlineOf j) ((tableOf (outlineOf j) t) .loops) d i ≡ left (outlineOf j) ((tableOf (outlineOf j) t) .loops) d (i + 1) → Trying j t r d (i + 1) last
-        done q = record { claims = w .claims ∙ ap (claimIn (outlineOf j) t r) q; lasts = w .lasts ∙ ap (lastTable last) q }
+        go : (b : Bool) → eqb (depthOf (outlineOf j) l) d ≡ b → cond {A = Option ℕ} b (rowTable (kindOf (outlineOf j) l)) none ≡ none
+            → left (outlineOf j) ((tableOf (outlineOf j) t) .loops) d i ≡ left (outlineOf j) ((tableOf (outlineOf j) t) .loops) d (i + 1)
+        go true q x = left-no-rows (outlineOf j) ((tableOf (outlineOf j) t) .loops) d i here (rw (← it) x)
+        go false q x = left-other (outlineOf j) ((tableOf (outlineOf j) t) .loops) d i here (λ y. eqb-false (depthOf (outlineOf j) l) d q (ap (depthOf (outlineOf j)) it ∙ y))
 
-        go : (b : Bool) → eqb (depthOf (outlineOf j) l) d ≡ b → cond {A = Option ℕ} b (rowTable (kindOf (outlineOf j) l)) none ≡ none → Trying j t r d (i + 1) last
-        go true q x = done (left-no-rows (outlineOf j) ((tableOf (outlineOf j) t) .loops) d i here (rw (← it) x))
-        go false q x = done (left-other (outlineOf j) ((tableOf (outlineOf j) t) .loops) d i here (λ y. eqb-false (depthOf (outlineOf j) l) d q (ap (depthOf (outlineOf j)) it ∙ y)))
-
-  module _ (d i last n : ℕ) (w : Trying j t r d i last) (c : n ≡ length ((A.tableOf j t) .loops)) (h : n ≤ i) where
+  module _ (d i n : ℕ) (c : n ≡ length ((A.tableOf j t) .loops)) (h : n ≤ i) where
     past : length ((tableOf (outlineOf j) t) .loops) ≤ i
     past = rw (loops-is j t) (omega arith)
 
-    pub trying-down : 0 < d → Trying j t r (d - 1) 0 last
-    trying-down k = let q = left-down (outlineOf j) ((tableOf (outlineOf j) t) .loops) d i k past in record { claims = w .claims ∙ ap (claimIn (outlineOf j) t r) q; lasts = w .lasts ∙ ap (lastTable last) q }
+    pub left-lower : 0 < d → left (outlineOf j) ((tableOf (outlineOf j) t) .loops) d i ≡ left (outlineOf j) ((tableOf (outlineOf j) t) .loops) (d - 1) 0
+    left-lower k = left-down (outlineOf j) ((tableOf (outlineOf j) t) .loops) d i k past
 
-    pub trying-end : d ≡ 0 → Nothing (record { 0 = last }) ≡ claimBy (claimIn (outlineOf j) t r (anchors (outlineOf j) t)) (lastTable t (anchors (outlineOf j) t))
-    trying-end z =
-        let q : left (outlineOf j) ((tableOf (outlineOf j) t) .loops) d i ≡ [] = rw z (left-end (outlineOf j) _ i past) in
-        rw (w .claims ∙ ap (claimIn (outlineOf j) t r) q ∙ claim-none (outlineOf j) t r, w .lasts ∙ ap (lastTable last) q) refl
+    pub left-over : d ≡ 0 → left (outlineOf j) ((tableOf (outlineOf j) t) .loops) d i ≡ []
+    left-over z = rw z (left-end (outlineOf j) _ i past)
+
+-- ---- what is left to try; last is the table of the last anchor tried
+pub record Tried (j : Job) (t r last : ℕ) (more : List Anchor) : Type 0 where
+  pub claims : claimIn (outlineOf j) t r (anchors (outlineOf j) t) ≡ claimIn (outlineOf j) t r more
+  pub lasts : lastTable t (anchors (outlineOf j) t) ≡ lastTable last more
+
+module _ (j : Job) (t r : ℕ) where
+  pub tried-none : (more : List Anchor) → anchors (outlineOf j) t ≡ more → Tried j t r t more
+  tried-none more a = record { claims = ap (claimIn (outlineOf j) t r) a; lasts = ap (lastTable t) a }
+
+  module _ (last : ℕ) (xs : List Anchor) (w : Tried j t r last xs) where
+    pub tried-on : (more : List Anchor) → xs ≡ more → Tried j t r last more
+    tried-on more q = record { claims = w .claims ∙ ap (claimIn (outlineOf j) t r) q; lasts = w .lasts ∙ ap (lastTable last) q }
+
+    pub tried-here : (l u v : ℕ) (more : List Anchor) → xs ≡ record { loop = l; table = u } ∷ more → outlineOf j .reference t u r ≡ some v
+        → Is (record { l = record { 0 = l }; table = record { 0 = u }; value = v }) ≡ claimBy (claimIn (outlineOf j) t r (anchors (outlineOf j) t)) (lastTable t (anchors (outlineOf j) t))
+    tried-here l u v more e q = rw (w .claims ∙ ap (claimIn (outlineOf j) t r) e ∙ claim-here (outlineOf j) t r v (record { loop = l; table = u }) more q) refl
+
+    pub tried-next : (l u : ℕ) (more : List Anchor) → xs ≡ record { loop = l; table = u } ∷ more → outlineOf j .reference t u r ≡ none → Tried j t r u more
+    tried-next l u more e q = record {
+      claims = w .claims ∙ ap (claimIn (outlineOf j) t r) e ∙ claim-next (outlineOf j) t r (record { loop = l; table = u }) more q;
+      lasts = w .lasts ∙ ap (lastTable last) e;
+    }
+
+    pub tried-end : xs ≡ [] → Nothing (record { 0 = last }) ≡ claimBy (claimIn (outlineOf j) t r (anchors (outlineOf j) t)) (lastTable t (anchors (outlineOf j) t))
+    tried-end q = rw (w .claims ∙ ap (claimIn (outlineOf j) t r) q ∙ claim-none (outlineOf j) t r, w .lasts ∙ ap (lastTable last) q) refl
 
 -- the search goes on for so many steps at most
 pub less-down : (d n i : ℕ) → 0 < d → n ≤ i → (d - 1) * suc n + (n - 0) < d * suc n + (n - i)

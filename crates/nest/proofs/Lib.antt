@@ -18,5 +18,6 @@ pub mod Claiming
 pub mod Placing
 pub mod Stored
 pub mod Lacking
+pub mod Lining
 pub mod Rising
 pub mod RisingRows

@@ -1,14 +1,16 @@
 -- What is known of the keys of tables and of the depths of loops, told once for all rows.
-use Prim.Native.Nat.{ℕ, _≤_, _<_}
+use Prim.Native.Nat.{ℕ, _+_, _≤_, _<_}
 use mathlib.Core.Path.{_≡_}
 use mathlib.Core.Bool.{Bool, true, false}
-use mathlib.Core.List.{List, []}
+use mathlib.Core.List.{List, [], _∷_}
 use mathlib.Core.Option.{none}
-use lib.ListN.{getD}
+use lib.ListN.{drop, getD}
 use Rattle.nest.specs.declared.keys.Keys.{Keys}
 use Rattle.nest.specs.declared.keys.Keys.the-variants.{None, Any, Rising}
+use Rattle.nest.specs.declared.hang.AnchorLoop.{AnchorLoop}
+use Rattle.nest.specs.declared.hang.Line.{Line}
 use Rattle.nest.specs.Outline.{Outline, tableOf, rowCount}
-use Rattle.nest.specs.Nest.{hasKeys, firstRow, depthOf}
+use Rattle.nest.specs.Nest.{Anchor, anchors, hasKeys, firstRow, depthOf}
 use Rattle.nest.specs.NestFindings.{duplicates}
 
 -- the keys of u rise strictly from row to row
@@ -37,3 +39,15 @@ pub record Deep (j : Outline) (ds : List ℕ) : Type 0 where
 -- the first n loops of table t stand at depth d or above
 pub record Within (j : Outline) (t n d : ℕ) : Type 0 where
   pub of : (k : ℕ) → k < n → depthOf j (getD ((tableOf j t) .loops) k 0) ≤ d
+
+abbrev pub anchorOf : AnchorLoop → Anchor
+anchorOf a = record { loop = a .l .0; table = a .table .0 }
+
+abbrev pub noAnchor : AnchorLoop
+noAnchor = record { l = record { 0 = 0 }; table = record { 0 = 0 } }
+
+-- the anchors of table t one after the other, if they are whole
+pub record Lined (j : Outline) (t : ℕ) (s : Line) : Type 0 where
+  pub few : s .whole ≡ true → s .n ≤ 8
+  pub next : s .whole ≡ true → (k : ℕ) → k < s .n → drop k (anchors j t) ≡ anchorOf (getD (s .anchors) k noAnchor) ∷ drop (k + 1) (anchors j t)
+  pub all : s .whole ≡ true → drop (s .n) (anchors j t) ≡ []

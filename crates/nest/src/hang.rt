@@ -10,7 +10,7 @@ ghost use Rattle.nest.specs.Nest.{depthOf, claimIn, anchors};
 ghost use Rattle.nest.specs.NestFindings.{lastTable};
 ghost use Rattle.nest.specs.OfJob.{kindIn};
 ghost use Rattle.nest.specs.Claims.{claimBy, anchorTable, Hung};
-ghost use Rattle.nest.specs.Keys.{Keyed, Deep, Within};
+ghost use Rattle.nest.specs.Keys.{Keyed, Deep, Within, Lined};
 ghost use Rattle.nest.specs.Ready.{Ready, outlineAt};
 use crate::Found;
 use crate::keys::Keys;
@@ -34,6 +34,19 @@ pub struct Claimed {
 pub enum Anchored {
     Is(Claimed),
     Nothing(TableId),
+}
+
+// An anchor loop, and the table whose rows it enters.
+pub struct AnchorLoop {
+    pub l: LoopId,
+    pub table: TableId,
+}
+
+// The anchors of a repeat table, n of them in the order in which they are tried, if they are whole.
+pub struct Line {
+    pub anchors: [AnchorLoop; 8],
+    pub n: u32,
+    pub whole: bool,
 }
 
 // Where a row hangs: the row above plus one, or 0; the anchor loop; the table of the row above.
@@ -185,19 +198,140 @@ pub fn claim(job: &[u8], index: &[u32], depths: [u8; 32], t: TableId, r: RowId) 
     }
 }
 
+// No anchors: each row goes through its table's loops.
+fn no_line() -> Line
+    ensures { λ s. ⌜ s .whole ≡ false ⌝ }
+{
+    Line {
+        anchors: [AnchorLoop {
+            l: LoopId(0),
+            table: TableId(0),
+        }; 8],
+        n: 0,
+        whole: false,
+    }
+}
+
+// The anchors of table t, the deepest first and equal depths in list order; more than eight are left to `claim`.
+pub fn line_up(job: &[u8], index: &[u32], depths: [u8; 32], t: TableId) -> Line
+    requires { ⌜ Ready (now job) (now index) × Deep (outlineAt (now job)) depths ⌝ }
+    ensures { λ s. ⌜ Lined (outlineAt (now (job .entry))) (t .0) s ⌝ }
+{
+    let count = spec::tables::table_loop_count(job, index, t);
+    let mut d = deepest(job, index, depths, t);
+    let mut i: u32 = 0;
+    let mut anchors = [AnchorLoop {
+        l: LoopId(0),
+        table: TableId(0),
+    }; 8];
+    let mut n: u32 = 0;
+    loop {
+        if i < count {
+            let l = spec::tables::table_loop(job, index, t, i);
+            let above = anchor(job, index, depths, l, d);
+            i = i + 1;
+            match above {
+                Number::Is(u) => {
+                    if n == 8 {
+                        return no_line();
+                    }
+                    let k = n as usize;
+                    anchors[k] = AnchorLoop {
+                        l: l,
+                        table: TableId(u),
+                    };
+                    n = n + 1;
+                }
+                Number::None => {}
+            }
+        } else {
+            if d == 0 {
+                return Line {
+                    anchors: anchors,
+                    n: n,
+                    whole: true,
+                };
+            }
+            d = d - 1;
+            i = 0;
+        }
+    }
+}
+
+// The anchors that rows of table t are hung by, if it repeats.
+pub fn line_of(job: &[u8], index: &[u32], depths: [u8; 32], t: TableId) -> Line
+    requires { ⌜ Ready (now job) (now index) × Deep (outlineAt (now job)) depths ⌝ }
+    ensures { λ s. ⌜ Lined (outlineAt (now (job .entry))) (t .0) s ⌝ }
+{
+    let again = spec::tables::repeats(job, index, t);
+    if again {
+        return line_up(job, index, depths, t);
+    }
+    no_line()
+}
+
+// The first of the anchors of table t, which are whole, whose reference row r has.
+pub fn claim_along(job: &[u8], index: &[u32], line: Line, t: TableId, r: RowId) -> Anchored
+    requires { ⌜ Ready (now job) (now index) × Lined (outlineAt (now job)) (t .0) line × (line .whole ≡ true) ⌝ }
+    ensures { λ c. ⌜ c ≡ claimBy (claimIn (outlineAt (now (job .entry))) (t .0) (r .0) (anchors (outlineAt (now (job .entry))) (t .0))) (lastTable (t .0) (anchors (outlineAt (now (job .entry))) (t .0))) ⌝ }
+{
+    let mut last = t.0;
+    let mut k: u32 = 0;
+    while k < line.n {
+        let i = k as usize;
+        let a = line.anchors[i];
+        let l = a.l;
+        let table = a.table;
+        let value = tables::data::reference(job, index, t, table.0, r);
+        match value {
+            OptInt::Number(v) => {
+                return Anchored::Is(Claimed {
+                    l: l,
+                    table: table,
+                    value: v,
+                });
+            }
+            OptInt::NoNumber => {
+                last = table.0;
+                k = k + 1;
+            }
+        }
+    }
+    Anchored::Nothing(TableId(last))
+}
+
+// The claim of row r of table t, by its anchors.
+pub fn claim_by(
+    job: &[u8],
+    index: &[u32],
+    depths: [u8; 32],
+    line: Line,
+    t: TableId,
+    r: RowId,
+) -> Anchored
+    requires { ⌜ Ready (now job) (now index) × Deep (outlineAt (now job)) depths × Lined (outlineAt (now job)) (t .0) line ⌝ }
+    ensures { λ c. ⌜ c ≡ claimBy (claimIn (outlineAt (now (job .entry))) (t .0) (r .0) (anchors (outlineAt (now (job .entry))) (t .0))) (lastTable (t .0) (anchors (outlineAt (now (job .entry))) (t .0))) ⌝ }
+{
+    if line.whole {
+        return claim_along(job, index, line, t, r);
+    }
+    claim(job, index, depths, t, r)
+}
+
 // Where row r of the repeat table t hangs.
 pub fn repeat_place(
     job: &[u8],
     index: &[u32],
     keys: [Keys; 16],
     depths: [u8; 32],
+    line: Line,
     t: TableId,
     r: RowId,
 ) -> Place
-    requires { ⌜ Ready (now job) (now index) × Keyed (outlineAt (now job)) keys × Deep (outlineAt (now job)) depths × (repeated (outlineAt (now job)) (t .0) ≡ true) ⌝ }
+    requires { ⌜ Ready (now job) (now index) × Keyed (outlineAt (now job)) keys × Deep (outlineAt (now job)) depths × (repeated (outlineAt (now job)) (t .0) ≡ true) × Lined (outlineAt (now job)) (t .0) line ⌝ }
     ensures { λ p. ⌜ Hung (outlineAt (now (job .entry))) (t .0) (r .0) p ⌝ }
 {
-    let anchored = claim(job, index, depths, t, r);
+    let anchored = claim_by(job, index, depths, line, t, r);
     match anchored {
         Anchored::Is(k) => {
             let l = k.l;
@@ -272,15 +406,16 @@ pub fn place_of(
     index: &[u32],
     keys: [Keys; 16],
     depths: [u8; 32],
+    line: Line,
     t: TableId,
     r: RowId,
 ) -> Place
-    requires { ⌜ Ready (now job) (now index) × Keyed (outlineAt (now job)) keys × Deep (outlineAt (now job)) depths ⌝ }
+    requires { ⌜ Ready (now job) (now index) × Keyed (outlineAt (now job)) keys × Deep (outlineAt (now job)) depths × Lined (outlineAt (now job)) (t .0) line ⌝ }
     ensures { λ p. ⌜ Hung (outlineAt (now (job .entry))) (t .0) (r .0) p ⌝ }
 {
     let again = spec::tables::repeats(job, index, t);
     if again {
-        return repeat_place(job, index, keys, depths, t, r);
+        return repeat_place(job, index, keys, depths, line, t, r);
     }
     parent_place(job, index, keys, t, r)
 }

@@ -9,6 +9,7 @@ ghost use Rattle.nest.specs.Ready.{Ready, outlineAt};
 ghost use Rattle.format.specs.Sections.{jobOf};
 ghost use Rattle.tables.specs.Parts.{rowsBefore};
 use crate::hang::all_depths;
+use crate::hang::line_of;
 use crate::hang::place_of;
 use crate::keys::Keys;
 use crate::keys::all_keys;
@@ -30,9 +31,10 @@ pub fn nest_table(
 {
     let first = tables::data::first_row(job, index, t);
     let n = tables::data::row_count(job, index, t);
+    let line = line_of(job, index, depths, t);
     let mut r: u32 = 0;
     while r < n {
-        let p = place_of(job, index, keys, depths, t, RowId(r));
+        let p = place_of(job, index, keys, depths, line, t, RowId(r));
         let l = p.l;
         let table = p.table;
         put_record(nest, first as usize + r as usize, p.above, l, table);

@@ -1,4 +1,7 @@
-use Rattle.nest.proofs.Claiming.{loop-small, Trying, trying-all, trying-here, trying-null, trying-other, trying-down, trying-end, less-down}
+use Rattle.nest.proofs.Claiming.{loop-small, all-left, left-here, left-passed, left-lower, left-over, Tried, tried-none, tried-on, tried-here, tried-next, tried-end, less-down}
+use Rattle.nest.proofs.Anchors.{left}
+use Rattle.nest.specs.Outline.{tableOf}
+use Rattle.nest.specs.OfJob.{outlineOf}
 use Rattle.nest.proofs.Ways.{refers, refers-not}
 use Rattle.spec.specs.Answers.{numberOf}
 use native.Mathlib.Omega.{arith}
@@ -17,7 +20,7 @@ use Rattle.spec.proofs.tables.table_loop_count.Reads as table-loop-count-reads
 use Rattle.tables.proofs.data.reference.Reads as reference-reads
 
 abbrev Inv-loop : tie.InvT-loop
-Inv-loop job index depths t r n d₀ i₀ last₀ d i last = Trying (jobOf job) (t .0) (r .0) d i last
+Inv-loop job index depths t r n d₀ i₀ last₀ d i last = Tried (jobOf job) (t .0) (r .0) last (left (outlineOf (jobOf job)) ((tableOf (outlineOf (jobOf job)) (t .0)) .loops) d i)
 
 abbrev μ-loop : tie.MeasureT-loop
 μ-loop job index depths t r n d₀ i₀ last₀ d i last = d * suc n + (n - i)
@@ -29,7 +32,7 @@ deepest-requires : tie.Need-deepest-requires Inv-loop μ-loop
 deepest-requires c κs = search needs
 
 loop-holds : tie.Need-loop-holds Inv-loop μ-loop
-loop-holds c = trying-all _ _ _ _ (c .deepest .ensures)
+loop-holds c = tried-none _ _ _ _ (all-left _ _ _ (c .deepest .ensures))
 
 table-loop-requires : tie.Need-table-loop-requires Inv-loop μ-loop
 table-loop-requires c κs = search needs
@@ -50,7 +53,7 @@ enum-known-value : tie.Need-enum-known-value Inv-loop μ-loop
 enum-known-value c = search needs
 
 returns : tie.Need-returns Inv-loop μ-loop
-returns c = trying-here _ _ _ _ _ _ _ _ (c .before .before .before .before .before .before .before .before .before .before .loop .inv) (c .before .before .before .before .before .before .before .before .before .before .before .before .table-loop-count .ensures) (c .before .before .before .before .before .before .before .before .before .if1 .taken) (c .before .before .before .before .before .before .before .before .table-loop .ensures) _ (sym (c .before .before .before .before .before .before .before .anchor .ensures) ∙ ap numberOf (c .before .before .before .before .before .above .given .1)) _ (refers _ _ _ _ _ (c .before .before .before .reference .ensures) _ (c .before .value .given .1))
+returns c = tried-here _ _ _ _ _ (c .before .before .before .before .before .before .before .before .before .before .loop .inv) _ _ _ _ (left-here _ _ _ _ _ _ (c .before .before .before .before .before .before .before .before .before .before .before .before .table-loop-count .ensures) (c .before .before .before .before .before .before .before .before .before .if1 .taken) (c .before .before .before .before .before .before .before .before .table-loop .ensures) _ (sym (c .before .before .before .before .before .before .before .anchor .ensures) ∙ ap numberOf (c .before .before .before .before .before .above .given .1))) (refers _ _ _ _ _ (c .before .before .before .reference .ensures) _ (c .before .value .given .1))
 
 enum-told : tie.Need-enum-told Inv-loop μ-loop
 enum-told c = search needs
@@ -59,7 +62,7 @@ loop-less : tie.Need-loop-less Inv-loop μ-loop
 loop-less c = omega arith
 
 loop-again : tie.Need-loop-again Inv-loop μ-loop
-loop-again c = trying-null _ _ _ _ _ _ _ _ (c .before .before .before .before .before .before .before .before .before .loop .inv) (c .before .before .before .before .before .before .before .before .before .before .before .table-loop-count .ensures) (c .before .before .before .before .before .before .before .before .if1 .taken) (c .before .before .before .before .before .before .before .table-loop .ensures) _ (sym (c .before .before .before .before .before .before .anchor .ensures) ∙ ap numberOf (c .before .before .before .before .above .given .1)) (refers-not _ _ _ _ _ (c .before .before .reference .ensures) (c .enum-told .given .1))
+loop-again c = tried-next _ _ _ _ _ (c .before .before .before .before .before .before .before .before .before .loop .inv) _ _ _ (left-here _ _ _ _ _ _ (c .before .before .before .before .before .before .before .before .before .before .before .table-loop-count .ensures) (c .before .before .before .before .before .before .before .before .if1 .taken) (c .before .before .before .before .before .before .before .table-loop .ensures) _ (sym (c .before .before .before .before .before .before .anchor .ensures) ∙ ap numberOf (c .before .before .before .before .above .given .1))) (refers-not _ _ _ _ _ (c .before .before .reference .ensures) (c .enum-told .given .1))
 
 enum-told-2 : tie.Need-enum-told-2 Inv-loop μ-loop
 enum-told-2 c = search needs
@@ -68,10 +71,10 @@ loop-less-2 : tie.Need-loop-less-2 Inv-loop μ-loop
 loop-less-2 c = omega arith
 
 loop-again-2 : tie.Need-loop-again-2 Inv-loop μ-loop
-loop-again-2 c = trying-other _ _ _ _ _ _ _ _ (c .before .before .before .before .before .loop .inv) (c .before .before .before .before .before .before .before .table-loop-count .ensures) (c .before .before .before .before .if1 .taken) (c .before .before .before .table-loop .ensures) (sym (c .before .before .anchor .ensures) ∙ ap numberOf (c .enum-told2 .given .1))
+loop-again-2 c = tried-on _ _ _ _ _ (c .before .before .before .before .before .loop .inv) _ (left-passed _ _ _ _ _ _ (c .before .before .before .before .before .before .before .table-loop-count .ensures) (c .before .before .before .before .if1 .taken) (c .before .before .before .table-loop .ensures) (sym (c .before .before .anchor .ensures) ∙ ap numberOf (c .enum-told2 .given .1)))
 
 returns-2 : tie.Need-returns-2 Inv-loop μ-loop
-returns-2 c = trying-end _ _ _ _ _ _ _ (c .before .before .loop .inv) (c .before .before .before .before .table-loop-count .ensures) (c .before .if1 .left) (c .if2 .taken)
+returns-2 c = tried-end _ _ _ _ _ (c .before .before .loop .inv) (left-over _ _ _ _ _ (c .before .before .before .before .table-loop-count .ensures) (c .before .if1 .left) (c .if2 .taken))
 
 sub-d : tie.Need-sub-d Inv-loop μ-loop
 sub-d c = search needs
@@ -80,7 +83,7 @@ loop-less-3 : tie.Need-loop-less-3 Inv-loop μ-loop
 loop-less-3 c = less-down _ _ _ (omega arith) (c .before .if1 .left)
 
 loop-again-3 : tie.Need-loop-again-3 Inv-loop μ-loop
-loop-again-3 c = trying-down _ _ _ _ _ _ _ (c .before .before .loop .inv) (c .before .before .before .before .table-loop-count .ensures) (c .before .if1 .left) (omega arith)
+loop-again-3 c = tried-on _ _ _ _ _ (c .before .before .loop .inv) _ (left-lower _ _ _ _ _ (c .before .before .before .before .table-loop-count .ensures) (c .before .if1 .left) (omega arith))
 
 pub claim-spec : {M : Type 1} → statement M
 claim-spec =

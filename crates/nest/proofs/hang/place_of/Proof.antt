@@ -13,7 +13,7 @@ repeats-requires : tie.Need-repeats-requires
 repeats-requires c κs = search needs
 
 repeat-place-requires : tie.Need-repeat-place-requires
-repeat-place-requires c κs = (c .before .before .before .before .pre .0, c .before .before .before .before .pre .1, c .before .before .before .before .pre .2, sym (repeats-is _ _ _ (c .before .repeats .ensures)) ∙ c .if1 .taken)
+repeat-place-requires c κs = (c .before .before .before .before .pre .0, c .before .before .before .before .pre .1, c .before .before .before .before .pre .2, sym (repeats-is _ _ _ (c .before .repeats .ensures)) ∙ c .if1 .taken, c .before .before .before .before .pre .3)
 
 returns : tie.Need-returns
 returns c = search needs

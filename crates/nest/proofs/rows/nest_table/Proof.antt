@@ -16,16 +16,17 @@ use Rattle.nest.proofs.rows.nest_table.Statement.{statement}
 use Rattle.nest.proofs.rows.nest_table.Tie as tie
 use Rattle.nest.proofs.rows.nest_table.Reads as reads
 use Rattle.nest.proofs.rows.nest_table.Lts as lts
+use Rattle.nest.proofs.hang.line_of.Reads as line-of-reads
 use Rattle.nest.proofs.hang.place_of.Reads as place-of-reads
 use Rattle.nest.proofs.put_record.Reads as put-record-reads
 use Rattle.tables.proofs.data.first_row.Reads as first-row-reads
 use Rattle.tables.proofs.data.row_count.Reads as row-count-reads
 
 abbrev Inv-loop : tie.InvT-loop
-Inv-loop job index nest₀ keys depths t first n r₀ nest r = Storing (nestRecord (outlineOf (jobOf job)) (t .0)) (rowCount (outlineOf (jobOf job)) (t .0)) nest₀ (rowsBefore (jobOf job .tables) (t .0) * 3) nest ((first + r) * 3) r × (r ≤ n)
+Inv-loop job index nest₀ keys depths t first n line r₀ nest r = Storing (nestRecord (outlineOf (jobOf job)) (t .0)) (rowCount (outlineOf (jobOf job)) (t .0)) nest₀ (rowsBefore (jobOf job .tables) (t .0) * 3) nest ((first + r) * 3) r × (r ≤ n)
 
 abbrev μ-loop : tie.MeasureT-loop
-μ-loop job index nest₀ keys depths t first n r₀ nest r = n - r
+μ-loop job index nest₀ keys depths t first n line r₀ nest r = n - r
 
 first-row-requires : tie.Need-first-row-requires Inv-loop μ-loop
 first-row-requires c κs = search needs
@@ -33,8 +34,11 @@ first-row-requires c κs = search needs
 row-count-requires : tie.Need-row-count-requires Inv-loop μ-loop
 row-count-requires c κs = search needs
 
+line-of-requires : tie.Need-line-of-requires Inv-loop μ-loop
+line-of-requires c κs = search needs
+
 loop-holds : tie.Need-loop-holds Inv-loop μ-loop
-loop-holds c = (storing-none _ _ _ _ _ (omega (arith, c .before .first-row .ensures)), omega arith)
+loop-holds c = (storing-none _ _ _ _ _ (omega (arith, c .before .before .first-row .ensures)), omega arith)
 
 place-of-requires : tie.Need-place-of-requires Inv-loop μ-loop
 place-of-requires c κs = search needs
@@ -46,10 +50,10 @@ cast-put-record-2 : tie.Need-cast-put-record-2 Inv-loop μ-loop
 cast-put-record-2 c = search needs
 
 add-put-record : tie.Need-add-put-record Inv-loop μ-loop
-add-put-record c = omega (arith, room-for _ _ _ _ _ (c .before .before .before .before .before .before .before .before .before .before .before .pre .0 .tables .few-rows) (c .before .before .before .before .before .before .before .first-row .ensures) (c .before .before .before .before .before .before .row-count .ensures) (c .before .before .before .before .loop-test .taken))
+add-put-record c = omega (arith, room-for _ _ _ _ _ (c .before .before .before .before .before .before .before .before .before .before .before .before .pre .0 .tables .few-rows) (c .before .before .before .before .before .before .before .before .first-row .ensures) (c .before .before .before .before .before .before .before .row-count .ensures) (c .before .before .before .before .loop-test .taken))
 
 put-record-requires : tie.Need-put-record-requires Inv-loop μ-loop
-put-record-requires c κs = omega (arith, c .before .before .before .before .before .loop .inv .0 .long, c .before .before .before .before .before .before .before .before .before .before .before .pre .3, room-for _ _ _ _ _ (c .before .before .before .before .before .before .before .before .before .before .before .pre .0 .tables .few-rows) (c .before .before .before .before .before .before .before .first-row .ensures) (c .before .before .before .before .before .before .row-count .ensures) (c .before .before .before .before .loop-test .taken))
+put-record-requires c κs = omega (arith, c .before .before .before .before .before .loop .inv .0 .long, c .before .before .before .before .before .before .before .before .before .before .before .before .pre .3, room-for _ _ _ _ _ (c .before .before .before .before .before .before .before .before .before .before .before .before .pre .0 .tables .few-rows) (c .before .before .before .before .before .before .before .before .first-row .ensures) (c .before .before .before .before .before .before .before .row-count .ensures) (c .before .before .before .before .loop-test .taken))
 
 add-r : tie.Need-add-r Inv-loop μ-loop
 add-r c = search needs
@@ -58,13 +62,13 @@ loop-less : tie.Need-loop-less Inv-loop μ-loop
 loop-less c = search needs
 
 loop-again : tie.Need-loop-again Inv-loop μ-loop
-loop-again c = (storing-next _ _ _ _ _ _ _ _ _ _ (c .before .before .before .before .before .before .before .before .loop .inv .0) (c .before .before .before .before .before .before .before .before .before .row-count .ensures ∙ sym (rows-is _ _)) (c .before .before .before .before .before .before .before .loop-test .taken) (stored-row _ _ _ _ _ _ _ _ (c .before .before .before .before .before .before .place-of .ensures) refl (c .before .before .put-record .ensures)) (row-next _ _ _ _), omega arith)
+loop-again c = (storing-next _ _ _ _ _ _ _ _ _ _ (c .before .before .before .before .before .before .before .before .loop .inv .0) (c .before .before .before .before .before .before .before .before .before .before .row-count .ensures ∙ sym (rows-is _ _)) (c .before .before .before .before .before .before .before .loop-test .taken) (stored-row _ _ _ _ _ _ _ _ (c .before .before .before .before .before .before .place-of .ensures) refl (c .before .before .put-record .ensures)) (row-next _ _ _ _), omega arith)
 
 same-length : tie.Need-same-length Inv-loop μ-loop
 same-length c = c .before .loop .inv .0 .long
 
 returns : tie.Need-returns Inv-loop μ-loop
-returns c = storing-end _ _ _ _ _ _ _ _ _ (c .before .loop .inv .0) (c .before .before .row-count .ensures ∙ sym (rows-is _ _)) (c .loop-test .left) (table-array-all _ _)
+returns c = storing-end _ _ _ _ _ _ _ _ _ (c .before .loop .inv .0) (c .before .before .before .row-count .ensures ∙ sym (rows-is _ _)) (c .loop-test .left) (table-array-all _ _)
 
 pub nest-table-spec : {M : Type 1} → statement M
 nest-table-spec =
@@ -74,6 +78,7 @@ nest-table-spec =
     μ-loop
     first-row-requires
     row-count-requires
+    line-of-requires
     loop-holds
     place-of-requires
     cast-put-record
