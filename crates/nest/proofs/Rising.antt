@@ -121,6 +121,13 @@ module _ (j : Job) (u v : ℕ) where
       differs p k true q z = omega (arith, w .below p (ltb-true p low q), z)
       differs p k false q z = omega (arith, w .above p (omega (arith, h, ltb-false p low q)) k, z)
 
+  -- a row that is looked at first
+  pub key-there : (k n key : ℕ) → n ≡ (A.dataOf j u) .rows → k < n → key ≡ keyOf (A.dataOf j u) k → key ≡ v → (k < rowCount (outlineOf j) u) × (outlineOf j .key u k ≡ v)
+  key-there k n key c h e q = (omega (arith, c, h, rows-is j u), key-is j u k ∙ sym e ∙ q)
+
+  pub key-here : (k : ℕ) → Rises (outlineOf j) u → (k < rowCount (outlineOf j) u) × (outlineOf j .key u k ≡ v) → foundBy (some k) ≡ foundBy (sought j u v 0)
+  key-here k r w = between-here 0 (rowCount (outlineOf j) u) k (keyOf (A.dataOf j u) k) r (between-all (rowCount (outlineOf j) u) (rows-is j u)) (w .0) refl (sym (key-is j u k) ∙ w .1)
+
 -- ---- what is known of a table's keys
 module _ (j : Outline) (u : ℕ) (ks : List Keys) (k : Keys) (w : Keyed j ks) (e : k ≡ getD ks u None) where
   pub known-are : KeysAre j u k

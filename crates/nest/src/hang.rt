@@ -327,6 +327,7 @@ pub fn repeat_place(
     line: Line,
     t: TableId,
     r: RowId,
+    near: u32,
 ) -> Place
     requires { ⌜ Ready (now job) (now index) × Keyed (outlineAt (now job)) keys × Deep (outlineAt (now job)) depths × (repeated (outlineAt (now job)) (t .0) ≡ true) × Lined (outlineAt (now job)) (t .0) line ⌝ }
     ensures { λ p. ⌜ Hung (outlineAt (now (job .entry))) (t .0) (r .0) p ⌝ }
@@ -336,7 +337,7 @@ pub fn repeat_place(
         Anchored::Is(k) => {
             let l = k.l;
             let table = k.table;
-            let found = first_row(job, index, keys, table, k.value);
+            let found = first_row(job, index, keys, table, k.value, near);
             match found {
                 Found::Row(p) => {
                     return Place {
@@ -365,14 +366,21 @@ pub fn repeat_place(
 }
 
 // Where row r of another table t hangs.
-pub fn parent_place(job: &[u8], index: &[u32], keys: [Keys; 16], t: TableId, r: RowId) -> Place
+pub fn parent_place(
+    job: &[u8],
+    index: &[u32],
+    keys: [Keys; 16],
+    t: TableId,
+    r: RowId,
+    near: u32,
+) -> Place
     requires { ⌜ Ready (now job) (now index) × Keyed (outlineAt (now job)) keys × (repeated (outlineAt (now job)) (t .0) ≡ false) ⌝ }
     ensures { λ p. ⌜ Hung (outlineAt (now (job .entry))) (t .0) (r .0) p ⌝ }
 {
     let parent = spec::tables::table_parent(job, index, t);
     match parent {
         Number::Is(u) => {
-            let found = referred(job, index, keys, t, r, TableId(u));
+            let found = referred(job, index, keys, t, r, TableId(u), near);
             match found {
                 Found::Row(p) => {
                     return Place {
@@ -400,7 +408,7 @@ pub fn parent_place(job: &[u8], index: &[u32], keys: [Keys; 16], t: TableId, r: 
     }
 }
 
-// Where row r of table t hangs.
+// Where row r of table t hangs, looked for from `near` on.
 pub fn place_of(
     job: &[u8],
     index: &[u32],
@@ -409,13 +417,14 @@ pub fn place_of(
     line: Line,
     t: TableId,
     r: RowId,
+    near: u32,
 ) -> Place
     requires { ⌜ Ready (now job) (now index) × Keyed (outlineAt (now job)) keys × Deep (outlineAt (now job)) depths × Lined (outlineAt (now job)) (t .0) line ⌝ }
     ensures { λ p. ⌜ Hung (outlineAt (now (job .entry))) (t .0) (r .0) p ⌝ }
 {
     let again = spec::tables::repeats(job, index, t);
     if again {
-        return repeat_place(job, index, keys, depths, line, t, r);
+        return repeat_place(job, index, keys, depths, line, t, r, near);
     }
-    parent_place(job, index, keys, t, r)
+    parent_place(job, index, keys, t, r, near)
 }

@@ -1,6 +1,7 @@
 // Keys and the rows that they name. Only tables in some ancestor list have keys.
 ghost use mathlib.Core.Path.{_≡_};
 ghost use mathlib.Core.Bool.{true};
+ghost use Prim.Native.Nat.{_<_};
 ghost use lib.Dec.{eqb};
 ghost use lib.ListN.{getD};
 ghost use Rattle.nest.specs.Lists.{keep, first, upTo, some-of};
@@ -146,6 +147,39 @@ pub fn search(job: &[u8], index: &[u32], u: TableId, v: u64) -> Found
     Found::Nothing
 }
 
+// Whether u has a row k and v is its key.
+pub fn is_key(job: &[u8], index: &[u32], u: TableId, v: u64, k: u32) -> bool
+    requires { ⌜ Ready (now job) (now index) ⌝ }
+    ensures { λ r. ⌜ (r ≡ true → (k < rowCount (outlineAt (now (job .entry))) (u .0)) × (outlineAt (now (job .entry)) .key (u .0) k ≡ v)) ⌝ }
+{
+    let n = tables::data::row_count(job, index, u);
+    if k < n {
+        let key = tables::data::key(job, index, u, RowId(k));
+        if key == v {
+            return true;
+        }
+    }
+    false
+}
+
+// The row of u whose key is v, where the keys of u rise: the rows before and at `near` are looked at first.
+pub fn search_near(job: &[u8], index: &[u32], u: TableId, v: u64, near: u32) -> Found
+    requires { ⌜ Ready (now job) (now index) × Rises (outlineAt (now job)) (u .0) ⌝ }
+    ensures { λ f. ⌜ f ≡ foundBy (first (keep (λ p. eqb (outlineAt (now (job .entry)) .key (u .0) p) v) (upTo 0 (rowCount (outlineAt (now (job .entry))) (u .0))))) ⌝ }
+{
+    if 0 < near {
+        let same = is_key(job, index, u, v, near - 1);
+        if same {
+            return Found::Row(RowId(near - 1));
+        }
+    }
+    let next = is_key(job, index, u, v, near);
+    if next {
+        return Found::Row(RowId(near));
+    }
+    search(job, index, u, v)
+}
+
 // What is known of the keys of u, by the list of all tables.
 pub fn known(keys: [Keys; 16], u: TableId) -> Keys
     ensures { λ k. ⌜ k ≡ getD keys (u .0) Keys.None ⌝ }
@@ -157,8 +191,15 @@ pub fn known(keys: [Keys; 16], u: TableId) -> Keys
     Keys::None
 }
 
-// The first row of u whose key is v; a table without keys is not searched.
-pub fn first_row(job: &[u8], index: &[u32], keys: [Keys; 16], u: TableId, v: u64) -> Found
+// The first row of u whose key is v, looked for from `near` on; a table without keys is not searched.
+pub fn first_row(
+    job: &[u8],
+    index: &[u32],
+    keys: [Keys; 16],
+    u: TableId,
+    v: u64,
+    near: u32,
+) -> Found
     requires { ⌜ Ready (now job) (now index) × Keyed (outlineAt (now job)) keys ⌝ }
     ensures { λ f. ⌜ f ≡ foundBy (firstRow (outlineAt (now (job .entry))) (u .0) v) ⌝ }
 {
@@ -166,7 +207,7 @@ pub fn first_row(job: &[u8], index: &[u32], keys: [Keys; 16], u: TableId, v: u64
     match k {
         Keys::None => Found::Nothing,
         Keys::Any => first_with(job, index, u, v),
-        Keys::Rising => search(job, index, u, v),
+        Keys::Rising => search_near(job, index, u, v, near),
     }
 }
 
@@ -178,13 +219,14 @@ pub fn referred(
     t: TableId,
     r: RowId,
     u: TableId,
+    near: u32,
 ) -> Found
     requires { ⌜ Ready (now job) (now index) × Keyed (outlineAt (now job)) keys ⌝ }
     ensures { λ f. ⌜ f ≡ foundBy (referred (outlineAt (now (job .entry))) (t .0) (r .0) (u .0)) ⌝ }
 {
     let value = tables::data::reference(job, index, t, u.0, r);
     match value {
-        OptInt::Number(v) => first_row(job, index, keys, u, v),
+        OptInt::Number(v) => first_row(job, index, keys, u, v, near),
         OptInt::NoNumber => Found::Nothing,
     }
 }

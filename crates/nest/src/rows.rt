@@ -32,12 +32,14 @@ pub fn nest_table(
     let first = tables::data::first_row(job, index, t);
     let n = tables::data::row_count(job, index, t);
     let line = line_of(job, index, depths, t);
+    let mut near: u32 = 0;
     let mut r: u32 = 0;
     while r < n {
-        let p = place_of(job, index, keys, depths, line, t, RowId(r));
+        let p = place_of(job, index, keys, depths, line, t, RowId(r), near);
         let l = p.l;
         let table = p.table;
         put_record(nest, first as usize + r as usize, p.above, l, table);
+        near = p.above;
         r = r + 1;
     }
 }

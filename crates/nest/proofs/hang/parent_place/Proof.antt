@@ -20,8 +20,8 @@ referred-requires c κs = search needs
 enum-known-found : tie.Need-enum-known-found
 enum-known-found c = search needs
 
-add-t11 : tie.Need-add-t11
-add-t11 c = omega (arith, referred-small _ _ _ _ _ _ (c .before .before .before .before .before .before .before .before .before .before .before .pre .0 .tables .few-rows) (c .before .before .before .before .referred .ensures) (c .before .before .found .given .1))
+add-t12 : tie.Need-add-t12
+add-t12 c = omega (arith, referred-small _ _ _ _ _ _ (c .before .before .before .before .before .before .before .before .before .before .before .pre .0 .tables .few-rows) (c .before .before .before .before .referred .ensures) (c .before .before .found .given .1))
 
 returns : tie.Need-returns
 returns c = hung-parent _ _ _ (c .before .before .before .before .before .before .before .before .before .before .before .pre .2) _ (c .before .before .before .before .before .before .before .before .table-parent .ensures) _ (c .before .before .before .before .before .before .parent .given .1) _ (c .before .before .before .before .referred .ensures) _ (c .before .before .found .given .1)
@@ -46,7 +46,7 @@ parent-place-spec =
     enum-known-parent
     referred-requires
     enum-known-found
-    add-t11
+    add-t12
     returns
     enum-told
     returns-2

@@ -20,8 +20,8 @@ first-row-requires c κs = search needs
 enum-known-found : tie.Need-enum-known-found
 enum-known-found c = search needs
 
-add-t14 : tie.Need-add-t14
-add-t14 c = omega (arith, first-small _ _ _ _ _ (c .before .before .before .before .before .before .before .before .before .before .before .before .before .pre .0 .tables .few-rows) (c .before .before .before .before .first-row .ensures) (c .before .before .found .given .1))
+add-t15 : tie.Need-add-t15
+add-t15 c = omega (arith, first-small _ _ _ _ _ (c .before .before .before .before .before .before .before .before .before .before .before .before .before .pre .0 .tables .few-rows) (c .before .before .before .before .first-row .ensures) (c .before .before .found .given .1))
 
 returns : tie.Need-returns
 returns c = hung-hooked _ _ _ (c .before .before .before .before .before .before .before .before .before .before .before .before .before .pre .3) _ _ (c .before .before .before .before .before .before .before .before .before .before .claim-by .ensures) _ (c .before .before .before .before .before .before .before .before .anchored .given .1) _ (c .before .before .before .before .first-row .ensures) _ (c .before .before .found .given .1)
@@ -46,7 +46,7 @@ repeat-place-spec =
     enum-known-anchored
     first-row-requires
     enum-known-found
-    add-t14
+    add-t15
     returns
     enum-told
     returns-2

@@ -6,7 +6,7 @@ use Rattle.nest.proofs.keys.first_row.Reads as reads
 use Rattle.nest.proofs.keys.first_row.Lts as lts
 use Rattle.nest.proofs.keys.first_with.Reads as first-with-reads
 use Rattle.nest.proofs.keys.known.Reads as known-reads
-use Rattle.nest.proofs.keys.search.Reads as search-reads
+use Rattle.nest.proofs.keys.search_near.Reads as search-near-reads
 
 known-requires : tie.Need-known-requires
 known-requires c κs = search needs
@@ -23,8 +23,8 @@ first-with-requires c κs = search needs
 enum-told-3 : tie.Need-enum-told-3
 enum-told-3 c = search needs
 
-search-requires : tie.Need-search-requires
-search-requires c κs = (c .before .before .before .before .before .pre .0, known-rises _ _ _ _ (c .before .before .before .before .before .pre .1) (c .before .before .known .ensures) (c .enum-told3 .given .1))
+search-near-requires : tie.Need-search-near-requires
+search-near-requires c κs = (c .before .before .before .before .before .pre .0, known-rises _ _ _ _ (c .before .before .before .before .before .pre .1) (c .before .before .known .ensures) (c .enum-told3 .given .1))
 
 returns : tie.Need-returns
 returns c = known-none _ _ _ _ (c .before .before .before .before .before .pre .1) (c .before .before .known .ensures) _ (c .enum-told .given .1)
@@ -33,7 +33,7 @@ returns-2 : tie.Need-returns-2
 returns-2 c = known-any _ _ _ _ (c .before .before .before .before .before .before .pre .1) (c .before .before .before .known .ensures) _ _ (c .before .enum-told2 .given .1) (c .first-with .ensures)
 
 returns-3 : tie.Need-returns-3
-returns-3 c = known-rising _ _ _ _ (c .before .before .before .before .before .before .pre .1) (c .before .before .before .known .ensures) _ _ (c .before .enum-told3 .given .1) (c .search .ensures)
+returns-3 c = known-rising _ _ _ _ (c .before .before .before .before .before .before .pre .1) (c .before .before .before .known .ensures) _ _ (c .before .enum-told3 .given .1) (c .search-near .ensures)
 
 pub first-row-spec : {M : Type 1} → statement M
 first-row-spec =
@@ -44,7 +44,7 @@ first-row-spec =
     enum-told-2
     first-with-requires
     enum-told-3
-    search-requires
+    search-near-requires
     returns
     returns-2
     returns-3)

@@ -23,10 +23,10 @@ use Rattle.tables.proofs.data.first_row.Reads as first-row-reads
 use Rattle.tables.proofs.data.row_count.Reads as row-count-reads
 
 abbrev Inv-loop : tie.InvT-loop
-Inv-loop job index nest₀ keys depths t first n line r₀ nest r = Storing (nestRecord (outlineOf (jobOf job)) (t .0)) (rowCount (outlineOf (jobOf job)) (t .0)) nest₀ (rowsBefore (jobOf job .tables) (t .0) * 3) nest ((first + r) * 3) r × (r ≤ n)
+Inv-loop job index nest₀ keys depths t first n line near₀ r₀ nest near r = Storing (nestRecord (outlineOf (jobOf job)) (t .0)) (rowCount (outlineOf (jobOf job)) (t .0)) nest₀ (rowsBefore (jobOf job .tables) (t .0) * 3) nest ((first + r) * 3) r × (r ≤ n)
 
 abbrev μ-loop : tie.MeasureT-loop
-μ-loop job index nest₀ keys depths t first n line r₀ nest r = n - r
+μ-loop job index nest₀ keys depths t first n line near₀ r₀ nest near r = n - r
 
 first-row-requires : tie.Need-first-row-requires Inv-loop μ-loop
 first-row-requires c κs = search needs
