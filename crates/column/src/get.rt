@@ -122,7 +122,7 @@ pub fn short_cell(job: &[u8], at: usize, kind: usize, n: usize, row: u32) -> Cel
     }
 }
 
-// The cell of a row in the column that stands at a place.
+// The cell of a row in the column that stands at a place. Asked for in this order, the compiler tests for bytes first.
 pub fn get(job: &[u8], at: usize, row: u32) -> Cell
     requires { ⌜ at < 2199023255552 ⌝ }
     ensures { λ r. ⌜ ((e : ℕ) (v : Column) → e ≤ length (now (job .entry)) → Is columnC (now (job .entry)) e at v → Reads (now (job .entry)) r (getOf v row)) ⌝ }
