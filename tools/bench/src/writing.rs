@@ -8,12 +8,14 @@ use std::time::Duration;
 
 const LISTING: &str = include_str!("../../samples/listing.txt");
 
-/// Small, usual, as many rows as there may be, and many groups.
+/// Small, usual and larger, as many rows as there may be, and many groups.
 pub fn jobs() -> Vec<(&'static str, Job)> {
     vec![
         ("the listing", listing()),
         ("the remittance", generate::remit::sample()),
-        ("twelve remittances", remittances(12)),
+        ("a payment of 36 claims", over(1, 12)),
+        ("a payment of 108 claims", over(1, 36)),
+        ("twelve remittances", over(0, 12)),
         ("4,096 rows", rows(1_024, 3_072)),
         ("2,048 groups of two rows", groups(4_096, 2)),
     ]
@@ -50,26 +52,26 @@ fn groups(rows: i32, each: i32) -> Job {
     job
 }
 
-/// The sample's rows so many times over, with keys of their own.
-fn remittances(times: i64) -> Job {
+/// The sample's rows so many times over, with keys of their own, from a table on; the rows of the tables before it stand once.
+fn over(from: usize, times: i64) -> Job {
     let mut job = generate::remit::sample();
-    for table in &mut job.data {
+    for table in &mut job.data[from..] {
         let rows = table.rows as usize;
-        let numbers = |column: &Option<Column>| {
+        let numbers = |column: &Option<Column>, step: i64| {
             let Some(Column { values: job::Values::Int64(values, scale), validity }) = column else {
                 return column.clone();
             };
             let cells = (0..times).flat_map(|time| {
                 (0..rows).map(move |row| {
                     let there = validity.bit(row) != Some(false);
-                    values.get(row).filter(|_| there).map(|value| value + time * 100)
+                    values.get(row).filter(|_| there).map(|value| value + time * step)
                 })
             });
             Some(Column::int64(&cells.collect::<Vec<_>>(), *scale))
         };
-        table.row = numbers(&table.row);
-        for reference in &mut table.refs {
-            reference.1 = numbers(&reference.1);
+        table.row = numbers(&table.row, 100);
+        for (above, column) in &mut table.refs {
+            *column = numbers(column, if (*above as usize) < from { 0 } else { 100 });
         }
         table.segment = again(&table.segment, rows, times as usize);
         for column in &mut table.columns {
