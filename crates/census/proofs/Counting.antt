@@ -46,38 +46,48 @@ pub below-start : (o : Outline) (h l : ℕ) (c : Context) (n : ℕ) → n ≤ to
 unfolding belowFrom enteredBelow
 below-start o h l c n f = record { rest = refl; few = f; alone = λ z. refl }
 
+module _ (j : Job) (l i count : ℕ) (e : count ≡ length (A.orderOf j l)) where
+  items : count ≡ length (orderOf (outlineOf j) l)
+  items = e ∙ sym (order-length j l)
+
+  pub loops-end : count ≤ i → itemLoops (drop i (orderOf (outlineOf j) l)) ≡ []
+  loops-end z = let past : length (orderOf (outlineOf j) l) ≤ i = omega (arith, items) in ap itemLoops (drop-of-length-le (orderOf (outlineOf j) l) past)
+
+  module _ (x : Answer) (z : i < count) (a : itemOf x ≡ getD (A.orderOf j l) i noItem) where
+    item-is : getD (orderOf (outlineOf j) l) i (segment 0) ≡ itemIn (itemOf x)
+    item-is = order-item j l i ∙ ap itemIn (sym a)
+
+    here : drop i (orderOf (outlineOf j) l) ≡ itemIn (itemOf x) ∷ drop (i + 1) (orderOf (outlineOf j) l)
+    here = drop-next (orderOf (outlineOf j) l) i (segment 0) (omega (arith, items)) ∙ ap (λ v. v ∷ drop (i + 1) (orderOf (outlineOf j) l)) item-is
+
+    pub loops-segment : (k : ℕ) → x ≡ Segment k → itemLoops (drop i (orderOf (outlineOf j) l)) ≡ itemLoops (drop (i + 1) (orderOf (outlineOf j) l))
+    loops-segment k q = ap itemLoops (here ∙ ap (λ v. itemIn (itemOf v) ∷ drop (i + 1) (orderOf (outlineOf j) l)) q)
+
+    pub loops-loop : (k : LoopId) → x ≡ Loop k → itemLoops (drop i (orderOf (outlineOf j) l)) ≡ k .0 ∷ itemLoops (drop (i + 1) (orderOf (outlineOf j) l))
+    loops-loop k q = ap itemLoops (here ∙ ap (λ v. itemIn (itemOf v) ∷ drop (i + 1) (orderOf (outlineOf j) l)) q)
+
 module _ (j : Job) (h l : ℕ) (c : Context) (n i m : ℕ) (leaf : Bool) (s : Below (outlineOf j) h l c n i m leaf) (count : ℕ) (e : count ≡ length (A.orderOf j l)) where
   abbrev o : Outline
   o = outlineOf j
 
-  items : count ≡ length (orderOf o l)
-  items = e ∙ sym (order-length j l)
-
   pub below-end : count ≤ i → (m ≡ min (n + enteredBelow o h l c) tooMany) × (leaf ≡ true → itemLoops (orderOf o l) ≡ [])
   unfolding belowFrom
   below-end z =
-      let past : length (orderOf o l) ≤ i = omega (arith, items) in
-      let none-left : itemLoops (drop i (orderOf o l)) ≡ [] = ap itemLoops (drop-of-length-le (orderOf o l) past) in
+      let none-left = loops-end j l i count e z in
       let q : belowFrom o h l c i ≡ 0 = ap (sum (enteredBy o h c)) none-left in
       (sym (s .rest ∙ omega (arith, q, s .few)), λ y. s .alone y ∙ none-left)
 
   module _ (x : Answer) (z : i < count) (a : itemOf x ≡ getD (A.orderOf j l) i noItem) where
-    item-is : getD (orderOf o l) i (segment 0) ≡ itemIn (itemOf x)
-    item-is = order-item j l i ∙ ap itemIn (sym a)
-
-    here : drop i (orderOf o l) ≡ itemIn (itemOf x) ∷ drop (i + 1) (orderOf o l)
-    here = drop-next (orderOf o l) i (segment 0) (omega (arith, items)) ∙ ap (λ v. v ∷ drop (i + 1) (orderOf o l)) item-is
-
     pub below-segment : (k : ℕ) → x ≡ Segment k → Below o h l c n (i + 1) m leaf
     unfolding belowFrom
     below-segment k q =
-        let same : itemLoops (drop i (orderOf o l)) ≡ itemLoops (drop (i + 1) (orderOf o l)) = ap itemLoops (here ∙ ap (λ v. itemIn (itemOf v) ∷ drop (i + 1) (orderOf o l)) q) in
+        let same = loops-segment j l i count e x z a k q in
         record { rest = s .rest ∙ ap (λ xs. min (m + sum (enteredBy o h c) xs) tooMany) same; few = s .few; alone = λ y. s .alone y ∙ same }
 
     pub below-loop : (k : LoopId) (r : ℕ) → x ≡ Loop k → r ≡ min (m + entersIn (visits o h (k .0) c)) tooMany → Below o h l c n (i + 1) r false
     unfolding belowFrom
     below-loop k r q g =
-        let more : belowFrom o h l c i ≡ enteredBy o h c (k .0) + belowFrom o h l c (i + 1) = ap (λ xs. sum (enteredBy o h c) (itemLoops xs)) (here ∙ ap (λ v. itemIn (itemOf v) ∷ drop (i + 1) (orderOf o l)) q) in
+        let more : belowFrom o h l c i ≡ enteredBy o h c (k .0) + belowFrom o h l c (i + 1) = ap (sum (enteredBy o h c)) (loops-loop j l i count e x z a k q) in
         record { rest = s .rest ∙ omega (arith, more, g, s .few); few = omega (arith, g); alone = λ y. absurd (false≢true y) }
 
 -- ---- the instances of a loop: `from` gave all of them, and `cur` gives those that are left
@@ -97,7 +107,7 @@ entering o nest h l n cur f g = record { rest = refl; few = f; alone = λ z. abs
 pub entered-deep : (o : Outline) (h l : ℕ) (c : Context) (n : ℕ) → n ≤ tooMany → h ≡ 0 → n ≡ min (n + entersIn (visits o h l c)) tooMany
 entered-deep o h l c n f e = let q : entersIn (visits o h l c) ≡ 0 = rw e (enters-deep o l c) in omega (arith, q)
 
-all-entered : (o : Outline) (h l : ℕ) (c : Context) → (h ≡ 0 → ⊥) → entersIn (visits o h l c) ≡ sum (enteredWith o (h - 1) l) (instances o h l c)
+pub all-entered : (o : Outline) (h l : ℕ) (c : Context) → (h ≡ 0 → ⊥) → entersIn (visits o h l c) ≡ sum (enteredWith o (h - 1) l) (instances o h l c)
 unfolding enteredBelow
 all-entered o zero l c d = absurd (d refl)
 all-entered o (suc h) l c d = rw sub-one (enters-visits o h l c)
@@ -157,23 +167,29 @@ outside-is c e = ap contextBy e ∙ stands-outside
 pub outside-sound : (o : Outline) (c : Kept) → c ≡ keptOutside → Sound o (contextBy c)
 outside-sound o c e = subst (Sound o) (sym (outside-is c e)) (sound-outside o)
 
-module _ (j : Job) (i n : ℕ) (s : Rooted j i n) (count : ℕ) (e : count ≡ length (j .spec .roots)) where
+module _ (j : Job) (i count : ℕ) (e : count ≡ length (j .spec .roots)) where
   roots-length : count ≡ length (outlineOf j .roots)
   roots-length = e ∙ sym (ap length (roots-is j))
 
-  pub rooted-end : count ≤ i → n ≡ min (census (outlineOf j)) tooMany
+  pub roots-end : count ≤ i → rootsFrom (outlineOf j) i ≡ 0
   unfolding rootsFrom
-  rooted-end z =
-      let q : rootsFrom (outlineOf j) i ≡ 0 = sum-past _ (outlineOf j .roots) i (omega (arith, roots-length)) in
-      sym (s .rest ∙ omega (arith, q, s .few))
+  roots-end z = sum-past _ (outlineOf j .roots) i (omega (arith, roots-length))
+
+  pub roots-next : (l h : ℕ) → i < count → l ≡ getD (j .spec .roots) i 0 → h ≡ length (j .spec .loops) → rootsFrom (outlineOf j) i ≡ entersIn (visits (outlineOf j) h l outside) + rootsFrom (outlineOf j) (i + 1)
+  unfolding rootsFrom
+  roots-next l h z a b =
+      let its : getD (outlineOf j .roots) i 0 ≡ l = ap (λ xs. getD xs i 0) (roots-is j) ∙ sym a in
+      let high : length (outlineOf j .loops) ≡ h = loop-count-is j ∙ sym b in
+      let one : enteredBy (outlineOf j) (length (outlineOf j .loops)) outside (getD (outlineOf j .roots) i 0) ≡ entersIn (visits (outlineOf j) h l outside) = rw (its, high) refl in
+      sum-at _ (outlineOf j .roots) i 0 (omega (arith, roots-length)) ∙ ap (λ v. v + rootsFrom (outlineOf j) (i + 1)) one
+
+module _ (j : Job) (i n : ℕ) (s : Rooted j i n) (count : ℕ) (e : count ≡ length (j .spec .roots)) where
+  pub rooted-end : count ≤ i → n ≡ min (census (outlineOf j)) tooMany
+  rooted-end z = let q = roots-end j i count e z in sym (s .rest ∙ omega (arith, q, s .few))
 
   pub rooted-next : (l h r : ℕ) (c : Kept) → i < count → l ≡ getD (j .spec .roots) i 0 → h ≡ length (j .spec .loops) → c ≡ keptOutside
       → r ≡ min (n + entersIn (visits (outlineOf j) h l (contextBy c))) tooMany → Rooted j (i + 1) r
-  unfolding rootsFrom
   rooted-next l h r c z a b k g =
-      let its : getD (outlineOf j .roots) i 0 ≡ l = ap (λ xs. getD xs i 0) (roots-is j) ∙ sym a in
-      let high : length (outlineOf j .loops) ≡ h = loop-count-is j ∙ sym b in
-      let one : enteredBy (outlineOf j) (length (outlineOf j .loops)) outside (getD (outlineOf j .roots) i 0) ≡ entersIn (visits (outlineOf j) h l (contextBy c)) = rw (its, high, outside-is c k) refl in
-      let q : rootsFrom (outlineOf j) i ≡ entersIn (visits (outlineOf j) h l (contextBy c)) + rootsFrom (outlineOf j) (i + 1) =
-      sum-at _ (outlineOf j .roots) i 0 (omega (arith, roots-length)) ∙ ap (λ v. v + rootsFrom (outlineOf j) (i + 1)) one in
-      record { rest = s .rest ∙ omega (arith, q, g, s .few); few = omega (arith, g) }
+      let one : entersIn (visits (outlineOf j) h l (contextBy c)) ≡ entersIn (visits (outlineOf j) h l outside) = ap (λ d. entersIn (visits (outlineOf j) h l d)) (outside-is c k) in
+      let q = roots-next j i count e l h z a b in
+      record { rest = s .rest ∙ omega (arith, q, one, g, s .few); few = omega (arith, g) }

@@ -1,2 +1,4 @@
 pub mod Small
 pub mod Counting
+pub mod Bounding
+pub mod Widths

@@ -17,7 +17,7 @@ ghost use Rattle.writer.specs.Answer.{numberOf, valuesOf};
 ghost use Rattle.writer.specs.Result.{resultOf};
 ghost use Rattle.writer.specs.Wrote.{windowFrom, WroteFrom};
 ghost use Rattle.writer.specs.Filled.{firstState, startOf, Filled};
-use census::census;
+use census::crowded;
 use emit::state::Counts;
 use emit::state::Mark;
 use emit::state::State;
@@ -177,8 +177,8 @@ fn nested(
     requires { ⌜ Nested (now job) (now index) (now nest) ⌝ }
     ensures { λ a. ⌜ WroteFrom (now (job .entry)) (now (document .entry)) (now (document .exit)) (now (segments .entry)) (now (segments .exit)) (now (window .entry)) (now (window .exit)) (now (stops .entry)) (now (stops .exit)) from room a ⌝ }
 {
-    let n = census(job, index, nest);
-    if 65536 < n {
+    let many = crowded(job, index, nest);
+    if many {
         return Answer::Instances;
     }
     walked(

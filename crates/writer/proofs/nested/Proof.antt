@@ -1,18 +1,18 @@
-use mathlib.Core.Path.{refl}
-use native.Mathlib.Omega.{arith}
+use mathlib.Core.Path.{refl, sym, _∙_}
+use borrow.Author.Tests.{ltb-true, ltb-false}
 use Rattle.writer.proofs.AnswerLaws.{refused-6, passed-refusal, wrote-refused}
 use borrow.Author.Needs.{needs}
 use Rattle.writer.proofs.nested.Statement.{statement}
 use Rattle.writer.proofs.nested.Tie as tie
 
-census-requires : tie.Need-census-requires
-census-requires c κs = search needs
+crowded-requires : tie.Need-crowded-requires
+crowded-requires c κs = search needs
 
 returns : tie.Need-returns
-returns c = wrote-refused 5 _ (refused-6 _ (passed-refusal _ (c .before .before .before .before .before .before .before .before .before .pre .ready .passed)) (omega (arith, c .before .census .ensures, c .if1 .taken))) refl refl
+returns c = wrote-refused 5 _ (refused-6 _ (passed-refusal _ (c .before .before .before .before .before .before .before .before .before .pre .ready .passed)) (ltb-true _ _ (sym (c .before .crowded .ensures) ∙ c .if1 .taken))) refl refl
 
 walked-requires : tie.Need-walked-requires
-walked-requires c κs = search needs
+walked-requires c κs = (c .before .before .before .before .before .before .before .before .before .before .before .before .before .pre, ltb-false _ _ (sym (c .before .before .before .before .before .crowded .ensures) ∙ c .before .before .before .before .if1 .left))
 
 same-length : tie.Need-same-length
 same-length c = search needs
@@ -33,7 +33,7 @@ pub nested-spec : {M : Type 1} → statement M
 nested-spec =
     tie.close
     (tie.spec
-    census-requires
+    crowded-requires
     returns
     walked-requires
     same-length
