@@ -1,5 +1,5 @@
-// How many instances the walk enters, up to one more than the limit of refusal 6. A level of loops is a level of calls: the instances of a loop and the
-// items of an order are gone through by loops.
+// How many instances the walk enters, up to one more than the limit of refusal 6, and a bound that mostly settles whether they are too many. A level of loops
+// is a level of calls: the instances of a loop and the items of an order are gone through by loops.
 ghost use mathlib.Core.Path.{_≡_};
 ghost use mathlib.Core.Bool.{true};
 ghost use mathlib.Core.List.{[]};

@@ -162,7 +162,7 @@ fn walked(
     answer_of(s, start, d, g, room, p)
 }
 
-// A job with its index and nest's array: its instances are counted before anything is stored.
+// A job with its index and nest's array: whether it has too many instances is known before anything is stored.
 fn nested(
     job: &[u8],
     index: &[u32],
