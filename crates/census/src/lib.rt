@@ -106,7 +106,7 @@ fn entered(
 }
 
 // The number of instances that the walk enters, or 65,537 where there are more than 65,536.
-pub fn census(job: &[u8], index: &[u32], nest: &[u32]) -> u32
+fn census(job: &[u8], index: &[u32], nest: &[u32]) -> u32
     requires { ⌜ Nested (now job) (now index) (now nest) ⌝ }
     ensures { λ n. ⌜ n ≡ min (census (outlineAt (now (job .entry)))) tooMany ⌝ }
 {
