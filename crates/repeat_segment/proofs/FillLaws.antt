@@ -115,11 +115,11 @@ module _ (b : List ℕ) (s : Planned) (o : Of b s) (k r : ℕ) (state : Counts) 
 unmoved : {m n : ℕ} {d : List ℕ} → m ≤ cap → n ≡ m → Stored d m [] n d
 unmoved h e = record { counted = omega arith; stored = refl }
 
-pub did-fill : {n : Counts} {f f′ : List ℕ} (b : List ℕ) (s : Planned) (l : LoopId) (i : ℕ) (t : TableId) (k r : ℕ) (state : Counts) → Of b s → s .l ≡ l → s .i ≡ i → s .table ≡ t → Within state
-    → Filled (rowPuts b s k r (plansOf b s)) state n f f′ → (d g p : List ℕ) → DidCounts (fillOut (jobOf b) (l .0) i (t .0) k r) state n d d g g f f′ p p
+pub did-fill : {n : Counts} {f f′ : List ℕ} (b : List ℕ) (s : Planned) (k r : ℕ) (state : Counts) → Of b s → Within state
+    → Filled (rowPuts b s k r (plansOf b s)) state n f f′ → (d g p : List ℕ) → DidCounts (fillOut (jobOf b) (s .l .0) (s .i) (s .table .0) k r) state n d d g g f f′ p p
 unfolding fillOut stateOf tracedWords stopWords rowPuts
-did-fill {n} b s l i t k r state o el ei et h w d g p high counter =
-    rw (← el, ← ei, ← et, ← o .step)
+did-fill {n} b s k r state o h w d g p high counter =
+    rw (← o .step)
     record {
       state = rw (w .entries, w .begun) refl;
       document = unmoved (h .bytes) (w .bytes);

@@ -17,8 +17,6 @@ use Rattle.segment.specs.Parts.{Part, highest, joined, sorted}
 use Rattle.segment.specs.Pen.{opened, placed, finished, closing, Penned}
 use Rattle.spec.specs.Answers.{stretchOf}
 use Rattle.segment.specs.Calls.{Group, next, finish, Repeat, position, ended, repeatText, lastComponentAt, zeroFree}
-use Rattle.spec.specs.declared.ids.LoopId.{LoopId}
-use Rattle.spec.specs.declared.ids.TableId.{TableId}
 use Rattle.emit.specs.declared.state.Counts.{Counts}
 use Rattle.emit.specs.declared.state.From.{From}
 use Rattle.emit.specs.Puts.{chunkPut, chunkPuts}
@@ -102,16 +100,10 @@ source-first t r zero rows h i e = absurd (h refl)
 source-first t r (suc count) [] h i e = absurd (omega arith)
 source-first t r (suc count) (x ∷ rows) h i e = rw e refl
 
-did-of : {n : Counts} {d d′ g g′ : List ℕ} {at : ℕ} (b : List ℕ) (s : Planned) (rows : List ℕ) (count : ℕ) (state : Counts) (sep : Separators) (from : From) → Of b s → count ≤ length rows → Within state
+pub did-chunk : {n : Counts} {d d′ g g′ : List ℕ} {at : ℕ} (b : List ℕ) (s : Planned) (rows : List ℕ) (count : ℕ) (state : Counts) (sep : Separators) (from : From) → Of b s → count ≤ length rows → Within state
     → separatorsOf (jobOf b) ≡ sep → rowIn from ≡ firstRow (s .table .0) (take count rows) → Stored d (state .bytes) (joined sep (idOf b s) (sorted (partsOf b s rows count))) at d′
     → Finished from 0 at (state .findings) state n g g′ → (f p : List ℕ) → DidCounts (chunkOut (jobOf b) (s .l .0) (s .i) (s .table .0) (take count rows)) state n d d′ g g′ f f p p
 unfolding chunkOut
-did-of b s rows count state sep from o c h q y x z f p high counter =
+did-chunk b s rows count state sep from o c h q y x z f p high counter =
     rw (← o .step, chunk-parts b s rows (plansOf b s) count c, ← y)
     (did-segment (jobOf b) (idOf b s) (sorted (partsOf b s rows count)) [] 0 from h (rw q x) (none-stored (still (state .findings) (h .findings))) z high counter)
-
-pub did-chunk : {n : Counts} {d d′ g g′ : List ℕ} {at : ℕ} (b : List ℕ) (s : Planned) (l : LoopId) (i : ℕ) (t : TableId) (rows : List ℕ) (count : ℕ) (state : Counts) (sep : Separators) (from : From)
-    → Of b s → s .l ≡ l → s .i ≡ i → s .table ≡ t → count ≤ length rows → Within state → separatorsOf (jobOf b) ≡ sep → rowIn from ≡ firstRow (t .0) (take count rows)
-    → Stored d (state .bytes) (joined sep (idOf b s) (sorted (partsOf b s rows count))) at d′ → Finished from 0 at (state .findings) state n g g′
-    → (f p : List ℕ) → DidCounts (chunkOut (jobOf b) (l .0) i (t .0) (take count rows)) state n d d′ g g′ f f p p
-did-chunk b s l i t rows count state sep from o el ei et c h q y x z f p high counter = rw (← el, ← ei, ← et) (did-of b s rows count state sep from o c h q (rw et y) x z f p high counter)

@@ -4,14 +4,14 @@ mod join;
 mod last;
 mod order;
 mod places;
-mod planned;
+pub mod planned;
 mod scan;
 
+use crate::planned::Planned;
 use emit::signs;
 use emit::state;
 use emit::state::Counts;
 use emit::state::From;
-use spec::ids::LoopId;
 use spec::ids::RowId;
 use spec::ids::TableId;
 ghost use mathlib.Core.Path.{_≡_};
@@ -22,6 +22,7 @@ ghost use Rattle.format.specs.Sections.{jobOf};
 ghost use Rattle.nest.specs.Ready.{Ready};
 ghost use Rattle.emit.specs.Fold.{fillOut, chunkOut, firstRow};
 ghost use Rattle.emit.specs.Did.{rowIn, DidCounts, Within};
+ghost use Rattle.repeat_segment.specs.Planned.{Of};
 
 // Row number k of a chunk: the findings on its cells, a trace entry for each.
 pub fn fill_row(
@@ -29,16 +30,13 @@ pub fn fill_row(
     index: &[u32],
     findings: &mut [u64],
     s: Counts,
-    l: LoopId,
-    i: u32,
-    t: TableId,
+    segment: Planned,
     k: u32,
     r: RowId,
 ) -> Counts
-    requires { ⌜ Ready (now job) (now index) × Within s × (l .0 < 32) × (k < 256) ⌝ }
-    ensures { λ n. ⌜ ((d g p : List ℕ) → DidCounts (fillOut (jobOf (now (job .entry))) (l .0) i (t .0) k (r .0)) s n d d g g (now (findings .entry)) (now (findings .exit)) p p) ⌝ }
+    requires { ⌜ Ready (now job) (now index) × Within s × Of (now job) segment × (k < 256) ⌝ }
+    ensures { λ n. ⌜ ((d g p : List ℕ) → DidCounts (fillOut (jobOf (now (job .entry))) (segment .l .0) (segment .i) (segment .table .0) k (r .0)) s n d d g g (now (findings .entry)) (now (findings .exit)) p p) ⌝ }
 {
-    let segment = planned::planned_segment(job, index, l, i, t);
     let delimiters = signs::delimiters_of(job, index);
     fill::fill_elements(job, index, findings, s, segment, delimiters, k, r)
 }
@@ -63,15 +61,12 @@ pub fn write_chunk(
     doc: &mut [u8],
     segments: &mut [u64],
     s: Counts,
-    l: LoopId,
-    i: u32,
-    t: TableId,
+    segment: Planned,
 ) -> Counts
-    requires { ⌜ Ready (now job) (now index) × Within s × (l .0 < 32) × (count ≤ length (now rows)) × (count ≤ 256) ⌝ }
-    ensures { λ n. ⌜ ((f p : List ℕ) → DidCounts (chunkOut (jobOf (now (job .entry))) (l .0) i (t .0) (take count (now (rows .entry)))) s n
+    requires { ⌜ Ready (now job) (now index) × Within s × Of (now job) segment × (count ≤ length (now rows)) × (count ≤ 256) ⌝ }
+    ensures { λ n. ⌜ ((f p : List ℕ) → DidCounts (chunkOut (jobOf (now (job .entry))) (segment .l .0) (segment .i) (segment .table .0) (take count (now (rows .entry)))) s n
         (now (doc .entry)) (now (doc .exit)) (now (segments .entry)) (now (segments .exit)) f f p p) ⌝ }
 {
-    let segment = planned::planned_segment(job, index, l, i, t);
     let separators = signs::separators_of(job, index);
     let at = join::put_chunk(
         doc,
@@ -83,6 +78,6 @@ pub fn write_chunk(
         separators,
         segment,
     );
-    let from = source_of(rows, count, t);
+    let from = source_of(rows, count, segment.table);
     state::finish_segment(segments, s, from, 0, at, s.findings)
 }

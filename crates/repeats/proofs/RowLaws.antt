@@ -16,7 +16,9 @@ use Rattle.format.specs.Refusal.{over, large}
 use Rattle.format.specs.Passed.{Passed}
 use Rattle.format.specs.Ask as A
 use Rattle.tables.specs.Parts as T
+use Rattle.spec.specs.declared.ids.LoopId.{LoopId}
 use Rattle.spec.specs.declared.ids.RowId.{RowId}
+use Rattle.spec.specs.declared.ids.TableId.{TableId}
 use Rattle.nest.specs.declared.Found.{Found}
 use Rattle.nest.specs.declared.Found.the-variants.{Row, Nothing}
 use Rattle.nest.specs.Lists.{keep, first, from, upTo}
@@ -134,6 +136,13 @@ rows-plain j t l p x e q =
     ∙ keep-alike _ (λ r. false) 0 (rowCount o t) (λ r h. ap (λ k. hooked k l p) (hook-plain o t r (sym (repeats-is j t x e) ∙ q)))
     ∙ ap (keep (λ r. false)) (upTo-all (rowCount o t))
     ∙ keep-none (rowCount o t) 0
+
+pub loop-low : (x l : LoopId) → x ≡ l → l .0 < 32 → x .0 < 32
+loop-low x l e h = rw e h
+
+-- a row that is gone through is one of the table's
+pub row-in : {b : List ℕ} (w : Table) (t : TableId) (r : ℕ) → TableIs b w → t ≡ w .t → r < w .rows → r < rowCount (outlineAt b) (t .0)
+row-in w t r W e h = rw e (omega (arith, h, W .rows))
 
 -- ---- how many rows go into a segment
 

@@ -44,9 +44,9 @@ pub record Holds (w : Table) (c : Chunk) (rows : List ℕ) : Type 0 where
   pub few : w .room < 256
   pub space : 256 ≤ length rows
 
--- what is still to come of chunk c, whose rows stand in a, when the rows from k on go through nest's numbers n: loop, planned segment, table, opening row
-abbrev pub left : List ℕ → List ℕ → ℕ → ℕ → Table → ℕ → Chunk → List ℕ → ℕ → List Step
-left b n l i w p c a k = going (outlineAt b .sameChunk l i) (w .room) l i (w .t .0) (c .head .0) (take (c .count) a) (c .count) (keep (hookedAt n (w .base) l p) (upTo k (w .rows)))
+-- what is still to come of chunk c, whose rows stand in a, when the rows from k on go through nest's numbers n: loop, planned segment and its table, where the rows stand, opening row
+abbrev pub left : List ℕ → List ℕ → ℕ → ℕ → ℕ → Table → ℕ → Chunk → List ℕ → ℕ → List Step
+left b n l i t w p c a k = going (outlineAt b .sameChunk l i) (w .room) l i t (c .head .0) (take (c .count) a) (c .count) (keep (hookedAt n (w .base) l p) (upTo k (w .rows)))
 
 -- row r came to the chunk c, which is n then; the list of its rows went from a to a′, the others as in `Did`
 pub record Added (j : Job) (l i t : ℕ) (joins : Bool) (r : ℕ) (c n : Chunk) (a a′ d d′ g g′ f f′ p p′ : List ℕ) : Type 0 where

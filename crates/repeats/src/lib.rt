@@ -15,6 +15,7 @@ ghost use Rattle.walk.specs.Nested.{Nested};
 ghost use Rattle.walk.specs.Tour.{stop, fill, chunk, segmentsIn, repeatSteps};
 ghost use Rattle.emit.specs.Fold.{stepsOut};
 ghost use Rattle.emit.specs.Did.{DidMark, Within};
+ghost use Rattle.repeat_segment.specs.Planned.{Of};
 ghost use Rattle.repeats.specs.Going.{going};
 ghost use Rattle.repeats.specs.Added.{TableIs, PartIs, Holds, Added, Repeats, left};
 use emit::state::Counts;
@@ -23,6 +24,8 @@ use enter::Entered;
 use nest::Found;
 use nest::order::first_at;
 use repeat_segment::fill_row;
+use repeat_segment::planned::Planned;
+use repeat_segment::planned::planned_segment;
 use repeat_segment::write_chunk;
 use spec::ids::LoopId;
 use spec::ids::RowId;
@@ -136,21 +139,19 @@ fn add_row(
     stops: &mut [u64],
     m: Mark,
     c: Counts,
-    l: LoopId,
-    i: u32,
-    t: TableId,
+    s: Planned,
     k: u32,
     r: RowId,
 ) -> Entered
-    requires { ⌜ Nested (now job) (now index) (now nest) × Within c × (l .0 < 32) × (r .0 < rowCount (outlineAt (now job)) (t .0)) × (k < 256) × (256 ≤ length (now rows)) ⌝ }
+    requires { ⌜ Nested (now job) (now index) (now nest) × Within c × Of (now job) s × (r .0 < rowCount (outlineAt (now job)) (s .table .0)) × (k < 256) × (256 ≤ length (now rows)) ⌝ }
     ensures { λ n. ⌜ ((d g : List ℕ) → length d ≤ cap → length g ≤ cap
-        → DidMark (t .0) (stepsOut (jobOf (now (job .entry))) (stop (l .0) (t .0) (r .0) ∷ fill (l .0) i (t .0) k (r .0) ∷ [])) m (n .mark) c (n .counts) d d g g (now (findings .entry)) (now (findings .exit)) (now (stops .entry)) (now (stops .exit)))
+        → DidMark (s .table .0) (stepsOut (jobOf (now (job .entry))) (stop (s .l .0) (s .table .0) (r .0) ∷ fill (s .l .0) (s .i) (s .table .0) k (r .0) ∷ [])) m (n .mark) c (n .counts) d d g g (now (findings .entry)) (now (findings .exit)) (now (stops .entry)) (now (stops .exit)))
         × (now (rows .exit) ≡ set (now (rows .entry)) k (r .0)) ⌝ }
 {
     let at = k as usize;
     rows[at] = r.0;
-    let mut n = enter::enter(job, index, nest, findings, stops, m, c, l, t, r);
-    n.counts = fill_row(job, index, findings, n.counts, l, i, t, k, r);
+    let mut n = enter::enter(job, index, nest, findings, stops, m, c, s.l, s.table, r);
+    n.counts = fill_row(job, index, findings, n.counts, s, k, r);
     n
 }
 
@@ -162,16 +163,14 @@ fn close(
     doc: &mut [u8],
     segments: &mut [u64],
     c: Chunk,
-    l: LoopId,
-    i: u32,
-    t: TableId,
+    s: Planned,
 ) -> Repeated
-    requires { ⌜ Ready (now job) (now index) × Within (c .counts) × (l .0 < 32) × (c .count ≤ length (now rows)) × (c .count ≤ 256) × (c .written < cap) ⌝ }
-    ensures { λ n. ⌜ ((f p : List ℕ) → DidMark (t .0) (stepsOut (jobOf (now (job .entry))) (chunk (l .0) i (t .0) (take (c .count) (now (rows .entry))) ∷ [])) (c .mark) (n .mark) (c .counts) (n .counts)
+    requires { ⌜ Ready (now job) (now index) × Within (c .counts) × Of (now job) s × (c .count ≤ length (now rows)) × (c .count ≤ 256) × (c .written < cap) ⌝ }
+    ensures { λ n. ⌜ ((f p : List ℕ) → DidMark (s .table .0) (stepsOut (jobOf (now (job .entry))) (chunk (s .l .0) (s .i) (s .table .0) (take (c .count) (now (rows .entry))) ∷ [])) (c .mark) (n .mark) (c .counts) (n .counts)
         (now (doc .entry)) (now (doc .exit)) (now (segments .entry)) (now (segments .exit)) f f p p) × (n .written ≡ c .written + 1) ⌝ }
 {
     let count = c.count as usize;
-    let counts = write_chunk(job, index, rows, count, doc, segments, c.counts, l, i, t);
+    let counts = write_chunk(job, index, rows, count, doc, segments, c.counts, s);
     let mark = c.mark;
     let written = c.written + 1;
     Repeated {
@@ -190,17 +189,15 @@ fn extend(
     findings: &mut [u64],
     stops: &mut [u64],
     c: Chunk,
-    l: LoopId,
-    i: u32,
+    s: Planned,
     w: Table,
     r: RowId,
 ) -> Chunk
-    requires { ⌜ Nested (now job) (now index) (now nest) × Within (c .counts) × (l .0 < 32) × (r .0 < rowCount (outlineAt (now job)) (w .t .0)) × Holds w c (now rows) ⌝ }
+    requires { ⌜ Nested (now job) (now index) (now nest) × Within (c .counts) × Of (now job) s × (r .0 < rowCount (outlineAt (now job)) (s .table .0)) × Holds w c (now rows) ⌝ }
     ensures { λ n. ⌜ ((d g : List ℕ) → length d ≤ cap → length g ≤ cap
-        → Added (jobOf (now (job .entry))) (l .0) i (w .t .0) true (r .0) c n (now (rows .entry)) (now (rows .exit)) d d g g (now (findings .entry)) (now (findings .exit)) (now (stops .entry)) (now (stops .exit))) ⌝ }
+        → Added (jobOf (now (job .entry))) (s .l .0) (s .i) (s .table .0) true (r .0) c n (now (rows .entry)) (now (rows .exit)) d d g g (now (findings .entry)) (now (findings .exit)) (now (stops .entry)) (now (stops .exit))) ⌝ }
 {
     let mark = c.mark;
-    let t = w.t;
     let n = add_row(
         job,
         index,
@@ -210,9 +207,7 @@ fn extend(
         stops,
         mark,
         c.counts,
-        l,
-        i,
-        t,
+        s,
         c.count,
         r,
     );
@@ -239,16 +234,14 @@ fn cut(
     findings: &mut [u64],
     stops: &mut [u64],
     c: Chunk,
-    l: LoopId,
-    i: u32,
+    s: Planned,
     w: Table,
     r: RowId,
 ) -> Chunk
-    requires { ⌜ Nested (now job) (now index) (now nest) × Within (c .counts) × (l .0 < 32) × (r .0 < rowCount (outlineAt (now job)) (w .t .0)) × Holds w c (now rows) × (c .written < cap) ⌝ }
-    ensures { λ n. ⌜ Added (jobOf (now (job .entry))) (l .0) i (w .t .0) false (r .0) c n (now (rows .entry)) (now (rows .exit)) (now (doc .entry)) (now (doc .exit)) (now (segments .entry)) (now (segments .exit)) (now (findings .entry)) (now (findings .exit)) (now (stops .entry)) (now (stops .exit)) ⌝ }
+    requires { ⌜ Nested (now job) (now index) (now nest) × Within (c .counts) × Of (now job) s × (r .0 < rowCount (outlineAt (now job)) (s .table .0)) × Holds w c (now rows) × (c .written < cap) ⌝ }
+    ensures { λ n. ⌜ Added (jobOf (now (job .entry))) (s .l .0) (s .i) (s .table .0) false (r .0) c n (now (rows .entry)) (now (rows .exit)) (now (doc .entry)) (now (doc .exit)) (now (segments .entry)) (now (segments .exit)) (now (findings .entry)) (now (findings .exit)) (now (stops .entry)) (now (stops .exit)) ⌝ }
 {
-    let t = w.t;
-    let closed = close(job, index, rows, doc, segments, c, l, i, t);
+    let closed = close(job, index, rows, doc, segments, c, s);
     let mark = closed.mark;
     let n = add_row(
         job,
@@ -259,9 +252,7 @@ fn cut(
         stops,
         mark,
         closed.counts,
-        l,
-        i,
-        t,
+        s,
         0,
         r,
     );
@@ -287,18 +278,17 @@ fn add_next(
     findings: &mut [u64],
     stops: &mut [u64],
     c: Chunk,
-    l: LoopId,
-    i: u32,
+    s: Planned,
     w: Table,
     r: RowId,
 ) -> Chunk
-    requires { ⌜ Nested (now job) (now index) (now nest) × Within (c .counts) × (l .0 < 32) × (r .0 < rowCount (outlineAt (now job)) (w .t .0)) × Holds w c (now rows) × (c .written < cap) ⌝ }
-    ensures { λ n. ⌜ Added (jobOf (now (job .entry))) (l .0) i (w .t .0) (ltb (c .count) (w .room) && outlineAt (now (job .entry)) .sameChunk (l .0) i (c .head .0) (r .0)) (r .0) c n (now (rows .entry)) (now (rows .exit)) (now (doc .entry)) (now (doc .exit)) (now (segments .entry)) (now (segments .exit)) (now (findings .entry)) (now (findings .exit)) (now (stops .entry)) (now (stops .exit)) ⌝ }
+    requires { ⌜ Nested (now job) (now index) (now nest) × Within (c .counts) × (s .l .0 < 32) × (r .0 < rowCount (outlineAt (now job)) (s .table .0)) × Holds w c (now rows) × (c .written < cap) × Of (now job) s ⌝ }
+    ensures { λ n. ⌜ Added (jobOf (now (job .entry))) (s .l .0) (s .i) (s .table .0) (ltb (c .count) (w .room) && outlineAt (now (job .entry)) .sameChunk (s .l .0) (s .i) (c .head .0) (r .0)) (r .0) c n (now (rows .entry)) (now (rows .exit)) (now (doc .entry)) (now (doc .exit)) (now (segments .entry)) (now (segments .exit)) (now (findings .entry)) (now (findings .exit)) (now (stops .entry)) (now (stops .exit)) ⌝ }
 {
     let head = c.head;
-    let fits = joins(job, index, l, i, head, c.count, w.room, r);
+    let fits = joins(job, index, s.l, s.i, head, c.count, w.room, r);
     if fits {
-        return extend(job, index, nest, rows, findings, stops, c, l, i, w, r);
+        return extend(job, index, nest, rows, findings, stops, c, s, w, r);
     }
     cut(
         job,
@@ -310,8 +300,7 @@ fn add_next(
         findings,
         stops,
         c,
-        l,
-        i,
+        s,
         w,
         r,
     )
@@ -328,26 +317,24 @@ fn add_rows(
     findings: &mut [u64],
     stops: &mut [u64],
     first: Chunk,
-    l: LoopId,
-    i: u32,
+    s: Planned,
     w: Table,
     p: RowId,
     from: usize,
 ) -> Repeated
-    requires { ⌜ Nested (now job) (now index) (now nest) × Within (first .counts) × (l .0 < 32) × (p .0 < 4096) × TableIs (now job) w × Holds w first (now rows)
-        × (first .written + segmentsIn (left (now job) (now nest) (l .0) i w (p .0) first (now rows) from) < cap) ⌝ }
-    ensures { λ n. ⌜ DidMark (w .t .0) (stepsOut (jobOf (now (job .entry))) (left (now (job .entry)) (now (nest .entry)) (l .0) i w (p .0) first (now (rows .entry)) from)) (first .mark) (n .mark) (first .counts) (n .counts)
+    requires { ⌜ Nested (now job) (now index) (now nest) × Within (first .counts) × (s .l .0 < 32) × (p .0 < 4096) × TableIs (now job) w × Holds w first (now rows)
+        × (first .written + segmentsIn (left (now job) (now nest) (s .l .0) (s .i) (s .table .0) w (p .0) first (now rows) from) < cap) × Of (now job) s × (s .table ≡ w .t) ⌝ }
+    ensures { λ n. ⌜ DidMark (s .table .0) (stepsOut (jobOf (now (job .entry))) (left (now (job .entry)) (now (nest .entry)) (s .l .0) (s .i) (s .table .0) w (p .0) first (now (rows .entry)) from)) (first .mark) (n .mark) (first .counts) (n .counts)
         (now (doc .entry)) (now (doc .exit)) (now (segments .entry)) (now (segments .exit)) (now (findings .entry)) (now (findings .exit)) (now (stops .entry)) (now (stops .exit))
-        × (n .written ≡ first .written + segmentsIn (left (now (job .entry)) (now (nest .entry)) (l .0) i w (p .0) first (now (rows .entry)) from)) ⌝ }
+        × (n .written ≡ first .written + segmentsIn (left (now (job .entry)) (now (nest .entry)) (s .l .0) (s .i) (s .table .0) w (p .0) first (now (rows .entry)) from)) ⌝ }
 {
     let mut c = first;
     let mut k = from;
     loop {
-        let f = nest::next_hooked(nest, w.base, w.rows, k, l, p);
+        let f = nest::next_hooked(nest, w.base, w.rows, k, s.l, p);
         match f {
             Found::Nothing => {
-                let t = w.t;
-                return close(job, index, rows, doc, segments, c, l, i, t);
+                return close(job, index, rows, doc, segments, c, s);
             }
             Found::Row(r) => {
                 c = add_next(
@@ -360,8 +347,7 @@ fn add_rows(
                     findings,
                     stops,
                     c,
-                    l,
-                    i,
+                    s,
                     w,
                     r,
                 );
@@ -371,7 +357,7 @@ fn add_rows(
     }
 }
 
-// The first row of all begins a chunk, and the rows behind it come to it.
+// The planned segment is read once; the first row of all begins a chunk, and the rows behind it come to it.
 fn begin(
     job: &[u8],
     index: &[u32],
@@ -395,7 +381,8 @@ fn begin(
         (now (doc .entry)) (now (doc .exit)) (now (segments .entry)) (now (segments .exit)) (now (findings .entry)) (now (findings .exit)) (now (stops .entry)) (now (stops .exit)) ⌝ }
 {
     let t = w.t;
-    let n = add_row(job, index, nest, rows, findings, stops, m, c, l, i, t, 0, r);
+    let s = planned_segment(job, index, l, i, t);
+    let n = add_row(job, index, nest, rows, findings, stops, m, c, s, 0, r);
     let mark = n.mark;
     let counts = n.counts;
     let first = Chunk {
@@ -416,8 +403,7 @@ fn begin(
         findings,
         stops,
         first,
-        l,
-        i,
+        s,
         w,
         p,
         from,

@@ -6,9 +6,6 @@ use borrow.Author.Needs.{needs}
 use Rattle.repeat_segment.proofs.write_chunk.Statement.{statement}
 use Rattle.repeat_segment.proofs.write_chunk.Tie as tie
 
-planned-segment-requires : tie.Need-planned-segment-requires
-planned-segment-requires c κs = search needs
-
 separators-of-requires : tie.Need-separators-of-requires
 separators-of-requires c κs = search needs
 
@@ -16,7 +13,7 @@ cast-put-chunk : tie.Need-cast-put-chunk
 cast-put-chunk c = search needs
 
 put-chunk-requires : tie.Need-put-chunk-requires
-put-chunk-requires c κs = let p = c .before .before .before .before .before .before .before .before .pre in (p .0, c .before .before .planned-segment .ensures .0, p .4, p .3)
+put-chunk-requires c κs = let p = c .before .before .before .before .before .before .before .pre in (p .0, p .2, p .4, p .3)
 
 source-of-requires : tie.Need-source-of-requires
 source-of-requires c κs = search needs
@@ -31,13 +28,12 @@ same-length-2 : tie.Need-same-length-2
 same-length-2 c = search needs
 
 returns : tie.Need-returns
-returns c = let a = c .before .before .before .before .before .before .before .before .before .before .before .before .before .before .before .before .args in let e = c .before .before .before .before .before .before .before .before .before .before .planned-segment .ensures in let p = c .before .before .before .before .before .before .before .before .before .before .before .before .before .before .before .before .pre in did-chunk (now (a .job)) _ (a .l) (a .i) (a .t) (now (a .rows)) (a .count) (a .s) _ _ (e .0) (e .1) (e .2) (e .3) (p .3) (p .1) (sym (c .before .before .before .before .before .before .before .before .before .separators-of .ensures)) (c .before .before .before .before .source-of .ensures) (c .before .before .before .before .before .before .before .put-chunk .ensures) (c .before .before .finish-segment .ensures)
+returns c = let a = c .before .before .before .before .before .before .before .before .before .before .before .before .before .before .before .args in let p = c .before .before .before .before .before .before .before .before .before .before .before .before .before .before .before .pre in did-chunk (now (a .job)) (a .segment) (now (a .rows)) (a .count) (a .s) _ _ (p .2) (p .3) (p .1) (sym (c .before .before .before .before .before .before .before .before .before .separators-of .ensures)) (c .before .before .before .before .source-of .ensures) (c .before .before .before .before .before .before .before .put-chunk .ensures) (c .before .before .finish-segment .ensures)
 
 pub write-chunk-spec : {M : Type 1} → statement M
 write-chunk-spec =
     tie.close
     (tie.spec
-    planned-segment-requires
     separators-of-requires
     cast-put-chunk
     put-chunk-requires

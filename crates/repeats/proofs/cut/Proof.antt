@@ -13,7 +13,7 @@ close-requires : tie.Need-close-requires
 close-requires c κs = search needs
 
 add-row-requires : tie.Need-add-row-requires
-add-row-requires c κs = (c .before .before .before .before .before .before .before .before .before .before .before .before .before .before .before .before .before .before .before .before .before .pre .0, mark-small _ (stepsOut _ _) (c .before .before .before .before .before .before .before .before .close .ensures .0 [] []), c .before .before .before .before .before .before .before .before .before .before .before .before .before .before .before .before .before .before .before .before .before .pre .2, c .before .before .before .before .before .before .before .before .before .before .before .before .before .before .before .before .before .before .before .before .before .pre .3, omega arith, c .before .before .before .before .before .before .before .before .before .before .before .before .before .before .before .before .before .before .before .before .before .pre .4 .space)
+add-row-requires c κs = (c .before .before .before .before .before .before .before .before .before .before .before .before .before .before .before .before .before .before .before .before .pre .0, mark-small _ (stepsOut _ _) (c .before .before .before .before .before .before .before .before .close .ensures .0 [] []), c .before .before .before .before .before .before .before .before .before .before .before .before .before .before .before .before .before .before .before .before .pre .2, c .before .before .before .before .before .before .before .before .before .before .before .before .before .before .before .before .before .before .before .before .pre .3, omega arith, c .before .before .before .before .before .before .before .before .before .before .before .before .before .before .before .before .before .before .before .before .pre .4 .space)
 
 same-length : tie.Need-same-length
 same-length c = search needs
@@ -31,7 +31,7 @@ same-length-5 : tie.Need-same-length-5
 same-length-5 c = search needs
 
 returns : tie.Need-returns
-returns c = let a = c .before .before .before .before .before .before .before .before .before .before .before .before .before .before .before .before .before .before .before .before .before .before .before .before .before .before .before .before .before .before .args in let k : Fit (now (a .doc)) (now (a .segments)) (now (a .findings)) (now (a .stops)) = record { document = omega (arith, c .before .before .before .before .before .before .before .before .before .before .before .before .before .before .before .before .before .before .before .before .before .before .before .before .before .before .before .before .before .before); segments = omega (arith, c .before .before .before .before .before .before .before .before .before .before .before .before .before .before .before .before .before .before .before .before .before .before .before .before .before .before .before .before .before .before); findings = omega (arith, c .before .before .before .before .before .before .before .before .before .before .before .before .before .before .before .before .before .before .before .before .before .before .before .before .before .before .before .before .before .before); stops = omega (arith, c .before .before .before .before .before .before .before .before .before .before .before .before .before .before .before .before .before .before .before .before .before .before .before .before .before .before .before .before .before .before) } in row-begins _ _ _ _ _ _ _ _ _ (omega (arith, c .before .before .before .before .before .before .before .before .before .before .before .before .before .before .before .before .before .before .before .before .before .before .before .before .before .before .before .before .before .before .pre .4 .space)) (c .before .before .before .before .before .before .before .before .add-row .ensures .1) k (c .before .before .before .before .before .before .before .before .before .before .before .before .before .before .before .before .before .close .ensures .0) (c .before .before .before .before .before .before .before .before .before .before .before .before .before .before .before .before .before .close .ensures .1) (c .before .before .before .before .before .before .before .before .add-row .ensures .0)
+returns c = let a = c .before .before .before .before .before .before .before .before .before .before .before .before .before .before .before .before .before .before .before .before .before .before .before .before .before .before .before .before .before .args in let k : Fit (now (a .doc)) (now (a .segments)) (now (a .findings)) (now (a .stops)) = record { document = omega (arith, c .before .before .before .before .before .before .before .before .before .before .before .before .before .before .before .before .before .before .before .before .before .before .before .before .before .before .before .before .before); segments = omega (arith, c .before .before .before .before .before .before .before .before .before .before .before .before .before .before .before .before .before .before .before .before .before .before .before .before .before .before .before .before .before); findings = omega (arith, c .before .before .before .before .before .before .before .before .before .before .before .before .before .before .before .before .before .before .before .before .before .before .before .before .before .before .before .before .before); stops = omega (arith, c .before .before .before .before .before .before .before .before .before .before .before .before .before .before .before .before .before .before .before .before .before .before .before .before .before .before .before .before .before) } in row-begins _ _ _ _ _ _ _ _ _ (omega (arith, c .before .before .before .before .before .before .before .before .before .before .before .before .before .before .before .before .before .before .before .before .before .before .before .before .before .before .before .before .before .pre .4 .space)) (c .before .before .before .before .before .before .before .before .add-row .ensures .1) k (c .before .before .before .before .before .before .before .before .before .before .before .before .before .before .before .before .before .close .ensures .0) (c .before .before .before .before .before .before .before .before .before .before .before .before .before .before .before .before .before .close .ensures .1) (c .before .before .before .before .before .before .before .before .add-row .ensures .0)
 
 pub cut-spec : {M : Type 1} → statement M
 cut-spec =
