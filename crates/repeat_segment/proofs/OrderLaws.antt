@@ -1,22 +1,20 @@
 -- Parts that come in order, and what is written of them.
-use Prim.Native.Nat.{ℕ, zero, suc, _+_, _-_, _≤_, _<_, max}
-use mathlib.Core.Path.{_≡_, refl, sym, ap, _∙_}
-use mathlib.Core.Bool.{Bool, true, false}
+use Prim.Native.Nat.{ℕ, _+_, _≤_, _<_}
+use mathlib.Core.Path.{_≡_, refl, ap, _∙_}
 use mathlib.Core.List.{List, [], _∷_, _++_, append-nil}
-use mathlib.Core.Option.{Option, none, some}
+use mathlib.Core.Option.{none, some}
 use native.Mathlib.Omega.{arith}
-use lib.Dec.{eqb, ltb}
 use lib.ListN.{length, getD, take}
-use borrow.Author.Tests.{eq-eqb, ne-eqb, lt-ltb}
+use borrow.Author.Tests.{ne-eqb, lt-ltb}
 use Rattle.lent.specs.Fit.{cap, stretch, Stored}
-use Rattle.lent.proofs.Laws.{stored-length, stored-small}
+use Rattle.lent.proofs.Laws.{stored-length}
 use Rattle.format.specs.Plan.{ElementPlan}
 use Rattle.segment.specs.declared.Separators.{Separators}
 use Rattle.segment.specs.declared.Pen.{Pen}
-use Rattle.segment.specs.Parts.{Part, pick, isEmpty, orOne, componentOf, highest, lastElement, lastComponent, here, after, componentText, notBehind, insert, sorted, joined}
-use Rattle.segment.specs.Pen.{nothing, placed, finished, opened, closing, Penned}
-use Rattle.segment.specs.Calls.{Group, next, finish, Row, group, close, stays}
-use Rattle.segment.proofs.Runs.{run-stored}
+use Rattle.segment.specs.Parts.{Part, componentOf, insert, sorted, joined}
+use Rattle.segment.specs.Pen.{placed, opened, closing, Penned}
+use Rattle.segment.specs.Calls as Calls
+use Rattle.segment.proofs.Fed.{fed-stored}
 use Rattle.spec.specs.declared.ids.Number.{Number}
 use Rattle.spec.specs.declared.ids.Number.the-variants.{Is}
 use Rattle.spec.specs.Answers.{numberOf}
@@ -181,75 +179,31 @@ unfolding sorted
 sorted-rising q l [] h = refl
 sorted-rising q l (x ∷ xs) h = rw (sorted-rising (x .element) l xs (h .2)) (insert-first x xs l (h .2))
 
--- ---- each part is a group of its own
+-- ---- plain parts that rise come in the order of their places
 
-no-more : (x : Part) (xs : List Part) (l : ℕ) → Rises (x .element) xs l → (here (x .element) xs ≡ []) × (after (x .element) xs ≡ xs)
-unfolding here after
-no-more x [] l h = (refl, refl)
-no-more x (y ∷ ys) l h = let n : y .element ≡ x .element → ⊥ = λ e. omega (arith, h .0) in let z = ne-eqb (y .element) (x .element) n in (rw z refl, rw z refl)
+one-place : (x : Part) → x .component ≡ none → componentOf x ≡ 1
+one-place x e = rw e
 
-here-one : (x : Part) (xs : List Part) (l : ℕ) → Rises (x .element) xs l → here (x .element) (x ∷ xs) ≡ x ∷ []
-unfolding here
-here-one x xs l h = rw (eq-eqb (x .element) (x .element) refl, no-more x xs l h .0) refl
+rises-behind : (q c l : ℕ) (xs : List Part) → Rises q xs l → Calls.Rises q c xs
+rises-behind q c l [] h = tt
+rises-behind q c l (x ∷ xs) h =
+    let e = one-place x (h .1) in
+    ((omega (arith, h .0), omega (arith, e), λ y. absurd (let z : ⊥ = omega (arith, h .0, y) in z)), rises-behind (x .element) (componentOf x + 1) l xs (h .2))
 
-after-one : (x : Part) (xs : List Part) (l : ℕ) → Rises (x .element) xs l → after (x .element) (x ∷ xs) ≡ xs
-unfolding after
-after-one x xs l h = rw (eq-eqb (x .element) (x .element) refl, no-more x xs l h .1) refl
+rises-first : (l : ℕ) (xs : List Part) → Rises 0 xs l → Calls.Rises 1 1 xs
+rises-first l [] h = tt
+rises-first l (x ∷ xs) h =
+    let e = one-place x (h .1) in
+    ((omega (arith, h .0), omega (arith, e), λ y. omega (arith, e)), rises-behind (x .element) (componentOf x + 1) l xs (h .2))
 
-rests : {d : List ℕ} (s : Separators) (pen : Pen) (p : ℕ) → pen .at ≤ cap → Penned (finished s pen p 1) (pen .at) pen d d
-unfolding finished
-rests s pen p h = record { stored = record { counted = omega arith; stored = refl }; elements = refl; components = refl }
-
-one-group : {s : Separators} {pen r : Pen} {d d₁ : List ℕ} (x : Part) → x .component ≡ none → Penned (placed s pen (x .element) 1 (x .text)) (pen .at) r d d₁
-    → Group s (lastComponent (x ∷ [])) (componentText (x ∷ [])) (x .element) 1 pen d r d₁
-unfolding highest componentText placed finished
-one-group {s} {pen} {r} {d} {d₁} x c w = rw c (go (x .text) w)
-  where
-    go : (text : List ℕ) → Penned (placed s pen (x .element) 1 text) (pen .at) r d d₁
-        → Group s (max (pick (isEmpty text) 0 1) 0) (λ k. pick (eqb 1 k) text []) (x .element) 1 pen d r d₁
-    go [] w = finish refl w
-    go (y ∷ text) w = next {c = 1} (omega arith) w (finish refl (rests s r (x .element) (stored-small _ (w .stored))))
-
-fed-row : {s : Separators} {parts : List Part} {pen t : Pen} {d d₁ d₂ : List ℕ} {e : ℕ} (q l last : ℕ) → Fed s parts pen d t d₁ → Rises q parts l
-    → Stored d₁ (t .at) (closing s t last) e d₂ → Row s last (q + 1) parts pen d e d₂
-unfolding stays
-fed-row q l last done h z = close refl z
-fed-row {s} {d₂ = d₂} {e = e} q l last (part {x = x} {xs = xs} {pen = pen} {r = r} {d = d} {d₁ = d₁} w f) h z =
-    let g : Group s (lastComponent (here (x .element) (x ∷ xs))) (componentText (here (x .element) (x ∷ xs))) (x .element) 1 pen d r d₁ = rw (here-one x xs l (h .2)) (one-group x (h .1) w) in
-    let y : Row s last (x .element + 1) (after (x .element) (x ∷ xs)) r d₁ e d₂ = rw (after-one x xs l (h .2)) (fed-row (x .element) l last f (h .2) z) in
-    group {p = q + 1} {x = x} {xs = xs} (omega (arith, h .0)) g y
-
--- ---- the pen ends at the last filled element
-
-placed-at : {r : Pen} {d d₁ : List ℕ} (s : Separators) (pen : Pen) (x : Part) → Penned (placed s pen (x .element) 1 (x .text)) (pen .at) r d d₁ → pen .elements < x .element
-    → r .elements ≡ max (pen .elements) (pick (isEmpty (x .text)) 0 (x .element))
-unfolding placed
-placed-at {r} s pen x w h = go (x .text) (w .elements)
-  where
-    go : (text : List ℕ) → r .elements ≡ (placed s pen (x .element) 1 text) .elements → r .elements ≡ max (pen .elements) (pick (isEmpty text) 0 (x .element))
-    go [] e = omega arith
-    go (y ∷ text) e = omega arith
-
-fed-last : {s : Separators} {parts : List Part} {pen t : Pen} {d d₁ : List ℕ} (q l : ℕ) → Fed s parts pen d t d₁ → Rises q parts l → pen .elements ≤ q → t .elements ≡ max (pen .elements) (lastElement parts)
-unfolding highest
-fed-last q l done h i = omega arith
-fed-last {s} q l (part {x = x} {xs = xs} {pen = pen} {r = r} w f) h i =
-    let a : r .elements ≡ max (pen .elements) (pick (isEmpty (x .text)) 0 (x .element)) = placed-at s pen x w (omega (arith, h .0)) in
-    let z : pick (isEmpty (x .text)) 0 (x .element) ≤ x .element = low (isEmpty (x .text)) (x .element) in
-    fed-last (x .element) l f (h .2) (omega (arith, h .0)) ∙ omega arith
-  where
-    low : (t : Bool) (n : ℕ) → pick t 0 n ≤ n
-    low true n = omega arith
-    low false n = omega arith
-
-closing-at : {d d₁ : List ℕ} {at e : ℕ} (s : Separators) (t : Pen) (m n : ℕ) → m ≡ n → Stored d at (closing s t m) e d₁ → Stored d at (closing s t n) e d₁
-closing-at s t m n h q = rw h at q
+plain-fed : {s : Separators} {parts : List Part} {pen t : Pen} {d d₁ : List ℕ} (q l : ℕ) → Fed s parts pen d t d₁ → Rises q parts l → Calls.Fed s parts pen d t d₁
+plain-fed q l done h = Calls.done
+plain-fed {s} q l (part {x = x} {pen = pen} {r = r} {d = d} {d₁ = d₁} w f) h =
+    let v : Penned (placed s pen (x .element) (componentOf x) (x .text)) (pen .at) r d d₁ = rw (one-place x (h .1)) w in
+    Calls.part v (plain-fed (x .element) l f (h .2))
 
 pub ordered-stored : {d d₁ d₂ d₃ : List ℕ} {at e : ℕ} {pen t : Pen} (sep : Separators) (b : List ℕ) (s : Planned) (parts : List Part) → Of b s → length d ≤ cap → Ordered parts
     → Penned (opened (stretch b (s .id .start) (s .id .len))) at pen d d₁ → Fed sep parts pen d₁ t d₂ → Stored d₂ (t .at) (closing sep t (t .elements)) e d₃
     → Stored d at (joined sep (idOf b s) (sorted parts)) e d₃
-ordered-stored {pen = pen} {t = t} sep b s parts o h p w f q =
-    let z : pen .elements ≡ 0 = w .elements in
-    let y : t .elements ≡ max (pen .elements) (lastElement parts) = fed-last 0 (p .last) f (p .rises) (omega arith) in
-    let v : t .elements ≡ lastElement parts = omega arith in
-    rw (sorted-rising 0 (p .last) parts (p .rises)) (run-stored sep (idOf b s) parts h (named b s o w) (fed-row 0 (p .last) (lastElement parts) f (p .rises) (closing-at sep t (t .elements) (lastElement parts) v q)))
+ordered-stored sep b s parts o h p w f q =
+    rw (sorted-rising 0 (p .last) parts (p .rises)) (fed-stored sep (idOf b s) parts h (rises-first (p .last) parts (p .rises)) (named b s o w) (plain-fed 0 (p .last) f (p .rises)) q)

@@ -1,6 +1,6 @@
 pub mod StreamLaws
 pub mod NoteLaws
 pub mod GroupLaws
-pub mod AloneLaws
 pub mod RowLaws
-pub mod LoneLaws
+pub mod FeedLaws
+pub mod OrderLaws

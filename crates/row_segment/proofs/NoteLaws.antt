@@ -15,7 +15,7 @@ use Rattle.segment.specs.Parts.{Part, pick, isEmpty, highest, lastElement}
 use Rattle.segment.specs.Pen.{valueText}
 use Rattle.nest.specs.Finding.{cell}
 use Rattle.emit.specs.declared.cells.Written.{Written}
-use Rattle.emit.specs.Puts.{Put, nothing, andPut, putAll, placeOf, heldIn, unwritten, putCell, rowPut}
+use Rattle.emit.specs.Puts.{Put, andPut, putAll, placeOf, heldIn, unwritten, putCell, rowPut}
 use Rattle.emit.specs.Written.{Writes, wordsOf, tried}
 use Rattle.emit.proofs.FindingLaws.{stored-findings, none-stored}
 use Rattle.emit.proofs.PutLaws.{highest-append, cell-findings}
@@ -77,7 +77,7 @@ entries-few b x (e ∷ es) = let r = entries-few b x es in let q = one (e .value
     one (fromGroup c) = omega arith
     one (fromCode c) = omega arith
 
-puts-few : (b : List ℕ) (x : Line) → (puts b x 0) .entries ≤ length (plans b x)
+pub puts-few : (b : List ℕ) (x : Line) → (puts b x 0) .entries ≤ length (plans b x)
 unfolding puts rowPut
 puts-few b x = entries-few b x (plans b x)
 
@@ -126,7 +126,7 @@ module _ (b idx : List ℕ) (x : Line) (w : Lined b idx x) (n : Look) (l : Looks
   pub small-first : t .findings ≤ cap
   small-first = rw e (omega arith)
 
-  pub all-noted : {r : Tally} {f f′ : List ℕ} → length f ≤ wide → Notes (ahead b x n) t r f f′ → Totals b x from r f f′
+  pub all-noted : {r : Tally} {f f′ : List ℕ} → length f ≤ wide → Notes (ahead b x n) t r f f′ → Totals b x from (r .findings) (r .entries) f f′
   all-noted {r} {f} h q =
       let q′ = rw (l .whole) at q in
       record {

@@ -26,6 +26,7 @@ use Rattle.row_segment.specs.declared.parts.Look.{Look}
 use Rattle.row_segment.specs.declared.join.Step.{Step}
 use Rattle.row_segment.specs.declared.join.Joined.{Joined}
 use Rattle.row_segment.specs.declared.notes.Tally.{Tally}
+use Rattle.row_segment.specs.declared.notes.Ended.{Ended}
 use Rattle.row_segment.specs.Stream.{Lined, idOf, puts, ahead, Sees, Looks}
 use Rattle.row_segment.specs.Groups.{Steps, Rows}
 use Rattle.row_segment.specs.Notes.{Notes, Between, Totals}
@@ -104,7 +105,7 @@ pub line-joined : {idx d d₁ d₂ d₃ f f₁ f₂ : List ℕ} {at from : ℕ} 
     → length d ≤ cap → length f ≤ wide → s ≡ separatorsOf (jobOf b) → Looks b x 0 n → Penned (opened (stretch b (x .id .start) (x .id .len))) at pen d d₁ → t ≡ record { findings = more from 0; entries = 0; last = 0 }
     → Rows s b x n pen d₁ g d₂ × Between b x n (g .after) t (g .tally) f f₁
     → Stored d₂ (g .pen .at) (closing s (g .pen) (r .tally .last)) (r .bytes) d₃ × Notes (ahead b x (g .after)) (g .tally) (r .tally) f₁ f₂
-    → Stored d at (joined (separatorsOf (jobOf b)) (idOf b x) ((puts b x 0) .parts)) (r .bytes) d₃ × Totals b x from (r .tally) f f₂
+    → Stored d at (joined (separatorsOf (jobOf b)) (idOf b x) ((puts b x 0) .parts)) (r .bytes) d₃ × Totals b x from (r .tally .findings) (r .tally .entries) f f₂
 unfolding stretchOf
 line-joined {idx} {at = at} {from = from} {t = t} b x n r w h k q l v e (z, u) (o, m) =
     let all = u .whole (r .tally) _ m in
@@ -113,8 +114,8 @@ line-joined {idx} {at = at} {from = from} {t = t} b x n r w h k q l v e (z, u) (
       all-noted b idx x w n l from t e k all,
     )
 
-pub did-line : {s n : Counts} {d d′ g g′ f f′ p : List ℕ} {k : ℕ} (b : List ℕ) (x : Line) (y : Tally) → Within s → Totals b x (s .findings) y f f′
-    → Stored d (s .bytes) (joined (separatorsOf (jobOf b)) (idOf b x) ((puts b x 0) .parts)) k d′ → Finished (From.Row (x .t) (x .r)) (y .entries) k (y .findings) s n g g′
+pub did-line : {s n : Counts} {d d′ g g′ f f′ p : List ℕ} (b : List ℕ) (x : Line) (y : Ended) → Within s → Totals b x (s .findings) (y .findings) (y .entries) f f′
+    → Stored d (s .bytes) (joined (separatorsOf (jobOf b)) (idOf b x) ((puts b x 0) .parts)) (y .bytes) d′ → Finished (From.Row (x .t) (x .r)) (y .entries) (y .bytes) (y .findings) s n g g′
     → DidCounts (rowOut (jobOf b) (x .l .0) (x .i) (x .t .0) (x .r .0)) s n d d′ g g′ f f′ p p
 unfolding rowOut puts
 did-line b x y h u v w =

@@ -41,11 +41,11 @@ puts-next : (b : List ℕ) (x : Line) (k : ℕ) → k < length (plans b x) → p
 unfolding puts rowPut
 puts-next b x k h = put-next (elementPut b x) (plans b x) k noElementPlan h
 
-puts-end : (b : List ℕ) (x : Line) (k : ℕ) → length (plans b x) ≤ k → puts b x k ≡ nothing
+pub puts-end : (b : List ℕ) (x : Line) (k : ℕ) → length (plans b x) ≤ k → puts b x k ≡ nothing
 unfolding puts rowPut
 puts-end b x k h = put-end (elementPut b x) (plans b x) k h
 
-nothing-then : (p : Put) → andPut nothing p ≡ p
+pub nothing-then : (p : Put) → andPut nothing p ≡ p
 nothing-then p = rw (zero-add (p .entries))
 
 -- from number k on the elements up to i put nothing
@@ -69,13 +69,13 @@ module _ (b idx : List ℕ) (x : Line) (w : Lined b idx x) (k i p : ℕ) (q : Th
     read : ElementStep b i (plans b x) e
     read = element-step b idx (w .ready .plan) p i (plans b x) (inside h) (q .stands .place) e f
 
-    looked : puts b x k ≡ andPut (lookPut b x r) (puts b x (r .k))
+    pub looked : puts b x k ≡ andPut (lookPut b x r) (puts b x (r .k))
     looked = q .whole ∙ puts-next b x i (inside h)
         ∙ ap (λ (y : ElementPlanIn). andPut (elementPut b x y) (puts b x (i + 1))) (sym (read .plan))
         ∙ ap (λ (y : Put). andPut y (puts b x (i + 1))) (sym (s .2 b x))
         ∙ ap (λ (n : ℕ). andPut (lookPut b x r) (puts b x n)) (sym (s .0))
 
-    stood : Stands b x (r .k) (r .at)
+    pub stood : Stands b x (r .k) (r .at)
     stood = record { place = rw (s .0, s .1) (read .rest); within = let m = inside h in let n = s .0 in omega (arith, m, n) }
 
     pub looks-found : r .more ≡ true → Looks b x k r

@@ -7,10 +7,9 @@ use lib.ListN.{length}
 use Rattle.lent.specs.Fit.{Stored}
 use Rattle.segment.specs.declared.Separators.{Separators}
 use Rattle.segment.specs.declared.Pen.{Pen}
-use Rattle.segment.specs.Parts.{orOne, here, after, lastComponent, componentText}
+use Rattle.segment.specs.Parts.{here, after, lastComponent, componentText}
 use Rattle.segment.specs.Pen.{closing}
 use Rattle.segment.specs.Calls.{Group, Row}
-use Rattle.spec.specs.Answers.{numberOf}
 use Rattle.row_segment.specs.declared.parts.Line.{Line}
 use Rattle.row_segment.specs.declared.parts.Look.{Look}
 use Rattle.row_segment.specs.declared.join.Step.{Step}
@@ -23,11 +22,6 @@ pub record Scans (b : List ℕ) (x : Line) (n : Look) (e k : ℕ) (m : Look) : T
   pub sees : Sees b x m
   pub low : k < 4294967296
   pub less : n .more ≡ true → n .part .element ≡ e → left (x .count) m < left (x .count) n
-
--- the part of a look is component 1 of its element, and the next look's is at another
-pub record Alone (n m : Look) : Type 0 where
-  pub first : orOne (numberOf (n .part .component)) ≡ 1
-  pub other : m .more ≡ true → m .part .element ≡ n .part .element → ⊥
 
 -- the element with which a look begins is written, and its parts are passed
 pub record Steps (s : Separators) (b : List ℕ) (x : Line) (n : Look) (pen : Pen) (d : List ℕ) (r : Step) (d′ : List ℕ) : Type 0 where

@@ -1,4 +1,4 @@
 pub mod Stream
 pub mod Notes
 pub mod Groups
-pub mod Lone
+pub mod Feed

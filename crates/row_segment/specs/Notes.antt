@@ -6,8 +6,11 @@ use lib.ListN.{length}
 use Rattle.lent.specs.Fit.{base, cap, StoredAt}
 use Rattle.format.specs.Sections.{jobOf}
 use Rattle.format.specs.Refusal.{separators}
-use Rattle.segment.specs.Parts.{pick, isEmpty, lastElement}
+use Rattle.segment.specs.declared.Separators.{Separators}
+use Rattle.segment.specs.Parts.{lastElement}
 use Rattle.nest.specs.Finding.{numberFrom}
+use Rattle.emit.specs.declared.findings.Delimiters.{Delimiters}
+use Rattle.emit.specs.Fold.{separatorsOf}
 use Rattle.emit.specs.Puts.{Put}
 use Rattle.emit.specs.Written.{tried, wordsOf}
 use Rattle.row_segment.specs.declared.parts.Line.{Line}
@@ -21,17 +24,16 @@ pub record Tries (b : List ℕ) (x : Line) (y : Tried) : Type 0 where
   pub name : y .name ≡ numberFrom 0 (idOf b x)
   pub delimiters : tried (y .delimiters) ≡ separators (jobOf b .envelope)
 
+-- these are the job's separators, to write with and to try texts for
+pub record Triable (b : List ℕ) (s : Separators) (d : Delimiters) : Type 0 where
+  pub written : s ≡ separatorsOf (jobOf b)
+  pub tried : tried d ≡ separators (jobOf b .envelope)
+
 -- what puts give was noted: the tally went from s to r, the findings from f to f′
 pub record Notes (p : Put) (s r : Tally) (f f′ : List ℕ) : Type 0 where
   pub findings : StoredAt base f (s .findings) (wordsOf (p .findings)) (r .findings) f′
   pub entries : r .entries ≡ s .entries + p .entries
   pub last : r .last ≡ max (s .last) (lastElement (p .parts))
-
--- a part with that text at element e is counted: n numbers of findings stand then, and there are k trace entries more
-pub record Counted (text : List ℕ) (e n k : ℕ) (s r : Tally) : Type 0 where
-  pub findings : r .findings ≡ n
-  pub entries : r .entries ≡ s .entries + k
-  pub last : r .last ≡ max (s .last) (pick (isEmpty text) 0 e)
 
 -- the parts from look n up to look m were noted, the tally going from s to t, the findings from f to f′: with those from m on, all from n on are
 pub record Between (b : List ℕ) (x : Line) (n m : Look) (s t : Tally) (f f′ : List ℕ) : Type 0 where
@@ -44,7 +46,7 @@ pub record Between (b : List ℕ) (x : Line) (n m : Look) (s t : Tally) (f f′ 
 abbrev pub Room : List ℕ → Line → Tally → Look → Type 0
 Room b x t n = t .entries + (ahead b x n) .entries < 4294967296
 
--- all parts of a line were noted; `from` numbers of findings stood before
-pub record Totals (b : List ℕ) (x : Line) (from : ℕ) (r : Tally) (f f′ : List ℕ) : Type 0 where
-  pub findings : StoredAt base f from (wordsOf ((puts b x 0) .findings)) (r .findings) f′
-  pub entries : r .entries ≡ (puts b x 0) .entries
+-- all parts of a line were noted: n numbers of findings stand then, of which `from` stood before, and there are k trace entries
+pub record Totals (b : List ℕ) (x : Line) (from n k : ℕ) (f f′ : List ℕ) : Type 0 where
+  pub findings : StoredAt base f from (wordsOf ((puts b x 0) .findings)) n f′
+  pub entries : k ≡ (puts b x 0) .entries

@@ -1,5 +1,4 @@
-// A row segment in one pass: its parts are noted and joined, element by element in the order in which they come.
-use crate::lone;
+// Row segments whose parts come in any order, in one pass: they are noted and joined, element by element as they come.
 use crate::notes;
 use crate::notes::Tally;
 use crate::notes::Tried;
@@ -20,7 +19,7 @@ ghost use Rattle.segment.specs.Pen.{valueText, closing};
 ghost use Rattle.segment.specs.Calls.{Group};
 ghost use Rattle.emit.specs.Fold.{separatorsOf};
 ghost use Rattle.row_segment.specs.Stream.{Lined, Sees, ahead, puts, idOf};
-ghost use Rattle.row_segment.specs.Groups.{Scans, Alone, Steps, Rows};
+ghost use Rattle.row_segment.specs.Groups.{Scans, Steps, Rows};
 ghost use Rattle.row_segment.specs.Notes.{Tries, Notes, Between, Room, Totals};
 
 // The last filled component of an element, the look behind its parts, and the tally with them.
@@ -130,26 +129,7 @@ pub struct Step {
     pub tally: Tally,
 }
 
-// Whether the part of a look is component 1 of its element and stands alone there; `after` is the next look.
-fn alone(a: Look, after: Look) -> bool
-    ensures { λ r. ⌜ (r ≡ true → Alone a after) ⌝ }
-{
-    let p = a.part;
-    let q = after.part;
-    let c = p.component;
-    if signs::component_of(c) == 1 {
-        if after.more {
-            if q.element == p.element {
-                return false;
-            }
-            return true;
-        }
-        return true;
-    }
-    false
-}
-
-// The element of a look, written and noted: a part that stands alone as it comes.
+// The element of a look, written and noted.
 fn put_next(
     job: &[u8],
     index: &[u32],
@@ -166,17 +146,6 @@ fn put_next(
     ensures { λ r. ⌜ Steps s (now (job .entry)) x a pen (now (doc .entry)) r (now (doc .exit)) × Between (now (job .entry)) x a (r .after) t (r .tally) (now (findings .entry)) (now (findings .exit)) ⌝ }
 {
     let p = a.part;
-    let after = parts::next_part(job, index, x, a.k, a.at);
-    if alone(a, after) {
-        let g = lone::put_part(job, index, doc, findings, s, pen, t, x, y, p);
-        let q = g.pen;
-        let u = g.tally;
-        return Step {
-            pen: q,
-            after,
-            tally: u,
-        };
-    }
     let g = scan(job, index, findings, t, x, y, a, p.element);
     let q = put_group(job, index, doc, s, pen, x, a, p.element, g.last);
     let rest = g.after;
@@ -267,7 +236,7 @@ fn end_line(
 }
 
 // The bytes of a line from `at` on, and its notes; `from` numbers of findings stand before.
-pub fn join_line(
+pub fn join_any(
     job: &[u8],
     index: &[u32],
     doc: &mut [u8],
@@ -278,7 +247,7 @@ pub fn join_line(
 ) -> Joined
     requires { ⌜ Lined (now job) (now index) x ⌝ }
     ensures { λ r. ⌜ Stored (now (doc .entry)) at (joined (separatorsOf (jobOf (now (job .entry)))) (idOf (now (job .entry)) x) ((puts (now (job .entry)) x 0) .parts)) (r .bytes) (now (doc .exit))
-        × Totals (now (job .entry)) x from (r .tally) (now (findings .entry)) (now (findings .exit)) ⌝ }
+        × Totals (now (job .entry)) x from (r .tally .findings) (r .tally .entries) (now (findings .entry)) (now (findings .exit)) ⌝ }
 {
     let s = signs::separators_of(job, index);
     let y = notes::tried_of(job, index, x, s);

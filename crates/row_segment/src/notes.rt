@@ -15,25 +15,30 @@ use spec::ids::Number;
 use texts::render::Refused;
 ghost use mathlib.Core.Path.{_≡_};
 ghost use mathlib.Core.List.{List};
-ghost use Prim.Native.Nat.{ℕ, _≤_, _<_, max};
-ghost use lib.ListN.{length};
+ghost use Prim.Native.Nat.{ℕ, _≤_, _<_};
 ghost use Rattle.lent.specs.Fit.{base, cap, more, StoredAt, Noted};
 ghost use Rattle.texts.specs.Reason.{reasonOf};
-ghost use Rattle.segment.specs.Parts.{pick, isEmpty};
-ghost use Rattle.spec.specs.Answers.{numberOf};
+ghost use Rattle.spec.specs.Answers.{numberOf, Holds};
 ghost use Rattle.nest.specs.Finding.{cell, numberFrom};
 ghost use Rattle.format.specs.Sections.{jobOf};
 ghost use Rattle.emit.specs.Fold.{separatorsOf};
 ghost use Rattle.emit.specs.Puts.{placeOf, unwritten};
 ghost use Rattle.emit.specs.Written.{Writes, spotOf, wordsOf};
-ghost use Rattle.row_segment.specs.Stream.{Lined, Sees, ahead, partPut, outcomeOf};
-ghost use Rattle.row_segment.specs.Notes.{Tries, Notes, Counted, Room};
+ghost use Rattle.row_segment.specs.Stream.{idOf, Lined, Sees, ahead, partPut, outcomeOf};
+ghost use Rattle.row_segment.specs.Notes.{Tries, Notes, Room};
 
 // How many numbers of findings there are, how many trace entries, and the last filled element.
 pub struct Tally {
     pub findings: usize,
     pub entries: usize,
     pub last: usize,
+}
+
+// The end of a segment, how many numbers of findings there are then, and its trace entries.
+pub struct Ended {
+    pub bytes: usize,
+    pub findings: usize,
+    pub entries: usize,
 }
 
 // The identifier as a number, and the separators that texts are tried for.
@@ -106,51 +111,26 @@ fn note_part(
 
 // A finding where a cell's text is refused.
 pub fn note_refused(
+    job: &[u8],
     findings: &mut [u64],
     at: usize,
     x: Line,
-    y: Tried,
     p: Planned,
     column: u32,
     why: Refused,
 ) -> usize
-    ensures { λ n. ⌜ ((id : List ℕ) → y .name ≡ numberFrom 0 id
-        → Noted (now (findings .entry)) at (wordsOf (unwritten (cell (x .t .0) (x .r .0) column) (placeOf id (p .element) (numberOf (p .component))) (reasonOf why))) n (now (findings .exit))) ⌝ }
+    requires { ⌜ Holds (now job) (x .id) (idOf (now job) x) × (x .id .len ≤ 3) ⌝ }
+    ensures { λ n. ⌜ Noted (now (findings .entry)) at (wordsOf (unwritten (cell (x .t .0) (x .r .0) column) (placeOf (idOf (now (job .entry)) x) (p .element) (numberOf (p .component))) (reasonOf why))) n (now (findings .exit)) ⌝ }
 {
     let reason = cells::reason_of(why);
     if reason == 0 {
         return lent::more(at, 0);
     }
+    let id = x.id;
+    let name = signs::id_number(job, id);
     let component = p.component;
-    let place = spot(x, y.name, p.element, component, column);
+    let place = spot(x, name, p.element, component, column);
     findings::note_reason(findings, at, place, reason)
-}
-
-// The last filled element, with a part of n bytes at element e.
-fn reached(last: usize, n: usize, e: u32) -> usize
-    ensures { λ r. ⌜ ((text : List ℕ) → n ≡ length text → r ≡ max last (pick (isEmpty text) 0 e)) ⌝ }
-{
-    if n == 0 {
-        return last;
-    }
-    let k = e as usize;
-    if last < k {
-        return k;
-    }
-    last
-}
-
-// A tally with a part of n bytes at element e.
-pub fn counted(t: Tally, findings: usize, entries: usize, e: u32, n: usize) -> Tally
-    requires { ⌜ (t .entries < 4294967296) × (entries ≤ 1) ⌝ }
-    ensures { λ r. ⌜ ((text : List ℕ) → n ≡ length text → Counted text e findings entries t r) ⌝ }
-{
-    let last = reached(t.last, n, e);
-    Tally {
-        findings,
-        entries: t.entries + entries,
-        last,
-    }
 }
 
 // A cell has a trace entry, a code has none.

@@ -97,7 +97,7 @@ fn told(more: bool, e: ElementPlan, source: Source, k: u32) -> Look
 }
 
 // A planned element as a part; a `Group` value is none.
-fn seen(e: ElementPlan, k: u32) -> Look
+pub fn seen(e: ElementPlan, k: u32) -> Look
     ensures { λ r. ⌜ (r .k ≡ k) × (r .at ≡ e .next) × ((b : List ℕ) (x : Line) → lookPut b x r ≡ elementPut b x (elementOf b e)) ⌝ }
 {
     let v = e.value;

@@ -8,6 +8,7 @@ pub mod Rows
 pub mod Sorting
 pub mod Repeats
 pub mod Runs
+pub mod Fed
 pub mod Elements
 pub mod Numbered
 pub mod Cuts

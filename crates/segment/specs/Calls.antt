@@ -80,3 +80,19 @@ pub data Repeat (s : Separators) (last : ℕ) (parts : List Part) : ℕ → Pen 
       → Repeat s last parts (p + 1) r d₁ e d₂ → Repeat s last parts p pen d e d₂
   pass : {p e : ℕ} {pen : Pen} {d d₂ : List ℕ} → p ≤ last → lastComponentAt p parts ≡ 0 → Repeat s last parts (p + 1) pen d e d₂ → Repeat s last parts p pen d e d₂
   ended : {p e : ℕ} {pen : Pen} {d d₁ : List ℕ} → last < p → Stored d (pen .at) (closing s pen last) e d₁ → Repeat s last parts p pen d e d₁
+
+-- ---- parts that come in the order of their places
+
+-- x stands at component c of element p or behind it
+abbrev pub Behind : ℕ → ℕ → Part → Type 0
+Behind p c x = (p ≤ x .element) × (0 < componentOf x) × (x .element ≡ p → c ≤ componentOf x)
+
+-- each part stands behind the one before it, the first at component c of element p or behind it
+abbrev pub Rises : ℕ → ℕ → List Part → Type 0
+Rises p c [] = Unit {0}
+Rises p c (x ∷ xs) = Behind p c x × Rises (x .element) (componentOf x + 1) xs
+
+-- calls that write parts one after the other, each at its place; pen and document before and after
+pub data Fed (s : Separators) : List Part → Pen → List ℕ → Pen → List ℕ → Type 0 where
+  done : {pen : Pen} {d : List ℕ} → Fed s [] pen d pen d
+  part : {x : Part} {xs : List Part} {pen r t : Pen} {d d₁ d₂ : List ℕ} → Penned (placed s pen (x .element) (componentOf x) (x .text)) (pen .at) r d d₁ → Fed s xs r d₁ t d₂ → Fed s (x ∷ xs) pen d t d₂

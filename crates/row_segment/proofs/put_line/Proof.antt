@@ -21,7 +21,7 @@ same-length-3 : tie.Need-same-length-3
 same-length-3 c = search needs
 
 returns : tie.Need-returns
-returns c = let a = c .before .before .before .before .before .before .before .before .before .before .before .before .before .before .before .before .before .before .before .args in λ p. did-line (now (a .job)) (a .x) (c .before .before .before .before .before .before .before .before .before .before .before .join-line .result .tally) (c .before .before .before .before .before .before .before .before .before .before .before .before .before .before .before .before .before .before .before .pre .1) (c .before .before .before .before .before .before .before .before .before .before .before .join-line .ensures .1) (c .before .before .before .before .before .before .before .before .before .before .before .join-line .ensures .0) (c .before .before .finish-segment .ensures)
+returns c = let a = c .before .before .before .before .before .before .before .before .before .before .before .before .before .before .before .before .before .before .args in λ p. did-line (now (a .job)) (a .x) (c .before .before .before .before .before .before .before .before .before .before .join-line .result) (c .before .before .before .before .before .before .before .before .before .before .before .before .before .before .before .before .before .before .pre .1) (c .before .before .before .before .before .before .before .before .before .before .join-line .ensures .1) (c .before .before .before .before .before .before .before .before .before .before .join-line .ensures .0) (c .before .before .finish-segment .ensures)
 
 pub put-line-spec : {M : Type 1} → statement M
 put-line-spec =

@@ -1,10 +1,13 @@
 -- `row_segment::notes::note_refused` meets its contract. Assumes nothing.
+use mathlib.Core.Path.{ap, _∙_}
 use native.Mathlib.Omega.{arith}
+use denote.Ref.{now}
 use Rattle.texts.specs.Reason.{reasonOf}
 use Rattle.spec.specs.Answers.{numberOf}
-use Rattle.nest.specs.Finding.{cell}
+use Rattle.nest.specs.Finding.{cell, numberFrom}
 use Rattle.emit.specs.Puts.{placeOf}
 use Rattle.emit.proofs.FindingLaws.{stored-no-reason}
+use Rattle.row_segment.specs.Stream.{idOf}
 use borrow.Author.Needs.{needs}
 use Rattle.row_segment.proofs.notes.note_refused.Statement.{statement}
 use Rattle.row_segment.proofs.notes.note_refused.Tie as tie
@@ -16,7 +19,10 @@ more-requires : tie.Need-more-requires
 more-requires c κs = search needs
 
 returns : tie.Need-returns
-returns c = λ id e. stored-no-reason _ _ (reasonOf (c .before .before .before .before .args .why)) (omega (arith, c .before .before .reason-of .ensures)) (c .more .ensures)
+returns c = stored-no-reason _ _ (reasonOf (c .before .before .before .before .before .args .why)) (omega (arith, c .before .before .reason-of .ensures)) (c .more .ensures)
+
+id-number-requires : tie.Need-id-number-requires
+id-number-requires c κs = search needs
 
 spot-requires : tie.Need-spot-requires
 spot-requires c κs = search needs
@@ -28,7 +34,7 @@ same-length : tie.Need-same-length
 same-length c = search needs
 
 returns-2 : tie.Need-returns-2
-returns-2 c = λ id e. let a = c .before .before .before .before .before .before .before .before .args in rw (c .before .before .before .before .before .before .reason-of .ensures) at (c .before .before .note-reason .ensures (cell (a .x .t .0) (a .x .r .0) (a .column)) (placeOf id (a .p .element) (numberOf (a .p .component))) (c .before .before .before .before .spot .ensures id e))
+returns-2 c = let a = c .before .before .before .before .before .before .before .before .before .before .before .args in let id = idOf (now (a .job)) (a .x) in rw (c .before .before .before .before .before .before .before .before .reason-of .ensures) at (c .before .before .note-reason .ensures (cell (a .x .t .0) (a .x .r .0) (a .column)) (placeOf id (a .p .element) (numberOf (a .p .component))) (c .before .before .before .before .spot .ensures id (c .before .before .before .before .before .id-number .ensures ∙ ap (numberFrom 0) (c .before .before .before .before .before .before .before .before .before .before .before .pre .0 .bytes))))
 
 pub note-refused-spec : {M : Type 1} → statement M
 note-refused-spec =
@@ -37,6 +43,7 @@ note-refused-spec =
     reason-of-requires
     more-requires
     returns
+    id-number-requires
     spot-requires
     note-reason-requires
     same-length

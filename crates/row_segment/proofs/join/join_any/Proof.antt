@@ -1,4 +1,4 @@
--- `row_segment::join::join_line` meets its contract. Assumes nothing.
+-- `row_segment::join::join_any` meets its contract. Assumes nothing.
 use Prim.Native.Nat.{_≤_}
 use native.Mathlib.Omega.{arith}
 use lib.ListN.{length}
@@ -7,8 +7,8 @@ use Rattle.lent.specs.Fit.{cap, wide}
 use Rattle.row_segment.proofs.NoteLaws.{room-first, small-first, between-room}
 use Rattle.row_segment.proofs.RowLaws.{line-joined}
 use borrow.Author.Needs.{needs}
-use Rattle.row_segment.proofs.join.join_line.Statement.{statement}
-use Rattle.row_segment.proofs.join.join_line.Tie as tie
+use Rattle.row_segment.proofs.join.join_any.Statement.{statement}
+use Rattle.row_segment.proofs.join.join_any.Tie as tie
 
 separators-of-requires : tie.Need-separators-of-requires
 separators-of-requires c κs = search needs
@@ -50,8 +50,8 @@ returns c =
     let k : length (now (a .findings)) ≤ wide = omega (arith, c .before .before .before .before .before .before .before .before .before .before .before .before .before .before .before .before .before .before .before .before .before .before .before .before .before .before .before) in
     line-joined (now (a .job)) (a .x) _ _ (c .before .before .before .before .before .before .before .before .before .before .before .before .before .before .before .before .before .before .before .before .before .before .before .before .before .before .before .pre) h k (c .before .before .before .before .before .before .before .before .before .before .before .before .before .before .before .before .before .before .before .before .before .before .separators-of .ensures) (c .before .before .before .before .before .before .before .before .before .before .before .before .before .before .before .before .before .before .before .before .first-part .ensures) (c .before .before .before .before .before .before .before .before .before .before .before .before .before .before .before .before .before .begin .ensures) (c .before .before .before .before .before .before .before .before .before .before .before .before .before .before .none-noted .ensures) (c .before .before .before .before .before .before .before .before .before .before .before .put-groups .ensures) (c .before .before .before .before .end-line .ensures)
 
-pub join-line-spec : {M : Type 1} → statement M
-join-line-spec =
+pub join-any-spec : {M : Type 1} → statement M
+join-any-spec =
     tie.close
     (tie.spec
     separators-of-requires
