@@ -77,7 +77,7 @@ fn row(r: [i32; 2]) {
     said(texts::render::envelope_date(days, at_most(max)));
 }
 
-pub fn all() {
+pub(crate) fn all() {
     let mut i: usize = 0;
     while i < 46 {
         row(at(i));

@@ -74,7 +74,7 @@ fn row(r: [u64; 3]) {
     show(texts::number::decimal_text(Wide { lo, hi }, (scale % 256) as u8));
 }
 
-pub fn all() {
+pub(crate) fn all() {
     let mut i: usize = 0;
     while i < 42 {
         row(at(i));

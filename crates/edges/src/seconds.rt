@@ -54,7 +54,7 @@ fn row(r: [i32; 2]) {
     said(texts::render::envelope_time(seconds, at_most(max)));
 }
 
-pub fn all() {
+pub(crate) fn all() {
     let mut i: usize = 0;
     while i < 26 {
         row(at(i));

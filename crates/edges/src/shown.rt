@@ -4,36 +4,36 @@ use texts::render::Max;
 use texts::render::Refused;
 use texts::render::Said;
 
-pub fn named(text: &[u8]) {
+pub(crate) fn named(text: &[u8]) {
     io::write_all(1, text);
 }
 
 // The bits of a number, and a space.
-pub fn label(bits: u64) {
+pub(crate) fn label(bits: u64) {
     io::print_hex(1, bits, 16);
     io::write_all(1, b" ");
 }
 
-pub fn spaced(n: usize) {
+pub(crate) fn spaced(n: usize) {
     io::print_decimal(1, n as u64);
     io::write_all(1, b" ");
 }
 
 // The first n bytes of a text.
-pub fn head(text: &[u8], n: usize) {
+pub(crate) fn head(text: &[u8], n: usize) {
     if n <= text.len() {
         io::write_all(1, &text[..n]);
     }
 }
 
 // A byte n times, up to 48.
-pub fn run(byte: u8, n: usize) {
+pub(crate) fn run(byte: u8, n: usize) {
     let bytes = [byte; 48];
     head(&bytes, n);
 }
 
 // A text, to the end of its line.
-pub fn show(t: Text) {
+pub(crate) fn show(t: Text) {
     let bytes = t.bytes;
     named(b": ");
     head(&bytes, t.len);
@@ -41,7 +41,7 @@ pub fn show(t: Text) {
 }
 
 // A name, a number and a max.
-pub fn signed(name: &[u8], value: i32, max: i32) {
+pub(crate) fn signed(name: &[u8], value: i32, max: i32) {
     named(name);
     whole(value);
     named(b" ");
@@ -54,7 +54,7 @@ fn whole(value: i32) {
     head(&bytes, t.len);
 }
 
-pub fn at_most(max: i32) -> Max {
+pub(crate) fn at_most(max: i32) -> Max {
     match max {
         4 => Max::At(4),
         5 => Max::At(5),
@@ -71,7 +71,7 @@ fn reason(digit: &[u8]) {
 }
 
 // A text, or the reason why there is none.
-pub fn said(s: Said) {
+pub(crate) fn said(s: Said) {
     let refused = s.refused;
     let text = s.text;
     match refused {

@@ -37,7 +37,7 @@ fn row(bits: u64) {
     show(texts::number::count_text(bits));
 }
 
-pub fn all() {
+pub(crate) fn all() {
     let mut i: usize = 0;
     while i < 15 {
         row(at(i));

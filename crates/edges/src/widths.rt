@@ -75,7 +75,7 @@ fn row(r: [usize; 4]) {
     control(r[0], r[2]);
 }
 
-pub fn all() {
+pub(crate) fn all() {
     let mut i: usize = 0;
     while i < 16 {
         row(at(i));

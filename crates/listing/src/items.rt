@@ -42,7 +42,7 @@ fn item(list: &[u64], what: List, i: usize) {
 }
 
 // The first n items of a list.
-pub fn items(list: &[u64], what: List, n: usize) {
+pub(crate) fn items(list: &[u64], what: List, n: usize) {
     let mut i: usize = 0;
     while i < n {
         item(list, what, i);

@@ -93,7 +93,7 @@ fn named(f: Finding) {
 }
 
 // The first n findings of a list.
-pub fn findings(list: [Finding; 512], n: usize) {
+pub(crate) fn findings(list: [Finding; 512], n: usize) {
     let mut i: usize = 0;
     while i < n {
         if i < 512 {

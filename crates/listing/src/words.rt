@@ -1,7 +1,7 @@
 // The words of a line.
 
 // Number k of the item that begins at a place.
-pub fn word(list: &[u64], at: usize, k: usize) -> u64 {
+pub(crate) fn word(list: &[u64], at: usize, k: usize) -> u64 {
     if at < 65536 {
         if k < 16 {
             let i = at + k;
@@ -13,18 +13,18 @@ pub fn word(list: &[u64], at: usize, k: usize) -> u64 {
     0
 }
 
-pub fn text(bytes: &[u8]) {
+pub(crate) fn text(bytes: &[u8]) {
     io::write_all(1, bytes);
 }
 
 // A number behind a space.
-pub fn number(n: u64) {
+pub(crate) fn number(n: u64) {
     io::write_all(1, b" ");
     io::print_decimal(1, n);
 }
 
 // A number that may be missing: one more than it, or 0.
-pub fn optional(n: u64) {
+pub(crate) fn optional(n: u64) {
     if n == 0 {
         text(b" -");
         return;
@@ -33,7 +33,7 @@ pub fn optional(n: u64) {
 }
 
 // A signed number by its 64 bits.
-pub fn signed(n: u64) {
+pub(crate) fn signed(n: u64) {
     if n < 9223372036854775808 {
         number(n);
         return;
@@ -48,7 +48,7 @@ fn letter(n: u64) {
 }
 
 // A segment's identifier of two or three bytes, the first the highest.
-pub fn identifier(n: u64) {
+pub(crate) fn identifier(n: u64) {
     text(b" ");
     if n >= 65536 {
         letter(n / 65536);
@@ -57,7 +57,7 @@ pub fn identifier(n: u64) {
     letter(n);
 }
 
-pub fn end() {
+pub(crate) fn end() {
     text(b"\n");
 }
 
@@ -67,7 +67,14 @@ fn written(fd: i32, n: usize) {
 }
 
 // The four counts: bytes, segments, findings, stops.
-pub fn counts(fd: i32, what: &[u8], bytes: usize, segments: usize, findings: usize, stops: usize) {
+pub(crate) fn counts(
+    fd: i32,
+    what: &[u8],
+    bytes: usize,
+    segments: usize,
+    findings: usize,
+    stops: usize,
+) {
     io::write_all(fd, what);
     written(fd, bytes);
     written(fd, segments);
@@ -76,14 +83,14 @@ pub fn counts(fd: i32, what: &[u8], bytes: usize, segments: usize, findings: usi
     io::write_all(fd, b"\n");
 }
 
-pub fn refused(n: u64) {
+pub(crate) fn refused(n: u64) {
     text(b"refused");
     number(n);
     end();
 }
 
 // The first n bytes of a document, and a line feed.
-pub fn bytes(document: &[u8], n: usize) {
+pub(crate) fn bytes(document: &[u8], n: usize) {
     if n <= document.len() {
         text(&document[..n]);
     }

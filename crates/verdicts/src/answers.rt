@@ -53,7 +53,7 @@ fn hold(place: usize, got: usize, wanted: u8) {
 }
 
 // The answer to the first n bytes, which were edited at a place.
-pub fn judge(s: &[u8], n: usize, place: usize, wanted: u8, counts: &mut [u64]) {
+pub(crate) fn judge(s: &[u8], n: usize, place: usize, wanted: u8, counts: &mut [u64]) {
     let got = answer(s, n);
     count(counts, got);
     hold(place, got, digit(wanted));
@@ -73,7 +73,7 @@ fn clear(counts: &mut [u64], answer: usize) {
 }
 
 // Ends a line with the counts, which start again.
-pub fn close(counts: &mut [u64]) {
+pub(crate) fn close(counts: &mut [u64]) {
     let mut k: usize = 0;
     while k < 6 {
         show(counts, k);

@@ -1,7 +1,7 @@
 // Places in a byte string: what is past its end reads as 0 and isn't written.
 
 // a and b together, or a where that is past any place.
-pub fn plus(a: usize, b: usize) -> usize {
+pub(crate) fn plus(a: usize, b: usize) -> usize {
     if a > 1000000000 {
         return a;
     }
@@ -11,21 +11,21 @@ pub fn plus(a: usize, b: usize) -> usize {
     a + b
 }
 
-pub fn byte(s: &[u8], at: usize) -> u8 {
+pub(crate) fn byte(s: &[u8], at: usize) -> u8 {
     if at < s.len() {
         return s[at];
     }
     0
 }
 
-pub fn put(s: &mut [u8], at: usize, value: u8) {
+pub(crate) fn put(s: &mut [u8], at: usize, value: u8) {
     if at < s.len() {
         s[at] = value;
     }
 }
 
 // The little-endian number of four bytes.
-pub fn number(s: &[u8], at: usize) -> usize {
+pub(crate) fn number(s: &[u8], at: usize) -> usize {
     let low = byte(s, at) as usize;
     let second = byte(s, plus(at, 1)) as usize;
     let third = byte(s, plus(at, 2)) as usize;
@@ -37,7 +37,7 @@ pub fn number(s: &[u8], at: usize) -> usize {
 }
 
 // The n bytes of s from a place on, into t.
-pub fn copy(s: &[u8], from: usize, t: &mut [u8], to: usize, n: usize) {
+pub(crate) fn copy(s: &[u8], from: usize, t: &mut [u8], to: usize, n: usize) {
     let mut k: usize = 0;
     while k < n {
         put(t, plus(to, k), byte(s, plus(from, k)));
@@ -46,7 +46,7 @@ pub fn copy(s: &[u8], from: usize, t: &mut [u8], to: usize, n: usize) {
 }
 
 // One byte n times.
-pub fn fill(t: &mut [u8], to: usize, n: usize, value: u8) {
+pub(crate) fn fill(t: &mut [u8], to: usize, n: usize, value: u8) {
     let mut k: usize = 0;
     while k < n {
         put(t, plus(to, k), value);

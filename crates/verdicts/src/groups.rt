@@ -97,7 +97,7 @@ fn records(input: &[u8], work: &mut [u8], counts: &mut [u64]) -> usize {
 }
 
 // Every record; `end` where the last one ends with the input.
-pub fn all(input: &[u8]) {
+pub(crate) fn all(input: &[u8]) {
     let mut work = [0u8; 65537];
     let mut counts = [0u64; 8];
     let end = records(input, &mut work, &mut counts);

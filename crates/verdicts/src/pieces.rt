@@ -68,7 +68,7 @@ fn pieces(input: &[u8], job: usize, at: usize, work: &mut [u8]) -> Made {
 }
 
 // A byte string of pieces, its answer, and the job again.
-pub fn composed(input: &[u8], s: State, work: &mut [u8], counts: &mut [u64]) -> usize {
+pub(crate) fn composed(input: &[u8], s: State, work: &mut [u8], counts: &mut [u64]) -> usize {
     let m = pieces(input, s.job, s.at, work);
     judge(work, m.len, s.at, byte(input, plus(m.at, 1)), counts);
     copy(input, s.job, work, 0, s.len);

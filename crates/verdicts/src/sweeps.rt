@@ -13,7 +13,7 @@ pub struct State {
 }
 
 // Every length.
-pub fn lengths(input: &[u8], s: State, work: &[u8], counts: &mut [u64]) -> usize {
+pub(crate) fn lengths(input: &[u8], s: State, work: &[u8], counts: &mut [u64]) -> usize {
     let end = plus(s.len, 1);
     let mut n: usize = 0;
     while n < end {
@@ -34,7 +34,7 @@ fn flipped(input: &[u8], s: State, i: usize, work: &mut [u8], counts: &mut [u64]
 }
 
 // Every byte, with the mask's bits turned over.
-pub fn flips(input: &[u8], s: State, work: &mut [u8], counts: &mut [u64]) -> usize {
+pub(crate) fn flips(input: &[u8], s: State, work: &mut [u8], counts: &mut [u64]) -> usize {
     let mut i: usize = 0;
     while i < s.len {
         flipped(input, s, i, work, counts);
@@ -57,7 +57,7 @@ fn places(len: usize) -> usize {
 }
 
 // Four bytes at every place that has room for them.
-pub fn stamps(input: &[u8], s: State, work: &mut [u8], counts: &mut [u64]) -> usize {
+pub(crate) fn stamps(input: &[u8], s: State, work: &mut [u8], counts: &mut [u64]) -> usize {
     let end = places(s.len);
     let mut i: usize = 0;
     while i < end {
