@@ -19,7 +19,7 @@ use Rattle.nest.specs.Lists.{keep, from, upTo, on, is, part, some-of, is-empty}
 use Rattle.nest.specs.Outline.{Outline, absent, envelope, implied, rows, inside, groups, kindOf, loopOf, tableParent, rowCount, plain}
 use Rattle.nest.specs.Nest.{held, referred}
 use Rattle.nest.specs.Found.{nestAt, heldAt}
-use Rattle.nest.specs.Rising.{Climbs}
+use Rattle.nest.specs.Rising.{Climbs, rises}
 use Rattle.nest.specs.Ready.{outlineAt}
 use Rattle.nest.proofs.Bridge.{rows-is, table-parent-is}
 use Rattle.nest.proofs.FoundLaws.{held-yes, held-no}
@@ -169,9 +169,9 @@ module _ {b idx n : List ℕ} (N : Nested b idx n) (t count : ℕ) (e : count �
 
     pub rows-room-for : (base + count) * 3 ≤ length n
     unfolding A.dataOf
-    rows-room-for = let z : count ≡ (getD (jobOf b .tables) t noTableData) .rows = e in omega (arith, q, z, rows-room (jobOf b .tables) t, N .ready .tables .few-rows, N .room)
+    rows-room-for = let z : count ≡ (getD (jobOf b .tables) t noTableData) .rows = e in omega (arith, q, z, rows-room (jobOf b .tables) t, N .room)
 
-    pub rows-climb : getD n (12288 + t) 0 ≡ 1 → Climbs n base count
+    pub rows-climb : rises n t ≡ true → Climbs n base count
     rows-climb f = rw (base-is, rows-count) (lent-climbs N t (rowCount (outlineAt b) t) f (omega arith))
 
     pub fan-hung : (x : Number) (u w : ℕ) → numberOf x ≡ (A.tableOf (jobOf b) t) .parent → x ≡ Is u → (w ≤ count) × ((p : ℕ) → heldBefore n base count p ≤ w) → Fan (outlineAt b) t w

@@ -16,6 +16,7 @@ ghost use Rattle.walk.specs.Census.{tooMany};
 ghost use Rattle.census.specs.Entered.{enteredBelow};
 ghost use Rattle.census.specs.Bounds.{heldBefore, Fan, Width, AtMost};
 use instances::Cursor;
+use nest::order::rises;
 use plan::answers::Instances;
 use plan::answers::Item;
 use spec::ids::LoopId;
@@ -32,7 +33,7 @@ struct Count {
 // The count n, and the instances that are entered below an instance of loop l in context c, `height` levels deep.
 fn below(
     job: &[u8],
-    index: &[u32],
+    index: &[u16],
     nest: &[u32],
     l: LoopId,
     c: Context,
@@ -66,7 +67,7 @@ fn below(
 // which its first instance shows.
 fn entered(
     job: &[u8],
-    index: &[u32],
+    index: &[u16],
     nest: &[u32],
     l: LoopId,
     c: Context,
@@ -106,7 +107,7 @@ fn entered(
 }
 
 // The number of instances that the walk enters, or 65,537 where there are more than 65,536.
-fn census(job: &[u8], index: &[u32], nest: &[u32]) -> u32
+fn census(job: &[u8], index: &[u16], nest: &[u32]) -> u32
     requires { ⌜ Nested (now job) (now index) (now nest) ⌝ }
     ensures { λ n. ⌜ n ≡ min (census (outlineAt (now (job .entry)))) tooMany ⌝ }
 {
@@ -169,7 +170,7 @@ fn longest(nest: &[u32], base: usize, rows: usize) -> u32
 }
 
 // No context has more rows of table t.
-fn fan(job: &[u8], index: &[u32], nest: &[u32], t: TableId) -> u32
+fn fan(job: &[u8], index: &[u16], nest: &[u32], t: TableId) -> u32
     requires { ⌜ Nested (now job) (now index) (now nest) ⌝ }
     ensures { λ r. ⌜ Fan (outlineAt (now (job .entry))) (t .0) r ⌝ }
 {
@@ -177,12 +178,9 @@ fn fan(job: &[u8], index: &[u32], nest: &[u32], t: TableId) -> u32
     let parent = spec::tables::table_parent(job, index, t);
     match parent {
         Number::Is(_) => {
-            let i = 12288 + t.0 as usize;
-            if i < nest.len() {
-                if nest[i] == 1 {
-                    let base = tables::data::first_row(job, index, t) as usize;
-                    return longest(nest, base, rows as usize);
-                }
+            if rises(nest, t) {
+                let base = tables::data::first_row(job, index, t) as usize;
+                return longest(nest, base, rows as usize);
             }
             return rows;
         }
@@ -193,7 +191,7 @@ fn fan(job: &[u8], index: &[u32], nest: &[u32], t: TableId) -> u32
 }
 
 // No context has more instances of loop l.
-fn width(job: &[u8], index: &[u32], nest: &[u32], l: LoopId) -> u32
+fn width(job: &[u8], index: &[u16], nest: &[u32], l: LoopId) -> u32
     requires { ⌜ Nested (now job) (now index) (now nest) × (l .0 < 32) ⌝ }
     ensures { λ r. ⌜ Width (outlineAt (now (job .entry))) (l .0) r ⌝ }
 {
@@ -209,7 +207,7 @@ fn width(job: &[u8], index: &[u32], nest: &[u32], l: LoopId) -> u32
 }
 
 // In no context are more instances entered by loop l, `height` levels deep, as far as the limit.
-fn most(job: &[u8], index: &[u32], nest: &[u32], l: LoopId, height: u32) -> u32
+fn most(job: &[u8], index: &[u16], nest: &[u32], l: LoopId, height: u32) -> u32
     requires { ⌜ Nested (now job) (now index) (now nest) × (l .0 < 32) ⌝ }
     ensures { λ r. ⌜ AtMost (outlineAt (now (job .entry))) height (l .0) r ⌝ }
 {
@@ -237,7 +235,7 @@ fn most(job: &[u8], index: &[u32], nest: &[u32], l: LoopId, height: u32) -> u32
 }
 
 // The same of the whole walk.
-fn bound(job: &[u8], index: &[u32], nest: &[u32]) -> u32
+fn bound(job: &[u8], index: &[u16], nest: &[u32]) -> u32
     requires { ⌜ Nested (now job) (now index) (now nest) ⌝ }
     ensures { λ r. ⌜ min (census (outlineAt (now (job .entry)))) tooMany ≤ r ⌝ }
 {
@@ -255,7 +253,7 @@ fn bound(job: &[u8], index: &[u32], nest: &[u32]) -> u32
 }
 
 // Whether the walk enters more than 65,536 instances. They are counted only where the bound leaves it open.
-pub fn crowded(job: &[u8], index: &[u32], nest: &[u32]) -> bool
+pub fn crowded(job: &[u8], index: &[u16], nest: &[u32]) -> bool
     requires { ⌜ Nested (now job) (now index) (now nest) ⌝ }
     ensures { λ b. ⌜ b ≡ ltb 65536 (census (outlineAt (now (job .entry)))) ⌝ }
 {

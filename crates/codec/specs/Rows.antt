@@ -15,9 +15,9 @@ use Rattle.codec.specs.Field.{is-in}
 unfoldable pub stored : List ℕ → ℕ → List ℕ → List ℕ
 stored l k vs = sets l k vs
 
--- places are stored in 32 bits
+-- places are stored in 16 bits
 abbrev pub small : ℕ → ℕ
-small p = p % 4294967296
+small p = p % 65536
 
 pub stored-2 : (l d d′ : List ℕ) (k x y : ℕ) → d ≡ set l k x → d′ ≡ set d (k + 1) y → d′ ≡ stored l k (x ∷ y ∷ [])
 unfolding stored
@@ -79,8 +79,8 @@ module _ {A : Type 0} (C : Codec A) (b : List ℕ) (e : ℕ) (f : ℕ → List �
       let s : suc i * w + j ≡ length (f at) + (i * w + j) = omega arith in
       rw s (getD-append-add (f at) (rows C b e f n (skip C b at e)) (i * w + j) 0 ∙ rows-at w h n (skip C b at e) i j (omega arith) q)
 
--- a place that was stored in 32 bits is the place
-pub is-small : {A : Type 0} (C : Codec A) (b : List ℕ) (e at p : ℕ) (v : A) → e < 4294967296 → p ≡ small at → Is C b e at v → Is C b e p v
+-- a place that was stored in 16 bits is the place
+pub is-small : {A : Type 0} (C : Codec A) (b : List ℕ) (e at p : ℕ) (v : A) → e < 65536 → p ≡ small at → Is C b e at v → Is C b e p v
 is-small C b e at p v h q k =
     let i : at ≤ e = is-in C b e at v k in
     let j : p ≡ at = omega arith in

@@ -97,6 +97,7 @@ pub fn long(b: &[u8], at: usize) -> u64
 
 // The count in front of a list, 0 where there is none.
 pub fn count_at(b: &[u8], at: usize, end: u32) -> usize
+    requires { ⌜ end ≤ length (now b) ⌝ }
     ensures { λ r. ⌜ (r ≡ countAt (now (b .entry)) at end) × (r < 4294967296) ⌝ }
 {
     let e = end as usize;
@@ -106,11 +107,12 @@ pub fn count_at(b: &[u8], at: usize, end: u32) -> usize
     if e - at < 4 {
         return 0;
     }
-    num(b, at)
+    num_in(b, at)
 }
 
 // A list of numbers of w bytes.
 pub fn les_at(b: &[u8], w: u8, at: usize, end: u32) -> usize
+    requires { ⌜ end ≤ length (now b) ⌝ }
     ensures { λ r. ⌜ r ≡ skip (listC (leC w)) (now (b .entry)) at end ⌝ }
 {
     let n = count_at(b, at, end);
@@ -127,16 +129,18 @@ pub fn les_at(b: &[u8], w: u8, at: usize, end: u32) -> usize
 
 // The byte of a case at a place, 256 where there is none.
 pub fn tag_at(b: &[u8], at: usize, end: u32) -> usize
+    requires { ⌜ end ≤ length (now b) ⌝ }
     ensures { λ r. ⌜ r ≡ tagAt (now (b .entry)) at end ⌝ }
 {
     if end as usize <= at {
         return 256;
     }
-    byte_at(b, at)
+    byte_in(b, at)
 }
 
 // The end of an option whose value, if it has one, ends at p.
 pub fn opt_end(b: &[u8], at: usize, end: u32, p: usize) -> usize
+    requires { ⌜ end ≤ length (now b) ⌝ }
     ensures { λ r. ⌜ r ≡ optEnd (now (b .entry)) at end p ⌝ }
 {
     let t = tag_at(b, at, end);
@@ -151,6 +155,7 @@ pub fn opt_end(b: &[u8], at: usize, end: u32, p: usize) -> usize
 
 // An enum of n cases that hold nothing.
 pub fn case_at(b: &[u8], n: u8, at: usize, end: u32) -> usize
+    requires { ⌜ end ≤ length (now b) ⌝ }
     ensures { λ r. ⌜ r ≡ caseEnd (now (b .entry)) at end n ⌝ }
 {
     let t = tag_at(b, at, end);
@@ -161,12 +166,14 @@ pub fn case_at(b: &[u8], n: u8, at: usize, end: u32) -> usize
 }
 
 pub fn bytes_at(b: &[u8], at: usize, end: u32) -> usize
+    requires { ⌜ end ≤ length (now b) ⌝ }
     ensures { λ r. ⌜ r ≡ skip bytesC (now (b .entry)) at end ⌝ }
 {
     les_at(b, 1, at, end)
 }
 
 pub fn opt_num_at(b: &[u8], at: usize, end: u32) -> usize
+    requires { ⌜ end ≤ length (now b) ⌝ }
     ensures { λ r. ⌜ r ≡ skip (optC numC) (now (b .entry)) at end ⌝ }
 {
     let t = le_at(b, 1, at, end);
@@ -175,6 +182,7 @@ pub fn opt_num_at(b: &[u8], at: usize, end: u32) -> usize
 }
 
 pub fn opt_bytes_at(b: &[u8], at: usize, end: u32) -> usize
+    requires { ⌜ end ≤ length (now b) ⌝ }
     ensures { λ r. ⌜ r ≡ skip (optC bytesC) (now (b .entry)) at end ⌝ }
 {
     let t = le_at(b, 1, at, end);
@@ -184,6 +192,7 @@ pub fn opt_bytes_at(b: &[u8], at: usize, end: u32) -> usize
 
 // A list of byte strings.
 pub fn strings_at(b: &[u8], at: usize, end: u32) -> usize
+    requires { ⌜ end ≤ length (now b) ⌝ }
     ensures { λ r. ⌜ r ≡ skip (listC bytesC) (now (b .entry)) at end ⌝ }
 {
     let mut left = count_at(b, at, end);
@@ -239,23 +248,23 @@ pub fn follows(b: &[u8], last: usize, p: usize) -> bool
 }
 
 // Stores a place, where there is room.
-pub fn put(index: &mut [u32], k: usize, p: usize)
+pub fn put(index: &mut [u16], k: usize, p: usize)
     ensures { λ r. ⌜ now (index .exit) ≡ set (now (index .entry)) k (small p) ⌝ }
 {
     if k < index.len() {
-        index[k] = (p % 4294967296) as u32;
+        index[k] = (p % 65536) as u16;
         return;
     }
 }
 
-pub fn put2(index: &mut [u32], k: u32, p: usize, q: usize)
+pub fn put2(index: &mut [u16], k: u32, p: usize, q: usize)
     ensures { λ r. ⌜ now (index .exit) ≡ stored (now (index .entry)) k (small p ∷ small q ∷ []) ⌝ }
 {
     put(index, k as usize, p);
     put(index, k as usize + 1, q);
 }
 
-pub fn put3(index: &mut [u32], k: u32, p: usize, q: usize, s: usize)
+pub fn put3(index: &mut [u16], k: u32, p: usize, q: usize, s: usize)
     ensures { λ r. ⌜ now (index .exit) ≡ stored (now (index .entry)) k (small p ∷ small q ∷ small s ∷ []) ⌝ }
 {
     put(index, k as usize, p);
@@ -264,7 +273,7 @@ pub fn put3(index: &mut [u32], k: u32, p: usize, q: usize, s: usize)
 }
 
 // The number that the index holds at k.
-pub fn place(index: &[u32], k: usize) -> usize
+pub fn place(index: &[u16], k: usize) -> usize
     ensures { λ r. ⌜ (r ≡ getD (now (index .entry)) k 0) × (r < 4294967296) ⌝ }
 {
     if k < index.len() {

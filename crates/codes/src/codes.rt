@@ -1,5 +1,7 @@
 // Separators in codes. Each function tells whether whatever stands at a place has one.
 ghost use Rattle.codec.specs.Codec.{_⊗_, listC};
+ghost use lib.ListN.{length};
+ghost use Prim.Native.Nat.{_≤_};
 ghost use Rattle.codec.specs.Forms.{byteC, bytesC, numC, optC};
 ghost use Rattle.codec.specs.Limits.{anyOf};
 ghost use Rattle.format.specs.Words.{ifSome};
@@ -16,6 +18,7 @@ pub struct Marks {
 }
 
 fn mark_at(b: &[u8], at: usize, end: u32, m: Marks) -> bool
+    requires { ⌜ end ≤ length (now b) ⌝ }
     ensures { λ r. ⌜ Says byteC (now (b .entry)) end at (mark m) r ⌝ }
 {
     let c = codec::tag_at(b, at, end);
@@ -26,6 +29,7 @@ fn mark_at(b: &[u8], at: usize, end: u32, m: Marks) -> bool
 }
 
 fn text_marked(b: &[u8], at: usize, end: u32, m: Marks) -> bool
+    requires { ⌜ end ≤ length (now b) ⌝ }
     ensures { λ r. ⌜ Says bytesC (now (b .entry)) end at (marked m) r ⌝ }
 {
     let mut left = codec::count_at(b, at, end);
@@ -41,6 +45,7 @@ fn text_marked(b: &[u8], at: usize, end: u32, m: Marks) -> bool
 }
 
 fn texts_marked(b: &[u8], at: usize, end: u32, m: Marks) -> bool
+    requires { ⌜ end ≤ length (now b) ⌝ }
     ensures { λ r. ⌜ Says (listC bytesC) (now (b .entry)) end at (anyOf (marked m)) r ⌝ }
 {
     let mut left = codec::count_at(b, at, end);
@@ -58,6 +63,7 @@ fn texts_marked(b: &[u8], at: usize, end: u32, m: Marks) -> bool
 // ---- the plan
 
 fn value_marked(b: &[u8], at: usize, end: u32, m: Marks) -> bool
+    requires { ⌜ end ≤ length (now b) ⌝ }
     ensures { λ r. ⌜ Says valueC (now (b .entry)) end at (markedValue m) r ⌝ }
 {
     if codec::tag_at(b, at, end) == 2 {
@@ -68,6 +74,7 @@ fn value_marked(b: &[u8], at: usize, end: u32, m: Marks) -> bool
 }
 
 fn element_plan_marked(b: &[u8], at: usize, end: u32, m: Marks) -> bool
+    requires { ⌜ end ≤ length (now b) ⌝ }
     ensures { λ r. ⌜ Says elementPlanC (now (b .entry)) end at (markedElementPlan m) r ⌝ }
 {
     let component = codec::le_at(b, 4, at, end);
@@ -76,6 +83,7 @@ fn element_plan_marked(b: &[u8], at: usize, end: u32, m: Marks) -> bool
 }
 
 fn element_plans_marked(b: &[u8], at: usize, end: u32, m: Marks) -> bool
+    requires { ⌜ end ≤ length (now b) ⌝ }
     ensures { λ r. ⌜ Says (listC elementPlanC) (now (b .entry)) end at (anyOf (markedElementPlan m)) r ⌝ }
 {
     let mut left = codec::count_at(b, at, end);
@@ -91,6 +99,7 @@ fn element_plans_marked(b: &[u8], at: usize, end: u32, m: Marks) -> bool
 }
 
 fn segment_plan_marked(b: &[u8], at: usize, end: u32, m: Marks) -> bool
+    requires { ⌜ end ≤ length (now b) ⌝ }
     ensures { λ r. ⌜ Says segmentPlanC (now (b .entry)) end at (markedSegmentPlan m) r ⌝ }
 {
     let source = codec::le_at(b, 4, at, end);
@@ -99,6 +108,7 @@ fn segment_plan_marked(b: &[u8], at: usize, end: u32, m: Marks) -> bool
 }
 
 fn segment_plans_marked(b: &[u8], at: usize, end: u32, m: Marks) -> bool
+    requires { ⌜ end ≤ length (now b) ⌝ }
     ensures { λ r. ⌜ Says (listC segmentPlanC) (now (b .entry)) end at (anyOf (markedSegmentPlan m)) r ⌝ }
 {
     let mut left = codec::count_at(b, at, end);
@@ -114,6 +124,7 @@ fn segment_plans_marked(b: &[u8], at: usize, end: u32, m: Marks) -> bool
 }
 
 fn loop_plan_marked(b: &[u8], at: usize, end: u32, m: Marks) -> bool
+    requires { ⌜ end ≤ length (now b) ⌝ }
     ensures { λ r. ⌜ Says loopPlanC (now (b .entry)) end at (markedLoopPlan m) r ⌝ }
 {
     let segments = format::instances_at(b, at, end);
@@ -121,6 +132,7 @@ fn loop_plan_marked(b: &[u8], at: usize, end: u32, m: Marks) -> bool
 }
 
 pub fn plan_marked(b: &[u8], at: usize, end: u32, m: Marks) -> bool
+    requires { ⌜ end ≤ length (now b) ⌝ }
     ensures { λ r. ⌜ Says (listC loopPlanC) (now (b .entry)) end at (anyOf (markedLoopPlan m)) r ⌝ }
 {
     let mut left = codec::count_at(b, at, end);
@@ -138,6 +150,7 @@ pub fn plan_marked(b: &[u8], at: usize, end: u32, m: Marks) -> bool
 // ---- the spec
 
 fn component_marked(b: &[u8], at: usize, end: u32, m: Marks) -> bool
+    requires { ⌜ end ≤ length (now b) ⌝ }
     ensures { λ r. ⌜ Says (numC ⊗ componentC) (now (b .entry)) end at (markedComponent m) r ⌝ }
 {
     let value = codec::le_at(b, 4, at, end);
@@ -148,6 +161,7 @@ fn component_marked(b: &[u8], at: usize, end: u32, m: Marks) -> bool
 }
 
 fn components_marked(b: &[u8], at: usize, end: u32, m: Marks) -> bool
+    requires { ⌜ end ≤ length (now b) ⌝ }
     ensures { λ r. ⌜ Says (listC (numC ⊗ componentC)) (now (b .entry)) end at (anyOf (markedComponent m)) r ⌝ }
 {
     let mut left = codec::count_at(b, at, end);
@@ -164,6 +178,7 @@ fn components_marked(b: &[u8], at: usize, end: u32, m: Marks) -> bool
 }
 
 fn element_marked(b: &[u8], at: usize, end: u32, m: Marks) -> bool
+    requires { ⌜ end ≤ length (now b) ⌝ }
     ensures { λ r. ⌜ Says (numC ⊗ elementC) (now (b .entry)) end at (markedElement m) r ⌝ }
 {
     let value = codec::le_at(b, 4, at, end);
@@ -177,6 +192,7 @@ fn element_marked(b: &[u8], at: usize, end: u32, m: Marks) -> bool
 }
 
 fn elements_marked(b: &[u8], at: usize, end: u32, m: Marks) -> bool
+    requires { ⌜ end ≤ length (now b) ⌝ }
     ensures { λ r. ⌜ Says (listC (numC ⊗ elementC)) (now (b .entry)) end at (anyOf (markedElement m)) r ⌝ }
 {
     let mut left = codec::count_at(b, at, end);
@@ -193,6 +209,7 @@ fn elements_marked(b: &[u8], at: usize, end: u32, m: Marks) -> bool
 }
 
 fn segment_marked(b: &[u8], at: usize, end: u32, m: Marks) -> bool
+    requires { ⌜ end ≤ length (now b) ⌝ }
     ensures { λ r. ⌜ Says (bytesC ⊗ segmentC) (now (b .entry)) end at (markedSegment m) r ⌝ }
 {
     let value = codec::bytes_at(b, at, end);
@@ -200,6 +217,7 @@ fn segment_marked(b: &[u8], at: usize, end: u32, m: Marks) -> bool
 }
 
 pub fn segments_marked(b: &[u8], at: usize, end: u32, m: Marks) -> bool
+    requires { ⌜ end ≤ length (now b) ⌝ }
     ensures { λ r. ⌜ Says (listC (bytesC ⊗ segmentC)) (now (b .entry)) end at (anyOf (markedSegment m)) r ⌝ }
 {
     let mut left = codec::count_at(b, at, end);
@@ -216,6 +234,7 @@ pub fn segments_marked(b: &[u8], at: usize, end: u32, m: Marks) -> bool
 }
 
 fn version_marked(b: &[u8], at: usize, end: u32, m: Marks) -> bool
+    requires { ⌜ end ≤ length (now b) ⌝ }
     ensures { λ r. ⌜ Says versionC (now (b .entry)) end at (markedVersion m) r ⌝ }
 {
     let segment = codec::bytes_at(b, at, end);
@@ -224,6 +243,7 @@ fn version_marked(b: &[u8], at: usize, end: u32, m: Marks) -> bool
 }
 
 pub fn opt_version_marked(b: &[u8], at: usize, end: u32, m: Marks) -> bool
+    requires { ⌜ end ≤ length (now b) ⌝ }
     ensures { λ r. ⌜ Says (optC versionC) (now (b .entry)) end at (ifSome (markedVersion m)) r ⌝ }
 {
     if codec::tag_at(b, at, end) == 1 {

@@ -5,7 +5,7 @@ mod rules;
 
 ghost use lib.ListN.{length};
 ghost use mathlib.Core.Path.{_≡_};
-ghost use Prim.Native.Nat.{_+_, _-_};
+ghost use Prim.Native.Nat.{_+_, _-_, _≤_};
 ghost use Rattle.codec.specs.Codec.{le};
 ghost use Rattle.format.specs.Passed.{Passed};
 ghost use Rattle.format.specs.Sections.{jobOf};
@@ -47,7 +47,7 @@ pub fn maps_fit(job: &[u8]) -> bool
     !maps::segments_low(job, roots, plan)
 }
 
-fn marks(job: &[u8], index: &[u32]) -> Marks
+fn marks(job: &[u8], index: &[u16]) -> Marks
     requires { ⌜ Ready (now job) (now index) ⌝ }
     ensures { λ r. ⌜ MarksOf (jobOf (now (job .entry))) r ⌝ }
 {
@@ -62,6 +62,7 @@ fn marks(job: &[u8], index: &[u32]) -> Marks
 }
 
 fn spec_marked(job: &[u8], end: u32, m: Marks) -> bool
+    requires { ⌜ end ≤ length (now job) ⌝ }
     ensures { λ r. ⌜ Says specC (now (job .entry)) end 0 (markedSpec m) r ⌝ }
 {
     let loops = format::loops_at(job, 0, end);
@@ -74,7 +75,7 @@ fn spec_marked(job: &[u8], end: u32, m: Marks) -> bool
 }
 
 // Codes in plan and spec, and the version's first value.
-pub fn codes_clear(job: &[u8], index: &[u32]) -> bool
+pub fn codes_clear(job: &[u8], index: &[u16]) -> bool
     requires { ⌜ Ready (now job) (now index) ⌝ }
     ensures { λ r. ⌜ Decides r (CodesClear (jobOf (now (job .entry)))) ⌝ }
 {

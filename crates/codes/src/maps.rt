@@ -1,5 +1,7 @@
 // Places in the spec's maps. Each function tells whether whatever stands at a place has one below 1.
 ghost use Rattle.codec.specs.Codec.{_⊗_, listC};
+ghost use lib.ListN.{length};
+ghost use Prim.Native.Nat.{_≤_};
 ghost use Rattle.codec.specs.Forms.{bytesC, numC};
 ghost use Rattle.codec.specs.Limits.{anyOf};
 ghost use Rattle.format.specs.Spec.{componentC, elementC, segmentC};
@@ -8,12 +10,14 @@ ghost use Rattle.codes.specs.Maps.{lowComponent, lowElement, lowSegment}
 use crate::rules::low_at;
 
 fn component_low(b: &[u8], at: usize, end: u32) -> bool
+    requires { ⌜ end ≤ length (now b) ⌝ }
     ensures { λ r. ⌜ Says (numC ⊗ componentC) (now (b .entry)) end at lowComponent r ⌝ }
 {
     low_at(b, at, end)
 }
 
 fn components_low(b: &[u8], at: usize, end: u32) -> bool
+    requires { ⌜ end ≤ length (now b) ⌝ }
     ensures { λ r. ⌜ Says (listC (numC ⊗ componentC)) (now (b .entry)) end at (anyOf lowComponent) r ⌝ }
 {
     let mut left = codec::count_at(b, at, end);
@@ -30,6 +34,7 @@ fn components_low(b: &[u8], at: usize, end: u32) -> bool
 }
 
 fn element_low(b: &[u8], at: usize, end: u32) -> bool
+    requires { ⌜ end ≤ length (now b) ⌝ }
     ensures { λ r. ⌜ Says (numC ⊗ elementC) (now (b .entry)) end at lowElement r ⌝ }
 {
     let value = codec::le_at(b, 4, at, end);
@@ -42,6 +47,7 @@ fn element_low(b: &[u8], at: usize, end: u32) -> bool
 }
 
 fn elements_low(b: &[u8], at: usize, end: u32) -> bool
+    requires { ⌜ end ≤ length (now b) ⌝ }
     ensures { λ r. ⌜ Says (listC (numC ⊗ elementC)) (now (b .entry)) end at (anyOf lowElement) r ⌝ }
 {
     let mut left = codec::count_at(b, at, end);
@@ -58,6 +64,7 @@ fn elements_low(b: &[u8], at: usize, end: u32) -> bool
 }
 
 fn segment_low(b: &[u8], at: usize, end: u32) -> bool
+    requires { ⌜ end ≤ length (now b) ⌝ }
     ensures { λ r. ⌜ Says (bytesC ⊗ segmentC) (now (b .entry)) end at lowSegment r ⌝ }
 {
     let value = codec::bytes_at(b, at, end);
@@ -65,6 +72,7 @@ fn segment_low(b: &[u8], at: usize, end: u32) -> bool
 }
 
 pub fn segments_low(b: &[u8], at: usize, end: u32) -> bool
+    requires { ⌜ end ≤ length (now b) ⌝ }
     ensures { λ r. ⌜ Says (listC (bytesC ⊗ segmentC)) (now (b .entry)) end at (anyOf lowSegment) r ⌝ }
 {
     let mut left = codec::count_at(b, at, end);

@@ -1,5 +1,7 @@
 // Control rules. Each function tells whether whatever stands at a place is wrong.
 ghost use Rattle.codec.specs.Codec.{listC};
+ghost use lib.ListN.{length};
+ghost use Prim.Native.Nat.{_≤_};
 ghost use Rattle.codec.specs.Forms.{numC, optC};
 ghost use Rattle.codec.specs.Limits.{anyOf};
 ghost use Rattle.format.specs.Words.{ifSome};
@@ -9,12 +11,14 @@ ghost use Rattle.codes.specs.Rules.{low, wrongControl, wrongLoop};
 
 // A number below 1.
 pub fn low_at(b: &[u8], at: usize, end: u32) -> bool
+    requires { ⌜ end ≤ length (now b) ⌝ }
     ensures { λ r. ⌜ Says numC (now (b .entry)) end at low r ⌝ }
 {
     codec::count_at(b, at, end) < 1
 }
 
 fn control_wrong(b: &[u8], at: usize, end: u32) -> bool
+    requires { ⌜ end ≤ length (now b) ⌝ }
     ensures { λ r. ⌜ Says controlC (now (b .entry)) end at wrongControl r ⌝ }
 {
     let closer = codec::le_at(b, 4, at, end);
@@ -28,6 +32,7 @@ fn control_wrong(b: &[u8], at: usize, end: u32) -> bool
 }
 
 fn opt_control_wrong(b: &[u8], at: usize, end: u32) -> bool
+    requires { ⌜ end ≤ length (now b) ⌝ }
     ensures { λ r. ⌜ Says (optC controlC) (now (b .entry)) end at (ifSome wrongControl) r ⌝ }
 {
     if codec::tag_at(b, at, end) == 1 {
@@ -38,6 +43,7 @@ fn opt_control_wrong(b: &[u8], at: usize, end: u32) -> bool
 }
 
 fn loop_wrong(b: &[u8], at: usize, end: u32) -> bool
+    requires { ⌜ end ≤ length (now b) ⌝ }
     ensures { λ r. ⌜ Says loopC (now (b .entry)) end at wrongLoop r ⌝ }
 {
     let parent = codec::opt_num_at(b, at, end);
@@ -49,6 +55,7 @@ fn loop_wrong(b: &[u8], at: usize, end: u32) -> bool
 }
 
 pub fn loops_wrong(b: &[u8], at: usize, end: u32) -> bool
+    requires { ⌜ end ≤ length (now b) ⌝ }
     ensures { λ r. ⌜ Says (listC loopC) (now (b .entry)) end at (anyOf wrongLoop) r ⌝ }
 {
     let mut left = codec::count_at(b, at, end);

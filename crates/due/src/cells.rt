@@ -22,7 +22,7 @@ use spec::ids::RowId;
 use spec::ids::TableId;
 
 // Whether a column has a value in a row.
-pub fn has_value(job: &[u8], index: &[u32], t: TableId, column: u32, r: RowId) -> bool
+pub fn has_value(job: &[u8], index: &[u16], t: TableId, column: u32, r: RowId) -> bool
     requires { ⌜ Ready (now job) (now index) ⌝ }
     ensures { λ b. ⌜ b ≡ hasValue (jobOf (now (job .entry))) (t .0) (r .0) column ⌝ }
 {
@@ -31,7 +31,7 @@ pub fn has_value(job: &[u8], index: &[u32], t: TableId, column: u32, r: RowId) -
 }
 
 // Whether two rows differ in a column.
-pub fn differs(job: &[u8], index: &[u32], t: TableId, column: u32, a: RowId, b: RowId) -> bool
+pub fn differs(job: &[u8], index: &[u16], t: TableId, column: u32, a: RowId, b: RowId) -> bool
     requires { ⌜ Ready (now job) (now index) ⌝ }
     ensures { λ x. ⌜ x ≡ differ (jobOf (now (job .entry))) (t .0) (a .0) (b .0) column ⌝ }
 {
@@ -41,7 +41,7 @@ pub fn differs(job: &[u8], index: &[u32], t: TableId, column: u32, a: RowId, b: 
 }
 
 // Whether the `segment` cells of two rows agree.
-pub fn same_segment(job: &[u8], index: &[u32], t: TableId, a: RowId, b: RowId) -> bool
+pub fn same_segment(job: &[u8], index: &[u16], t: TableId, a: RowId, b: RowId) -> bool
     requires { ⌜ Ready (now job) (now index) ⌝ }
     ensures { λ x. ⌜ x ≡ sameAnswer (segmentCell (dataOf (jobOf (now (job .entry))) (t .0)) (a .0)) (segmentCell (dataOf (jobOf (now (job .entry))) (t .0)) (b .0)) ⌝ }
 {
@@ -51,7 +51,7 @@ pub fn same_segment(job: &[u8], index: &[u32], t: TableId, a: RowId, b: RowId) -
 }
 
 // Whether the column that a planned value names has a value in a row.
-pub fn gives_value(job: &[u8], index: &[u32], t: TableId, r: RowId, v: ValueSource) -> bool
+pub fn gives_value(job: &[u8], index: &[u16], t: TableId, r: RowId, v: ValueSource) -> bool
     requires { ⌜ Ready (now job) (now index) ⌝ }
     ensures { λ b. ⌜ b ≡ givesValue (jobOf (now (job .entry))) (t .0) (r .0) (valueOf (now (job .entry)) v) ⌝ }
 {
@@ -63,7 +63,7 @@ pub fn gives_value(job: &[u8], index: &[u32], t: TableId, r: RowId, v: ValueSour
 }
 
 // Whether two rows differ in the column that a planned value names.
-pub fn sets_apart(job: &[u8], index: &[u32], t: TableId, a: RowId, b: RowId, v: ValueSource) -> bool
+pub fn sets_apart(job: &[u8], index: &[u16], t: TableId, a: RowId, b: RowId, v: ValueSource) -> bool
     requires { ⌜ Ready (now job) (now index) ⌝ }
     ensures { λ x. ⌜ x ≡ setsApart (jobOf (now (job .entry))) (t .0) (a .0) (b .0) (valueOf (now (job .entry)) v) ⌝ }
 {
@@ -75,7 +75,7 @@ pub fn sets_apart(job: &[u8], index: &[u32], t: TableId, a: RowId, b: RowId, v: 
 }
 
 // Element k of planned segment i of loop l, which stands at p.
-pub fn element(job: &[u8], index: &[u32], l: LoopId, i: u32, k: u32, p: usize) -> ElementPlan
+pub fn element(job: &[u8], index: &[u16], l: LoopId, i: u32, k: u32, p: usize) -> ElementPlan
     requires { ⌜ Ready (now job) (now index) × (k < length ((plannedOf (jobOf (now job)) (l .0) i) .elements)) × Elements (now job) p (drop k ((plannedOf (jobOf (now job)) (l .0) i) .elements)) ⌝ }
     ensures { λ r. ⌜ ElementStep (now (job .entry)) k ((plannedOf (jobOf (now (job .entry))) (l .0) i) .elements) r ⌝ }
 {
@@ -85,7 +85,7 @@ pub fn element(job: &[u8], index: &[u32], l: LoopId, i: u32, k: u32, p: usize) -
 // Whether two rows differ in a column that planned segment i of loop l names.
 pub fn columns_differ(
     job: &[u8],
-    index: &[u32],
+    index: &[u16],
     l: LoopId,
     i: u32,
     t: TableId,

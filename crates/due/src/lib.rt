@@ -32,7 +32,7 @@ pub mod cells;
 // Whether one of the column cells that planned segment i of loop l, which is s, names is not null.
 pub fn filled(
     job: &[u8],
-    index: &[u32],
+    index: &[u16],
     l: LoopId,
     i: u32,
     s: Planned,
@@ -60,7 +60,7 @@ pub fn filled(
 // Whether a row segment is written: data has the table, and the segment is forced or filled.
 pub fn due_row(
     job: &[u8],
-    index: &[u32],
+    index: &[u16],
     l: LoopId,
     i: u32,
     s: Planned,
@@ -82,7 +82,7 @@ pub fn due_row(
 }
 
 // Whether the spec has the occurrence that a planned segment names.
-pub fn has_occurrence(job: &[u8], index: &[u32], l: LoopId, i: u32, s: Planned) -> bool
+pub fn has_occurrence(job: &[u8], index: &[u16], l: LoopId, i: u32, s: Planned) -> bool
     requires { ⌜ Ready (now job) (now index) × PlannedIs (now job) (l .0) i s ⌝ }
     ensures { λ b. ⌜ b ≡ hasOccurrence (outlineAt (now (job .entry))) (l .0) i ⌝ }
 {
@@ -91,7 +91,7 @@ pub fn has_occurrence(job: &[u8], index: &[u32], l: LoopId, i: u32, s: Planned) 
 }
 
 // Whether planned segment i of loop l is a row segment of table t that row r fills.
-fn row_fills(job: &[u8], index: &[u32], l: LoopId, i: u32, t: TableId, r: RowId) -> bool
+fn row_fills(job: &[u8], index: &[u16], l: LoopId, i: u32, t: TableId, r: RowId) -> bool
     requires { ⌜ Ready (now job) (now index) × (l .0 < 32) ⌝ }
     ensures { λ b. ⌜ b ≡ is (sourceTable ((segmentOf (outlineAt (now (job .entry))) (l .0) i) .source)) (t .0) && outlineAt (now (job .entry)) .filled (l .0) i (t .0) (r .0) ⌝ }
 {
@@ -105,7 +105,7 @@ fn row_fills(job: &[u8], index: &[u32], l: LoopId, i: u32, t: TableId, r: RowId)
 }
 
 // Whether row r of table t fills a row segment of loop l.
-fn own_data(job: &[u8], index: &[u32], l: LoopId, t: TableId, r: RowId) -> bool
+fn own_data(job: &[u8], index: &[u16], l: LoopId, t: TableId, r: RowId) -> bool
     requires { ⌜ Ready (now job) (now index) × (l .0 < 32) ⌝ }
     ensures { λ b. ⌜ b ≡ ownData (outlineAt (now (job .entry))) (l .0) (t .0) (r .0) ⌝ }
 {
@@ -122,7 +122,7 @@ fn own_data(job: &[u8], index: &[u32], l: LoopId, t: TableId, r: RowId) -> bool
 }
 
 // Whether the instances of a loop stand inside a row of table t.
-fn inside(job: &[u8], index: &[u32], l: LoopId, t: TableId) -> bool
+fn inside(job: &[u8], index: &[u16], l: LoopId, t: TableId) -> bool
     requires { ⌜ Ready (now job) (now index) × (l .0 < 32) ⌝ }
     ensures { λ b. ⌜ b ≡ is (insideTable (kindOf (outlineAt (now (job .entry))) (l .0))) (t .0) ⌝ }
 {
@@ -131,7 +131,7 @@ fn inside(job: &[u8], index: &[u32], l: LoopId, t: TableId) -> bool
 }
 
 // Whether row r of table t fills a row segment of loop l, or of a loop inside the same table below it, looking `height` levels down.
-pub fn has_data(job: &[u8], index: &[u32], l: LoopId, t: TableId, r: RowId, height: u32) -> bool
+pub fn has_data(job: &[u8], index: &[u16], l: LoopId, t: TableId, r: RowId, height: u32) -> bool
     requires { ⌜ Ready (now job) (now index) × (l .0 < 32) ⌝ }
     ensures { λ b. ⌜ b ≡ hasData (outlineAt (now (job .entry))) height (l .0) (t .0) (r .0) ⌝ }
 {
@@ -159,7 +159,7 @@ pub fn has_data(job: &[u8], index: &[u32], l: LoopId, t: TableId, r: RowId, heig
 }
 
 // Whether an `Inside` loop is written: it is required, or has data.
-pub fn shown(job: &[u8], index: &[u32], l: LoopId, t: TableId, r: RowId) -> bool
+pub fn shown(job: &[u8], index: &[u16], l: LoopId, t: TableId, r: RowId) -> bool
     requires { ⌜ Ready (now job) (now index) × (l .0 < 32) ⌝ }
     ensures { λ b. ⌜ b ≡ shown (outlineAt (now (job .entry))) (l .0) (t .0) (r .0) ⌝ }
 {
@@ -175,7 +175,7 @@ pub fn shown(job: &[u8], index: &[u32], l: LoopId, t: TableId, r: RowId) -> bool
 }
 
 // Whether two rows have equal cells in the columns that make the groups of a loop.
-pub fn same_group(job: &[u8], index: &[u32], l: LoopId, a: RowId, b: RowId) -> bool
+pub fn same_group(job: &[u8], index: &[u16], l: LoopId, a: RowId, b: RowId) -> bool
     requires { ⌜ Ready (now job) (now index) × (l .0 < 32) ⌝ }
     ensures { λ x. ⌜ x ≡ outlineAt (now (job .entry)) .sameGroup (l .0) (a .0) (b .0) ⌝ }
 {
@@ -195,7 +195,7 @@ pub fn same_group(job: &[u8], index: &[u32], l: LoopId, a: RowId, b: RowId) -> b
 }
 
 // Whether two rows may share a repeat segment: their `segment` cells agree, and so do the columns outside the groups.
-pub fn same_chunk(job: &[u8], index: &[u32], l: LoopId, i: u32, a: RowId, b: RowId) -> bool
+pub fn same_chunk(job: &[u8], index: &[u16], l: LoopId, i: u32, a: RowId, b: RowId) -> bool
     requires { ⌜ Ready (now job) (now index) × (l .0 < 32) ⌝ }
     ensures { λ x. ⌜ x ≡ outlineAt (now (job .entry)) .sameChunk (l .0) i (a .0) (b .0) ⌝ }
 {
@@ -209,7 +209,7 @@ pub fn same_chunk(job: &[u8], index: &[u32], l: LoopId, i: u32, a: RowId, b: Row
 }
 
 // Whether planned segment i is the trigger of an envelope loop.
-fn opener_at(job: &[u8], index: &[u32], l: LoopId, i: u32) -> bool
+fn opener_at(job: &[u8], index: &[u16], l: LoopId, i: u32) -> bool
     requires { ⌜ Ready (now job) (now index) × (l .0 < 32) ⌝ }
     ensures { λ b. ⌜ b ≡ ltb i (planned (outlineAt (now (job .entry))) (l .0)) && isOpener ((segmentOf (outlineAt (now (job .entry))) (l .0) i) .source) ⌝ }
 {
@@ -222,7 +222,7 @@ fn opener_at(job: &[u8], index: &[u32], l: LoopId, i: u32) -> bool
 }
 
 // Whether an item of the order of loop l is its trigger.
-fn opens_at(job: &[u8], index: &[u32], l: LoopId, item: Item) -> bool
+fn opens_at(job: &[u8], index: &[u16], l: LoopId, item: Item) -> bool
     requires { ⌜ Ready (now job) (now index) × (l .0 < 32) ⌝ }
     ensures { λ b. ⌜ b ≡ opensAt (outlineAt (now (job .entry))) (l .0) (itemIn (itemOf item)) ⌝ }
 {
@@ -233,7 +233,7 @@ fn opens_at(job: &[u8], index: &[u32], l: LoopId, item: Item) -> bool
 }
 
 // Whether the order of a loop names its trigger.
-pub fn opened(job: &[u8], index: &[u32], l: LoopId) -> bool
+pub fn opened(job: &[u8], index: &[u16], l: LoopId) -> bool
     requires { ⌜ Ready (now job) (now index) × (l .0 < 32) ⌝ }
     ensures { λ b. ⌜ b ≡ opened (outlineAt (now (job .entry))) (l .0) ⌝ }
 {

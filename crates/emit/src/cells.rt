@@ -150,7 +150,7 @@ pub fn max_by(n: Number) -> Max
 }
 
 // The most that a place takes.
-fn max_at(job: &[u8], index: &[u32], id: Stretch, element: u32, component: Number) -> Max
+fn max_at(job: &[u8], index: &[u16], id: Stretch, element: u32, component: Number) -> Max
     requires { ⌜ Ready (now job) (now index) × (id .start + id .len ≤ length (now job)) ⌝ }
     ensures { λ r. ⌜ r ≡ maxIn (maxOf (jobOf (now (job .entry))) (stretchOf (now (job .entry)) id) element (numberOf component)) ⌝ }
 {
@@ -160,7 +160,7 @@ fn max_at(job: &[u8], index: &[u32], id: Stretch, element: u32, component: Numbe
 // The text of a cell that is no stretch of the job, at a place, and the reason why it has none.
 pub fn own_text(
     job: &[u8],
-    index: &[u32],
+    index: &[u16],
     id: Stretch,
     element: u32,
     component: Number,
@@ -226,7 +226,7 @@ pub fn held_in(cell: Cell) -> Held
 // The text of a cell that is read, at a place of the segment with that identifier, and the reason why it has none.
 pub fn read_text(
     job: &[u8],
-    index: &[u32],
+    index: &[u16],
     id: Stretch,
     element: u32,
     component: Number,
@@ -245,7 +245,7 @@ pub fn read_text(
 // The same of a row's cell.
 pub fn cell_text(
     job: &[u8],
-    index: &[u32],
+    index: &[u16],
     id: Stretch,
     t: TableId,
     r: RowId,

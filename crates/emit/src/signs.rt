@@ -18,7 +18,7 @@ ghost use Rattle.emit.specs.Fold.{separatorsOf};
 ghost use Rattle.emit.specs.Written.{tried, repetitionOf};
 
 // What a segment is joined with.
-pub fn separators_of(job: &[u8], index: &[u32]) -> Separators
+pub fn separators_of(job: &[u8], index: &[u16]) -> Separators
     requires { ⌜ EnvelopeIndexed (now job) (now index) ⌝ }
     ensures { λ r. ⌜ r ≡ separatorsOf (jobOf (now (job .entry))) ⌝ }
 {
@@ -34,7 +34,7 @@ pub fn separators_of(job: &[u8], index: &[u32]) -> Separators
     }
 }
 
-pub fn repetition_of(job: &[u8], index: &[u32]) -> Repetition
+pub fn repetition_of(job: &[u8], index: &[u16]) -> Repetition
     requires { ⌜ EnvelopeIndexed (now job) (now index) ⌝ }
     ensures { λ r. ⌜ repetitionOf r ≡ jobOf (now (job .entry)) .envelope .repetition ⌝ }
 {
@@ -46,7 +46,7 @@ pub fn repetition_of(job: &[u8], index: &[u32]) -> Repetition
 }
 
 // What a text is tried for.
-pub fn delimiters_of(job: &[u8], index: &[u32]) -> Delimiters
+pub fn delimiters_of(job: &[u8], index: &[u16]) -> Delimiters
     requires { ⌜ EnvelopeIndexed (now job) (now index) ⌝ }
     ensures { λ r. ⌜ tried r ≡ separators (jobOf (now (job .entry)) .envelope) ⌝ }
 {

@@ -73,7 +73,7 @@ module _ {b idx n : List ℕ} (N : Nested b idx n) (t r : ℕ) (h : r < rowCount
   pub numbers-within : (base : ℕ) → base ≡ T.rowsBefore (jobOf b .tables) t → (base + r) * 3 + 2 < length n
   numbers-within base e =
       let k : r < (dataOf (jobOf b) t) .rows = rw (← rows-is (jobOf b) t) h in
-      omega (arith, room-for (jobOf b) t r _ base (N .ready .tables .few-rows) e refl k, N .room)
+      omega (arith, room-for (jobOf b) t r _ base e refl k, N .room)
 
   pub above-repeat : (again : Bool) (base : ℕ) → again ≡ (tableOf (jobOf b) t) .segment → again ≡ true → base ≡ T.rowsBefore (jobOf b .tables) t → placedAt n base r ≡ above (outlineAt b) t r
   unfolding placedAt

@@ -37,7 +37,7 @@ fn placed_by(nest: &[u32], base: usize, r: RowId) -> Number
 }
 
 // The table that a row hangs on.
-fn table_above(job: &[u8], index: &[u32], nest: &[u32], t: TableId, r: RowId) -> Number
+fn table_above(job: &[u8], index: &[u16], nest: &[u32], t: TableId, r: RowId) -> Number
     requires { ⌜ Nested (now job) (now index) (now nest) × (r .0 < rowCount (outlineAt (now job)) (t .0)) ⌝ }
     ensures { λ n. ⌜ numberOf n ≡ above (outlineAt (now (job .entry))) (t .0) (r .0) ⌝ }
 {
@@ -50,7 +50,7 @@ fn table_above(job: &[u8], index: &[u32], nest: &[u32], t: TableId, r: RowId) ->
 }
 
 // A row's reference to a table above; 0 where there is none.
-fn reference(job: &[u8], index: &[u32], t: TableId, above: u32, r: RowId) -> u64
+fn reference(job: &[u8], index: &[u16], t: TableId, above: u32, r: RowId) -> u64
     requires { ⌜ Ready (now job) (now index) ⌝ }
     ensures { λ n. ⌜ n ≡ on (outlineAt (now (job .entry)) .reference (t .0) above (r .0)) (λ v. v) 0 ⌝ }
 {
@@ -64,7 +64,7 @@ fn reference(job: &[u8], index: &[u32], t: TableId, above: u32, r: RowId) -> u64
 // The finding of a row that is lower than the highest; a row of a table with none above has no finding.
 fn note_lower(
     job: &[u8],
-    index: &[u32],
+    index: &[u16],
     findings: &mut [u64],
     at: usize,
     t: TableId,
@@ -89,7 +89,7 @@ fn note_lower(
 // The findings on a row's order, where m is the highest row of its table.
 fn note_order(
     job: &[u8],
-    index: &[u32],
+    index: &[u16],
     nest: &[u32],
     findings: &mut [u64],
     at: usize,
@@ -119,7 +119,7 @@ pub struct Entered {
 // A row of a table is entered by loop l, where m is the highest row of the table.
 pub fn enter(
     job: &[u8],
-    index: &[u32],
+    index: &[u16],
     nest: &[u32],
     findings: &mut [u64],
     stops: &mut [u64],

@@ -15,19 +15,12 @@ use Rattle.tables.specs.Parts as T
 use Rattle.nest.specs.Nest.{nestArray}
 use Rattle.nest.specs.OfJob.{outlineOf}
 use Rattle.nest.specs.Ready.{outlineAt}
-use Rattle.nest.proofs.NestLaws.{rowsBefore, array-length}
-use Rattle.nest.proofs.Bridge.{data-count-is}
-use Rattle.nest.proofs.Placing.{rows-room}
-use Rattle.nest.proofs.Stored.{before-is}
+use Rattle.nest.proofs.Stored.{rows-counted, array-rows}
 use Rattle.exports.specs.Nesting.{nestLent}
 
 -- three numbers a row, and few rows
 pub array-long : (j : Job) (n m : ℕ) → rowsOfAll (j .tables) ≤ 4096 → n ≡ length (j .tables) → m ≡ T.rowsBefore (j .tables) n → (m * 3 ≡ length (nestArray (outlineOf j))) × (m * 3 ≤ 12288)
-array-long j n m h e q =
-    let l = array-length (outlineOf j) in
-    let c : length (outlineOf j .rowCounts) ≡ n = data-count-is j ∙ sym e in
-    let b = ap (rowsBefore (outlineOf j)) c ∙ sym (before-is j n) in
-    (omega (arith, l, b, q), omega (arith, rows-room (j .tables) n, q, h))
+array-long j n m h e q = let c = rows-counted j n m e q in (omega (arith, c, array-rows j), omega (arith, c, h))
 
 -- one number more from the front of a list to the front of another
 pub copy-turn : (d e l : List ℕ) (i : ℕ) → e ≡ sets d 0 (take i l) → i < length l → set e i (getD l i 0) ≡ sets d 0 (take (i + 1) l)

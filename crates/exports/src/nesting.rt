@@ -24,7 +24,7 @@ fn copy_front(d: &mut [u32], source: &[u32], n: usize)
 }
 
 // How many numbers nest has for a job, three a row.
-fn nest_count(job: &[u8], index: &[u32]) -> usize
+fn nest_count(job: &[u8], index: &[u16]) -> usize
     requires { ⌜ Ready (now job) (now index) ⌝ }
     ensures { λ n. ⌜ (n ≡ length (nestArray (outlineAt (now (job .entry))))) × (n ≤ 12288) ⌝ }
 {
@@ -34,7 +34,7 @@ fn nest_count(job: &[u8], index: &[u32]) -> usize
 }
 
 // Nest with a list of any length.
-fn nested(job: &[u8], index: &[u32], nest: &mut [u32])
+fn nested(job: &[u8], index: &[u16], nest: &mut [u32])
     requires { ⌜ Ready (now job) (now index) ⌝ }
     ensures { λ _. ⌜ now (nest .exit) ≡ sets (now (nest .entry)) 0 (nestArray (outlineAt (now (job .entry)))) ⌝ }
 {
@@ -52,7 +52,7 @@ pub extern "C" fn baktuven_nest(job: &[u8], nest: &mut [u32]) -> u32
 {
     let refused = numbered(refusal::check(job));
     if refused == 0 {
-        let mut index = [0u32; 10752];
+        let mut index = [0u16; 10752];
         index::fill_index(job, &mut index);
         nested(job, &index, nest);
         return 0;

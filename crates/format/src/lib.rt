@@ -1,5 +1,7 @@
 // Checking the structures of a job: each function answers the place behind what it reads, or one past the end where it is bad.
 ghost use mathlib.Core.Path.{_≡_};
+ghost use lib.ListN.{length};
+ghost use Prim.Native.Nat.{_≤_};
 ghost use mathlib.Core.Bool.{false};
 ghost use Rattle.codec.specs.Skip.{skip};
 ghost use Rattle.codec.specs.Codec.{_⊗_, listC};
@@ -15,6 +17,7 @@ ghost use Rattle.format.specs.Sections.{broken, spoilt};
 // ---- spec
 
 pub fn control_at(b: &[u8], at: usize, end: u32) -> usize
+    requires { ⌜ end ≤ length (now b) ⌝ }
     ensures { λ r. ⌜ r ≡ skip controlC (now (b .entry)) at end ⌝ }
 {
     let opener = codec::le_at(b, 4, at, end);
@@ -24,6 +27,7 @@ pub fn control_at(b: &[u8], at: usize, end: u32) -> usize
 }
 
 pub fn opt_control_at(b: &[u8], at: usize, end: u32) -> usize
+    requires { ⌜ end ≤ length (now b) ⌝ }
     ensures { λ r. ⌜ r ≡ skip (optC controlC) (now (b .entry)) at end ⌝ }
 {
     let t = codec::le_at(b, 1, at, end);
@@ -32,6 +36,7 @@ pub fn opt_control_at(b: &[u8], at: usize, end: u32) -> usize
 }
 
 pub fn loop_at(b: &[u8], at: usize, end: u32) -> usize
+    requires { ⌜ end ≤ length (now b) ⌝ }
     ensures { λ r. ⌜ r ≡ skip loopC (now (b .entry)) at end ⌝ }
 {
     let parent = codec::opt_num_at(b, at, end);
@@ -44,6 +49,7 @@ pub fn loop_at(b: &[u8], at: usize, end: u32) -> usize
 }
 
 pub fn loops_at(b: &[u8], at: usize, end: u32) -> usize
+    requires { ⌜ end ≤ length (now b) ⌝ }
     ensures { λ r. ⌜ r ≡ skip (listC loopC) (now (b .entry)) at end ⌝ }
 {
     let mut left = codec::count_at(b, at, end);
@@ -59,6 +65,7 @@ pub fn loops_at(b: &[u8], at: usize, end: u32) -> usize
 }
 
 pub fn kind_at(b: &[u8], at: usize, end: u32) -> usize
+    requires { ⌜ end ≤ length (now b) ⌝ }
     ensures { λ r. ⌜ r ≡ skip kindC (now (b .entry)) at end ⌝ }
 {
     let t = codec::tag_at(b, at, end);
@@ -76,6 +83,7 @@ pub fn kind_at(b: &[u8], at: usize, end: u32) -> usize
 }
 
 pub fn component_at(b: &[u8], at: usize, end: u32) -> usize
+    requires { ⌜ end ≤ length (now b) ⌝ }
     ensures { λ r. ⌜ r ≡ skip componentC (now (b .entry)) at end ⌝ }
 {
     let kind = kind_at(b, at, end);
@@ -86,6 +94,7 @@ pub fn component_at(b: &[u8], at: usize, end: u32) -> usize
 
 // The components of an element, by rising numbers.
 pub fn components_at(b: &[u8], at: usize, end: u32) -> usize
+    requires { ⌜ end ≤ length (now b) ⌝ }
     ensures { λ r. ⌜ r ≡ skip (numMapC componentC) (now (b .entry)) at end ⌝ }
 {
     let mut left = codec::count_at(b, at, end);
@@ -109,6 +118,7 @@ pub fn components_at(b: &[u8], at: usize, end: u32) -> usize
 
 // The same of an element, which mostly has none.
 pub fn parts_at(b: &[u8], at: usize, end: u32) -> usize
+    requires { ⌜ end ≤ length (now b) ⌝ }
     ensures { λ r. ⌜ r ≡ skip (numMapC componentC) (now (b .entry)) at end ⌝ }
 {
     if codec::count_at(b, at, end) == 0 {
@@ -118,6 +128,7 @@ pub fn parts_at(b: &[u8], at: usize, end: u32) -> usize
 }
 
 pub fn element_at(b: &[u8], at: usize, end: u32) -> usize
+    requires { ⌜ end ≤ length (now b) ⌝ }
     ensures { λ r. ⌜ r ≡ skip elementC (now (b .entry)) at end ⌝ }
 {
     let kind = kind_at(b, at, end);
@@ -129,6 +140,7 @@ pub fn element_at(b: &[u8], at: usize, end: u32) -> usize
 
 // The elements of a segment, by rising numbers.
 pub fn elements_at(b: &[u8], at: usize, end: u32) -> usize
+    requires { ⌜ end ≤ length (now b) ⌝ }
     ensures { λ r. ⌜ r ≡ skip (numMapC elementC) (now (b .entry)) at end ⌝ }
 {
     let mut left = codec::count_at(b, at, end);
@@ -152,6 +164,7 @@ pub fn elements_at(b: &[u8], at: usize, end: u32) -> usize
 
 // The segments of the spec, by rising identifiers.
 pub fn segments_at(b: &[u8], at: usize, end: u32) -> usize
+    requires { ⌜ end ≤ length (now b) ⌝ }
     ensures { λ r. ⌜ r ≡ skip (bytesMapC segmentC) (now (b .entry)) at end ⌝ }
 {
     let mut left = codec::count_at(b, at, end);
@@ -182,6 +195,7 @@ pub fn repeat_at(b: &[u8], at: usize, end: u32) -> usize
 }
 
 pub fn opt_repeat_at(b: &[u8], at: usize, end: u32) -> usize
+    requires { ⌜ end ≤ length (now b) ⌝ }
     ensures { λ r. ⌜ r ≡ skip (optC repeatC) (now (b .entry)) at end ⌝ }
 {
     let t = codec::le_at(b, 1, at, end);
@@ -190,6 +204,7 @@ pub fn opt_repeat_at(b: &[u8], at: usize, end: u32) -> usize
 }
 
 pub fn table_at(b: &[u8], at: usize, end: u32) -> usize
+    requires { ⌜ end ≤ length (now b) ⌝ }
     ensures { λ r. ⌜ r ≡ skip tableC (now (b .entry)) at end ⌝ }
 {
     let loops = codec::les_at(b, 4, at, end);
@@ -201,6 +216,7 @@ pub fn table_at(b: &[u8], at: usize, end: u32) -> usize
 }
 
 pub fn tables_at(b: &[u8], at: usize, end: u32) -> usize
+    requires { ⌜ end ≤ length (now b) ⌝ }
     ensures { λ r. ⌜ r ≡ skip (listC tableC) (now (b .entry)) at end ⌝ }
 {
     let mut left = codec::count_at(b, at, end);
@@ -216,6 +232,7 @@ pub fn tables_at(b: &[u8], at: usize, end: u32) -> usize
 }
 
 pub fn version_at(b: &[u8], at: usize, end: u32) -> usize
+    requires { ⌜ end ≤ length (now b) ⌝ }
     ensures { λ r. ⌜ r ≡ skip versionC (now (b .entry)) at end ⌝ }
 {
     let segment = codec::bytes_at(b, at, end);
@@ -224,6 +241,7 @@ pub fn version_at(b: &[u8], at: usize, end: u32) -> usize
 }
 
 pub fn opt_version_at(b: &[u8], at: usize, end: u32) -> usize
+    requires { ⌜ end ≤ length (now b) ⌝ }
     ensures { λ r. ⌜ r ≡ skip (optC versionC) (now (b .entry)) at end ⌝ }
 {
     let t = codec::le_at(b, 1, at, end);
@@ -232,6 +250,7 @@ pub fn opt_version_at(b: &[u8], at: usize, end: u32) -> usize
 }
 
 pub fn spec_at(b: &[u8], at: usize, end: u32) -> usize
+    requires { ⌜ end ≤ length (now b) ⌝ }
     ensures { λ r. ⌜ r ≡ skip specC (now (b .entry)) at end ⌝ }
 {
     let loops = loops_at(b, at, end);
@@ -244,6 +263,7 @@ pub fn spec_at(b: &[u8], at: usize, end: u32) -> usize
 // ---- plan
 
 pub fn instances_at(b: &[u8], at: usize, end: u32) -> usize
+    requires { ⌜ end ≤ length (now b) ⌝ }
     ensures { λ r. ⌜ r ≡ skip instancesC (now (b .entry)) at end ⌝ }
 {
     let t = codec::tag_at(b, at, end);
@@ -261,6 +281,7 @@ pub fn instances_at(b: &[u8], at: usize, end: u32) -> usize
 }
 
 pub fn source_at(b: &[u8], at: usize, end: u32) -> usize
+    requires { ⌜ end ≤ length (now b) ⌝ }
     ensures { λ r. ⌜ r ≡ skip sourceC (now (b .entry)) at end ⌝ }
 {
     let t = codec::tag_at(b, at, end);
@@ -275,6 +296,7 @@ pub fn source_at(b: &[u8], at: usize, end: u32) -> usize
 }
 
 pub fn value_at(b: &[u8], at: usize, end: u32) -> usize
+    requires { ⌜ end ≤ length (now b) ⌝ }
     ensures { λ r. ⌜ r ≡ skip valueC (now (b .entry)) at end ⌝ }
 {
     let t = codec::tag_at(b, at, end);
@@ -289,6 +311,7 @@ pub fn value_at(b: &[u8], at: usize, end: u32) -> usize
 }
 
 pub fn element_plan_at(b: &[u8], at: usize, end: u32) -> usize
+    requires { ⌜ end ≤ length (now b) ⌝ }
     ensures { λ r. ⌜ r ≡ skip elementPlanC (now (b .entry)) at end ⌝ }
 {
     let element = codec::le_at(b, 4, at, end);
@@ -297,6 +320,7 @@ pub fn element_plan_at(b: &[u8], at: usize, end: u32) -> usize
 }
 
 pub fn element_plans_at(b: &[u8], at: usize, end: u32) -> usize
+    requires { ⌜ end ≤ length (now b) ⌝ }
     ensures { λ r. ⌜ r ≡ skip (listC elementPlanC) (now (b .entry)) at end ⌝ }
 {
     let mut left = codec::count_at(b, at, end);
@@ -312,6 +336,7 @@ pub fn element_plans_at(b: &[u8], at: usize, end: u32) -> usize
 }
 
 pub fn segment_plan_at(b: &[u8], at: usize, end: u32) -> usize
+    requires { ⌜ end ≤ length (now b) ⌝ }
     ensures { λ r. ⌜ r ≡ skip segmentPlanC (now (b .entry)) at end ⌝ }
 {
     let occurrence = codec::le_at(b, 4, at, end);
@@ -320,6 +345,7 @@ pub fn segment_plan_at(b: &[u8], at: usize, end: u32) -> usize
 }
 
 pub fn segment_plans_at(b: &[u8], at: usize, end: u32) -> usize
+    requires { ⌜ end ≤ length (now b) ⌝ }
     ensures { λ r. ⌜ r ≡ skip (listC segmentPlanC) (now (b .entry)) at end ⌝ }
 {
     let mut left = codec::count_at(b, at, end);
@@ -335,6 +361,7 @@ pub fn segment_plans_at(b: &[u8], at: usize, end: u32) -> usize
 }
 
 pub fn loop_plan_at(b: &[u8], at: usize, end: u32) -> usize
+    requires { ⌜ end ≤ length (now b) ⌝ }
     ensures { λ r. ⌜ r ≡ skip loopPlanC (now (b .entry)) at end ⌝ }
 {
     let instances = instances_at(b, at, end);
@@ -342,6 +369,7 @@ pub fn loop_plan_at(b: &[u8], at: usize, end: u32) -> usize
 }
 
 pub fn plan_at(b: &[u8], at: usize, end: u32) -> usize
+    requires { ⌜ end ≤ length (now b) ⌝ }
     ensures { λ r. ⌜ r ≡ skip (listC loopPlanC) (now (b .entry)) at end ⌝ }
 {
     let mut left = codec::count_at(b, at, end);
@@ -359,6 +387,7 @@ pub fn plan_at(b: &[u8], at: usize, end: u32) -> usize
 // ---- layout
 
 pub fn item_at(b: &[u8], at: usize, end: u32) -> usize
+    requires { ⌜ end ≤ length (now b) ⌝ }
     ensures { λ r. ⌜ r ≡ skip itemC (now (b .entry)) at end ⌝ }
 {
     let t = codec::tag_at(b, at, end);
@@ -370,6 +399,7 @@ pub fn item_at(b: &[u8], at: usize, end: u32) -> usize
 }
 
 pub fn items_at(b: &[u8], at: usize, end: u32) -> usize
+    requires { ⌜ end ≤ length (now b) ⌝ }
     ensures { λ r. ⌜ r ≡ skip (listC itemC) (now (b .entry)) at end ⌝ }
 {
     let mut left = codec::count_at(b, at, end);
@@ -385,6 +415,7 @@ pub fn items_at(b: &[u8], at: usize, end: u32) -> usize
 }
 
 pub fn orders_at(b: &[u8], at: usize, end: u32) -> usize
+    requires { ⌜ end ≤ length (now b) ⌝ }
     ensures { λ r. ⌜ r ≡ skip (listC (listC itemC)) (now (b .entry)) at end ⌝ }
 {
     let mut left = codec::count_at(b, at, end);
@@ -400,12 +431,14 @@ pub fn orders_at(b: &[u8], at: usize, end: u32) -> usize
 }
 
 pub fn flag_at(b: &[u8], at: usize, end: u32) -> usize
+    requires { ⌜ end ≤ length (now b) ⌝ }
     ensures { λ r. ⌜ r ≡ skip flagC (now (b .entry)) at end ⌝ }
 {
     codec::case_at(b, 2, at, end)
 }
 
 pub fn flags_at(b: &[u8], at: usize, end: u32) -> usize
+    requires { ⌜ end ≤ length (now b) ⌝ }
     ensures { λ r. ⌜ r ≡ skip (listC flagC) (now (b .entry)) at end ⌝ }
 {
     let mut left = codec::count_at(b, at, end);
@@ -421,6 +454,7 @@ pub fn flags_at(b: &[u8], at: usize, end: u32) -> usize
 }
 
 pub fn forced_at(b: &[u8], at: usize, end: u32) -> usize
+    requires { ⌜ end ≤ length (now b) ⌝ }
     ensures { λ r. ⌜ r ≡ skip (listC (listC flagC)) (now (b .entry)) at end ⌝ }
 {
     let mut left = codec::count_at(b, at, end);
@@ -436,6 +470,7 @@ pub fn forced_at(b: &[u8], at: usize, end: u32) -> usize
 }
 
 pub fn number_lists_at(b: &[u8], at: usize, end: u32) -> usize
+    requires { ⌜ end ≤ length (now b) ⌝ }
     ensures { λ r. ⌜ r ≡ skip (listC (listC numC)) (now (b .entry)) at end ⌝ }
 {
     let mut left = codec::count_at(b, at, end);
@@ -451,6 +486,7 @@ pub fn number_lists_at(b: &[u8], at: usize, end: u32) -> usize
 }
 
 pub fn depths_at(b: &[u8], at: usize, end: u32) -> usize
+    requires { ⌜ end ≤ length (now b) ⌝ }
     ensures { λ r. ⌜ r ≡ skip (listC (optC numC)) (now (b .entry)) at end ⌝ }
 {
     let mut left = codec::count_at(b, at, end);
@@ -466,6 +502,7 @@ pub fn depths_at(b: &[u8], at: usize, end: u32) -> usize
 }
 
 pub fn layout_at(b: &[u8], at: usize, end: u32) -> usize
+    requires { ⌜ end ≤ length (now b) ⌝ }
     ensures { λ r. ⌜ r ≡ skip layoutC (now (b .entry)) at end ⌝ }
 {
     let order = orders_at(b, at, end);
@@ -478,6 +515,7 @@ pub fn layout_at(b: &[u8], at: usize, end: u32) -> usize
 // ---- envelope
 
 pub fn opt_byte_at(b: &[u8], at: usize, end: u32) -> usize
+    requires { ⌜ end ≤ length (now b) ⌝ }
     ensures { λ r. ⌜ r ≡ skip (optC byteC) (now (b .entry)) at end ⌝ }
 {
     let t = codec::le_at(b, 1, at, end);
@@ -486,6 +524,7 @@ pub fn opt_byte_at(b: &[u8], at: usize, end: u32) -> usize
 }
 
 pub fn envelope_at(b: &[u8], at: usize, end: u32) -> usize
+    requires { ⌜ end ≤ length (now b) ⌝ }
     ensures { λ r. ⌜ r ≡ skip envelopeC (now (b .entry)) at end ⌝ }
 {
     let sender_qualifier = codec::bytes_at(b, at, end);
@@ -508,6 +547,7 @@ pub fn envelope_at(b: &[u8], at: usize, end: u32) -> usize
 // ---- data
 
 pub fn values_at(b: &[u8], at: usize, end: u32) -> usize
+    requires { ⌜ end ≤ length (now b) ⌝ }
     ensures { λ r. ⌜ r ≡ skip valuesC (now (b .entry)) at end ⌝ }
 {
     let t = codec::tag_at(b, at, end);
@@ -531,6 +571,7 @@ pub fn values_at(b: &[u8], at: usize, end: u32) -> usize
 }
 
 pub fn column_at(b: &[u8], at: usize, end: u32) -> usize
+    requires { ⌜ end ≤ length (now b) ⌝ }
     ensures { λ r. ⌜ r ≡ skip columnC (now (b .entry)) at end ⌝ }
 {
     let values = values_at(b, at, end);
@@ -539,6 +580,7 @@ pub fn column_at(b: &[u8], at: usize, end: u32) -> usize
 }
 
 pub fn opt_column_at(b: &[u8], at: usize, end: u32) -> usize
+    requires { ⌜ end ≤ length (now b) ⌝ }
     ensures { λ r. ⌜ r ≡ skip (optC columnC) (now (b .entry)) at end ⌝ }
 {
     let t = codec::le_at(b, 1, at, end);
@@ -547,6 +589,7 @@ pub fn opt_column_at(b: &[u8], at: usize, end: u32) -> usize
 }
 
 pub fn columns_at(b: &[u8], at: usize, end: u32) -> usize
+    requires { ⌜ end ≤ length (now b) ⌝ }
     ensures { λ r. ⌜ r ≡ skip (listC (optC columnC)) (now (b .entry)) at end ⌝ }
 {
     let mut left = codec::count_at(b, at, end);
@@ -563,6 +606,7 @@ pub fn columns_at(b: &[u8], at: usize, end: u32) -> usize
 
 // The table that a reference is to, and its column.
 pub fn reference_at(b: &[u8], at: usize, end: u32) -> usize
+    requires { ⌜ end ≤ length (now b) ⌝ }
     ensures { λ r. ⌜ r ≡ skip (numC ⊗ optC columnC) (now (b .entry)) at end ⌝ }
 {
     let table = codec::le_at(b, 4, at, end);
@@ -570,6 +614,7 @@ pub fn reference_at(b: &[u8], at: usize, end: u32) -> usize
 }
 
 pub fn references_at(b: &[u8], at: usize, end: u32) -> usize
+    requires { ⌜ end ≤ length (now b) ⌝ }
     ensures { λ r. ⌜ r ≡ skip (listC (numC ⊗ optC columnC)) (now (b .entry)) at end ⌝ }
 {
     let mut left = codec::count_at(b, at, end);
@@ -585,6 +630,7 @@ pub fn references_at(b: &[u8], at: usize, end: u32) -> usize
 }
 
 pub fn table_data_at(b: &[u8], at: usize, end: u32) -> usize
+    requires { ⌜ end ≤ length (now b) ⌝ }
     ensures { λ r. ⌜ r ≡ skip tableDataC (now (b .entry)) at end ⌝ }
 {
     let rows = codec::le_at(b, 4, at, end);
@@ -595,6 +641,7 @@ pub fn table_data_at(b: &[u8], at: usize, end: u32) -> usize
 }
 
 pub fn data_at(b: &[u8], at: usize, end: u32) -> usize
+    requires { ⌜ end ≤ length (now b) ⌝ }
     ensures { λ r. ⌜ r ≡ skip (listC tableDataC) (now (b .entry)) at end ⌝ }
 {
     let mut left = codec::count_at(b, at, end);

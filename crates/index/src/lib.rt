@@ -5,7 +5,7 @@ ghost use lib.ListN.{length};
 ghost use Rattle.format.specs.Passed.{Passed};
 ghost use Rattle.nest.specs.Ready.{Ready};
 
-pub fn fill_index(job: &[u8], index: &mut [u32])
+pub fn fill_index(job: &[u8], index: &mut [u16])
     requires { ⌜ Passed (now job) × (10752 ≤ length (now index)) ⌝ }
     ensures { λ r. ⌜ Ready (now (job .entry)) (now (index .exit)) × (length (now (index .exit)) ≡ length (now (index .entry))) ⌝ }
 {

@@ -205,7 +205,7 @@ module _ {b idx n : List ℕ} (N : Nested b idx n) (kind : ℕ) (l : LoopId) (t 
     unfolding A.dataOf
     going-rows s h = record {
       inner = record {
-        room = let d = rows-is (jobOf b) (t .0) in omega (arith, d, rows-room (jobOf b .tables) (t .0), N .ready .tables .few-rows, N .room);
+        room = let d = rows-is (jobOf b) (t .0) in omega (arith, d, rows-room (jobOf b .tables) (t .0), N .room);
         few = rows-few (jobOf b) (t .0) (N .ready .tables .few-rows);
         small = above-small s;
         counted = refl;

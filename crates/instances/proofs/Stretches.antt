@@ -15,7 +15,7 @@ use Rattle.nest.specs.Lists.{keep, upTo}
 use Rattle.nest.specs.Found.{nestAt}
 use Rattle.nest.specs.Outline.{Outline}
 use Rattle.nest.specs.Ready.{outlineAt}
-use Rattle.nest.specs.Rising.{Climbs, Parted}
+use Rattle.nest.specs.Rising.{Climbs, Parted, rises}
 use Rattle.nest.proofs.Scan.{keep-length, keep-skip, keep-cut}
 use Rattle.nest.proofs.Stored.{before-is}
 use Rattle.walk.specs.declared.Context.{Context as Kept}
@@ -137,5 +137,5 @@ module _ (o : Outline) (n : List ℕ) (cur : Cursor) (up : 0 < cur .above) (low 
 
 -- ---- where the flag says so
 
-pub climbs : {b idx n : List ℕ} → Nested b idx n → (cur : Cursor) → Going (outlineAt b) n cur → cur .base ≡ T.rowsBefore (jobOf b .tables) (cur .table .0) → getD n (12288 + cur .table .0) 0 ≡ 1 → Climbs n (cur .base) (cur .rows)
+pub climbs : {b idx n : List ℕ} → Nested b idx n → (cur : Cursor) → Going (outlineAt b) n cur → cur .base ≡ T.rowsBefore (jobOf b .tables) (cur .table .0) → rises n (cur .table .0) ≡ true → Climbs n (cur .base) (cur .rows)
 climbs {b} {idx} {n} N cur g e f = subst (λ (x : ℕ). Climbs n x (cur .rows)) (sym (e ∙ before-is (jobOf b) (cur .table .0))) (lent-climbs N (cur .table .0) (cur .rows) f (g .there))

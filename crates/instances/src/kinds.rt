@@ -61,7 +61,7 @@ pub fn context_itself(l: LoopId, c: Context) -> Cursor
 }
 
 // Whether the spec has table t, and not as a repeat table.
-fn is_plain(job: &[u8], index: &[u32], t: TableId) -> bool
+fn is_plain(job: &[u8], index: &[u16], t: TableId) -> bool
     requires { ⌜ Ready (now job) (now index) ⌝ }
     ensures { λ b. ⌜ b ≡ plain (outlineAt (now (job .entry))) (t .0) ⌝ }
 {
@@ -87,7 +87,7 @@ fn row_of(c: Context, t: TableId) -> Found
 }
 
 // The row that the rows of table t hang on in context c, plus one; 0 where the table has no parent.
-fn above_in(job: &[u8], index: &[u32], t: TableId, c: Context) -> Number
+fn above_in(job: &[u8], index: &[u16], t: TableId, c: Context) -> Number
     requires { ⌜ Ready (now job) (now index) × Sound (outlineAt (now job)) (contextBy c) ⌝ }
     ensures { λ r. ⌜ numberOf r ≡ aboveIn (outlineAt (now (job .entry))) (t .0) (contextBy c) ⌝ }
 {
@@ -113,7 +113,7 @@ fn above_in(job: &[u8], index: &[u32], t: TableId, c: Context) -> Number
 // All rows of table t that hang on `above`.
 fn all_rows(
     job: &[u8],
-    index: &[u32],
+    index: &[u16],
     kind: u32,
     l: LoopId,
     t: TableId,
@@ -139,7 +139,7 @@ fn all_rows(
 }
 
 // Whether table t is its own parent.
-fn own_parent(job: &[u8], index: &[u32], t: TableId) -> bool
+fn own_parent(job: &[u8], index: &[u16], t: TableId) -> bool
     requires { ⌜ Ready (now job) (now index) ⌝ }
     ensures { λ b. ⌜ b ≡ is (tableParent (outlineAt (now (job .entry))) (t .0)) (t .0) ⌝ }
 {
@@ -155,7 +155,7 @@ fn own_parent(job: &[u8], index: &[u32], t: TableId) -> bool
 }
 
 // The same rows, looked for from the first of the context's run on. A table that is its own parent has another list in the run, and is gone through from its start.
-fn from_run(job: &[u8], index: &[u32], all: Cursor) -> Cursor
+fn from_run(job: &[u8], index: &[u16], all: Cursor) -> Cursor
     requires { ⌜ Ready (now job) (now index) ⌝ }
     ensures { λ r. ⌜ r ≡ fromRun (outlineAt (now (job .entry))) all ⌝ }
 {
@@ -183,7 +183,7 @@ fn from_run(job: &[u8], index: &[u32], all: Cursor) -> Cursor
 // The rows of table t in context c: an instance in each (kind 2), or in each run of them (kind 3).
 fn listed(
     job: &[u8],
-    index: &[u32],
+    index: &[u16],
     nest: &[u32],
     kind: u32,
     l: LoopId,
@@ -211,7 +211,7 @@ fn listed(
 }
 
 // An `Inside` loop: the context itself, where it has a row of table t and the loop is shown there.
-fn inside_itself(job: &[u8], index: &[u32], l: LoopId, t: TableId, c: Context) -> Cursor
+fn inside_itself(job: &[u8], index: &[u16], l: LoopId, t: TableId, c: Context) -> Cursor
     requires { ⌜ Ready (now job) (now index) × (l .0 < 32) ⌝ }
     ensures { λ r. ⌜ r ≡ rowless (once (shownIn (outlineAt (now (job .entry))) (l .0) (t .0) (contextBy c))) l c ⌝ }
 {
@@ -247,7 +247,7 @@ pub fn by_children(kind: Instances) -> bool
 // The instances of a loop of another kind.
 pub fn by_kind(
     job: &[u8],
-    index: &[u32],
+    index: &[u16],
     nest: &[u32],
     kind: Instances,
     l: LoopId,

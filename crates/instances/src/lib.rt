@@ -69,7 +69,7 @@ pub fn context_in(cur: Cursor, at: Next) -> Context
 }
 
 // The next of the instances still to come.
-pub fn next_instance(job: &[u8], index: &[u32], nest: &[u32], cur: Cursor) -> Next
+pub fn next_instance(job: &[u8], index: &[u16], nest: &[u32], cur: Cursor) -> Next
     requires { ⌜ Nested (now job) (now index) (now nest) × Going (outlineAt (now job)) (now nest) cur ⌝ }
     ensures { λ r. ⌜ Came (outlineAt (now (job .entry))) (now (nest .entry)) cur r ⌝ }
 {
@@ -93,7 +93,7 @@ pub fn next_instance(job: &[u8], index: &[u32], nest: &[u32], cur: Cursor) -> Ne
 }
 
 // Whether loop l has an instance in context c, looking `height` levels down: an `Implied` loop has one where a child has.
-fn has_instance(job: &[u8], index: &[u32], nest: &[u32], l: LoopId, c: Context, height: u32) -> bool
+fn has_instance(job: &[u8], index: &[u16], nest: &[u32], l: LoopId, c: Context, height: u32) -> bool
     requires { ⌜ Nested (now job) (now index) (now nest) × Sound (outlineAt (now job)) (contextBy c) × (l .0 < 32) ⌝ }
     ensures { λ b. ⌜ b ≡ not (is-empty (instances (outlineAt (now (job .entry))) height (l .0) (contextBy c))) ⌝ }
 {
@@ -123,7 +123,7 @@ fn has_instance(job: &[u8], index: &[u32], nest: &[u32], l: LoopId, c: Context, 
 // The instances of loop l in context c, looking `height` levels down.
 pub fn instances(
     job: &[u8],
-    index: &[u32],
+    index: &[u16],
     nest: &[u32],
     l: LoopId,
     c: Context,

@@ -13,7 +13,7 @@ use due::same_group;
 use spec::ids::RowId;
 
 // How far the run of the row `head` goes that the cursor stands in.
-fn run_end(job: &[u8], index: &[u32], nest: &[u32], cur: Cursor, head: RowId) -> RowAhead
+fn run_end(job: &[u8], index: &[u16], nest: &[u32], cur: Cursor, head: RowId) -> RowAhead
     requires { ⌜ Ready (now job) (now index) × Inside (now nest) cur × (cur .l .0 < 32) ⌝ }
     ensures { λ r. ⌜ RunEnds (outlineAt (now (job .entry))) (now (nest .entry)) cur (head .0) r ⌝ }
 {
@@ -50,7 +50,7 @@ fn run_end(job: &[u8], index: &[u32], nest: &[u32], cur: Cursor, head: RowId) ->
 }
 
 // The next instance of a `Groups` loop. `seen` rows of the parent's list stand before the first of the run.
-pub fn next_piece(job: &[u8], index: &[u32], nest: &[u32], cur: Cursor) -> Next
+pub fn next_piece(job: &[u8], index: &[u16], nest: &[u32], cur: Cursor) -> Next
     requires { ⌜ Ready (now job) (now index) × Going (outlineAt (now job)) (now nest) cur × (3 ≤ cur .kind) ⌝ }
     ensures { λ r. ⌜ Came (outlineAt (now (job .entry))) (now (nest .entry)) cur r ⌝ }
 {

@@ -12,6 +12,7 @@ ghost use Rattle.instances.specs.Cursor.{Inside, Going};
 ghost use Rattle.instances.specs.Stretch.{Same, Reached};
 use crate::Cursor;
 use nest::order::first_at;
+use nest::order::rises;
 
 // Where the rows climb: a place behind `from` from which on none hangs on a row before `above` less one, tried 1, 2, 4 rows on and so forth.
 fn far_enough(nest: &[u32], base: usize, from: usize, rows: usize, above: u32) -> usize
@@ -54,18 +55,15 @@ fn stretch(nest: &[u32], cur: Cursor) -> Cursor
 }
 
 // The same instances still to come, of fewer rows where the table's rows hang on rising rows.
-pub fn narrowed(job: &[u8], index: &[u32], nest: &[u32], cur: Cursor) -> Cursor
+pub fn narrowed(job: &[u8], index: &[u16], nest: &[u32], cur: Cursor) -> Cursor
     requires { ⌜ Nested (now job) (now index) (now nest) × Going (outlineAt (now job)) (now nest) cur × (cur .base ≡ rowsBefore (jobOf (now job) .tables) (cur .table .0)) ⌝ }
     ensures { λ r. ⌜ Same (outlineAt (now (job .entry))) (now (nest .entry)) cur r ⌝ }
 {
-    let i = 12288 + cur.table.0 as usize;
     if cur.above == 0 {
         return cur;
     }
-    if i < nest.len() {
-        if nest[i] == 1 {
-            return stretch(nest, cur);
-        }
+    if rises(nest, cur.table) {
+        return stretch(nest, cur);
     }
     cur
 }

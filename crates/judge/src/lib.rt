@@ -36,7 +36,7 @@ fn both(x: bool, y: bool) -> bool
 }
 
 // The five conditions, of a job that passed. The fifth asks for the second's entries.
-fn fits(job: &[u8], index: &[u32]) -> bool
+fn fits(job: &[u8], index: &[u16]) -> bool
     requires { ⌜ Ready (now job) (now index) ⌝ }
     ensures { λ r. ⌜ Decides r (CompletePlan (jobOf (now (job .entry)))) ⌝ }
 {
@@ -56,7 +56,7 @@ fn judged(job: &[u8]) -> Plan
     requires { ⌜ refusalOf (now job) ≡ 0 ⌝ }
     ensures { λ a. ⌜ Judged (now (job .entry)) a ⌝ }
 {
-    let mut index = [0u32; 10752];
+    let mut index = [0u16; 10752];
     fill_index(job, &mut index);
     let complete = fits(job, &index);
     if complete {

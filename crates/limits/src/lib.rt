@@ -1,5 +1,7 @@
 // 3: a limit is passed. Each function tells whether whatever stands at a place passes one.
 ghost use mathlib.Core.Path.{_≡_};
+ghost use lib.ListN.{length};
+ghost use Prim.Native.Nat.{_≤_};
 ghost use Rattle.codec.specs.Codec.{_⊗_, listC};
 ghost use Rattle.codec.specs.Forms.{bytesC, numC, optC};
 ghost use Rattle.codec.specs.Limits.{anyOf};
@@ -27,12 +29,14 @@ pub struct Parts {
 // ---- spec
 
 pub fn large_at(b: &[u8], at: usize, end: u32) -> bool
+    requires { ⌜ end ≤ length (now b) ⌝ }
     ensures { λ r. ⌜ Says numC (now (b .entry)) end at large r ⌝ }
 {
     255 < codec::count_at(b, at, end)
 }
 
 pub fn opt_large_at(b: &[u8], at: usize, end: u32) -> bool
+    requires { ⌜ end ≤ length (now b) ⌝ }
     ensures { λ r. ⌜ Says (optC numC) (now (b .entry)) end at (ifSome large) r ⌝ }
 {
     if codec::tag_at(b, at, end) == 1 {
@@ -43,6 +47,7 @@ pub fn opt_large_at(b: &[u8], at: usize, end: u32) -> bool
 }
 
 pub fn larges_at(b: &[u8], at: usize, end: u32) -> bool
+    requires { ⌜ end ≤ length (now b) ⌝ }
     ensures { λ r. ⌜ Says (listC numC) (now (b .entry)) end at (anyOf large) r ⌝ }
 {
     let mut left = codec::count_at(b, at, end);
@@ -58,6 +63,7 @@ pub fn larges_at(b: &[u8], at: usize, end: u32) -> bool
 }
 
 pub fn control_over(b: &[u8], at: usize, end: u32) -> bool
+    requires { ⌜ end ≤ length (now b) ⌝ }
     ensures { λ r. ⌜ Says controlC (now (b .entry)) end at overControl r ⌝ }
 {
     let closer = codec::le_at(b, 4, at, end);
@@ -69,6 +75,7 @@ pub fn control_over(b: &[u8], at: usize, end: u32) -> bool
 }
 
 pub fn opt_control_over(b: &[u8], at: usize, end: u32) -> bool
+    requires { ⌜ end ≤ length (now b) ⌝ }
     ensures { λ r. ⌜ Says (optC controlC) (now (b .entry)) end at (ifSome overControl) r ⌝ }
 {
     if codec::tag_at(b, at, end) == 1 {
@@ -79,6 +86,7 @@ pub fn opt_control_over(b: &[u8], at: usize, end: u32) -> bool
 }
 
 pub fn loop_over(b: &[u8], at: usize, end: u32) -> Told
+    requires { ⌜ end ≤ length (now b) ⌝ }
     ensures { λ r. ⌜ Passes loopC (now (b .entry)) end at overLoop (r .found) (r .next) ⌝ }
 {
     let parent = codec::opt_num_at(b, at, end);
@@ -98,6 +106,7 @@ pub fn loop_over(b: &[u8], at: usize, end: u32) -> Told
 }
 
 pub fn loops_over(b: &[u8], at: usize, end: u32) -> Told
+    requires { ⌜ end ≤ length (now b) ⌝ }
     ensures { λ r. ⌜ Passes (listC loopC) (now (b .entry)) end at (anyOf overLoop) (r .found) (r .next) ⌝ }
 {
     let mut left = codec::count_at(b, at, end);
@@ -118,6 +127,7 @@ pub fn loops_over(b: &[u8], at: usize, end: u32) -> Told
 
 // A component and its number.
 pub fn component_over(b: &[u8], at: usize, end: u32) -> Told
+    requires { ⌜ end ≤ length (now b) ⌝ }
     ensures { λ r. ⌜ Passes (numC ⊗ componentC) (now (b .entry)) end at overComponent (r .found) (r .next) ⌝ }
 {
     let value = codec::le_at(b, 4, at, end);
@@ -135,6 +145,7 @@ pub fn component_over(b: &[u8], at: usize, end: u32) -> Told
 }
 
 pub fn components_over(b: &[u8], at: usize, end: u32) -> Told
+    requires { ⌜ end ≤ length (now b) ⌝ }
     ensures { λ r. ⌜ Passes (listC (numC ⊗ componentC)) (now (b .entry)) end at (anyOf overComponent) (r .found) (r .next) ⌝ }
 {
     let mut left = codec::count_at(b, at, end);
@@ -155,6 +166,7 @@ pub fn components_over(b: &[u8], at: usize, end: u32) -> Told
 
 // An element and its number.
 pub fn element_over(b: &[u8], at: usize, end: u32) -> Told
+    requires { ⌜ end ≤ length (now b) ⌝ }
     ensures { λ r. ⌜ Passes (numC ⊗ elementC) (now (b .entry)) end at overElement (r .found) (r .next) ⌝ }
 {
     let value = codec::le_at(b, 4, at, end);
@@ -173,6 +185,7 @@ pub fn element_over(b: &[u8], at: usize, end: u32) -> Told
 }
 
 pub fn elements_over(b: &[u8], at: usize, end: u32) -> Told
+    requires { ⌜ end ≤ length (now b) ⌝ }
     ensures { λ r. ⌜ Passes (listC (numC ⊗ elementC)) (now (b .entry)) end at (anyOf overElement) (r .found) (r .next) ⌝ }
 {
     let mut left = codec::count_at(b, at, end);
@@ -193,6 +206,7 @@ pub fn elements_over(b: &[u8], at: usize, end: u32) -> Told
 
 // A segment and its identifier.
 pub fn segment_over(b: &[u8], at: usize, end: u32) -> Told
+    requires { ⌜ end ≤ length (now b) ⌝ }
     ensures { λ r. ⌜ Passes (bytesC ⊗ segmentC) (now (b .entry)) end at overSegment (r .found) (r .next) ⌝ }
 {
     let value = codec::bytes_at(b, at, end);
@@ -200,6 +214,7 @@ pub fn segment_over(b: &[u8], at: usize, end: u32) -> Told
 }
 
 pub fn segments_over(b: &[u8], at: usize, end: u32) -> Told
+    requires { ⌜ end ≤ length (now b) ⌝ }
     ensures { λ r. ⌜ Passes (listC (bytesC ⊗ segmentC)) (now (b .entry)) end at (anyOf overSegment) (r .found) (r .next) ⌝ }
 {
     let mut left = codec::count_at(b, at, end);
@@ -219,6 +234,7 @@ pub fn segments_over(b: &[u8], at: usize, end: u32) -> Told
 }
 
 pub fn step_over(b: &[u8], at: usize, end: u32) -> bool
+    requires { ⌜ end ≤ length (now b) ⌝ }
     ensures { λ r. ⌜ Says repeatC (now (b .entry)) end at overStep r ⌝ }
 {
     let step = codec::le_at(b, 4, at, end);
@@ -226,6 +242,7 @@ pub fn step_over(b: &[u8], at: usize, end: u32) -> bool
 }
 
 pub fn opt_step_over(b: &[u8], at: usize, end: u32) -> bool
+    requires { ⌜ end ≤ length (now b) ⌝ }
     ensures { λ r. ⌜ Says (optC repeatC) (now (b .entry)) end at (ifSome overStep) r ⌝ }
 {
     if codec::tag_at(b, at, end) == 1 {
@@ -236,6 +253,7 @@ pub fn opt_step_over(b: &[u8], at: usize, end: u32) -> bool
 }
 
 pub fn table_over(b: &[u8], at: usize, end: u32) -> Told
+    requires { ⌜ end ≤ length (now b) ⌝ }
     ensures { λ r. ⌜ Passes tableC (now (b .entry)) end at overTable (r .found) (r .next) ⌝ }
 {
     let loops = codec::les_at(b, 4, at, end);
@@ -254,6 +272,7 @@ pub fn table_over(b: &[u8], at: usize, end: u32) -> Told
 }
 
 pub fn tables_over(b: &[u8], at: usize, end: u32) -> Told
+    requires { ⌜ end ≤ length (now b) ⌝ }
     ensures { λ r. ⌜ Passes (listC tableC) (now (b .entry)) end at (anyOf overTable) (r .found) (r .next) ⌝ }
 {
     let mut left = codec::count_at(b, at, end);
@@ -273,6 +292,7 @@ pub fn tables_over(b: &[u8], at: usize, end: u32) -> Told
 }
 
 pub fn version_over(b: &[u8], at: usize, end: u32) -> bool
+    requires { ⌜ end ≤ length (now b) ⌝ }
     ensures { λ r. ⌜ Says versionC (now (b .entry)) end at overVersion r ⌝ }
 {
     let segment = codec::bytes_at(b, at, end);
@@ -280,6 +300,7 @@ pub fn version_over(b: &[u8], at: usize, end: u32) -> bool
 }
 
 pub fn opt_version_over(b: &[u8], at: usize, end: u32) -> bool
+    requires { ⌜ end ≤ length (now b) ⌝ }
     ensures { λ r. ⌜ Says (optC versionC) (now (b .entry)) end at (ifSome overVersion) r ⌝ }
 {
     if codec::tag_at(b, at, end) == 1 {
@@ -290,6 +311,7 @@ pub fn opt_version_over(b: &[u8], at: usize, end: u32) -> bool
 }
 
 pub fn spec_over(b: &[u8], at: usize, end: u32) -> Parts
+    requires { ⌜ end ≤ length (now b) ⌝ }
     ensures { λ r. ⌜ ((v : Spec) → Is specC (now (b .entry)) end at v → (r .found ≡ overSpec v) × (r .found ≡ false → (r .roots ≡ specRoots (now (b .entry)) end at) × (r .tables ≡ specTables (now (b .entry)) end at))) ⌝ }
 {
     let roots = loops_over(b, at, end);
@@ -314,6 +336,7 @@ pub fn spec_over(b: &[u8], at: usize, end: u32) -> Parts
 // ---- plan and layout
 
 pub fn element_plan_over(b: &[u8], at: usize, end: u32) -> Told
+    requires { ⌜ end ≤ length (now b) ⌝ }
     ensures { λ r. ⌜ Passes elementPlanC (now (b .entry)) end at overElementPlan (r .found) (r .next) ⌝ }
 {
     let element = codec::le_at(b, 4, at, end);
@@ -329,6 +352,7 @@ pub fn element_plan_over(b: &[u8], at: usize, end: u32) -> Told
 }
 
 pub fn element_plans_over(b: &[u8], at: usize, end: u32) -> Told
+    requires { ⌜ end ≤ length (now b) ⌝ }
     ensures { λ r. ⌜ Passes (listC elementPlanC) (now (b .entry)) end at (anyOf overElementPlan) (r .found) (r .next) ⌝ }
 {
     let mut left = codec::count_at(b, at, end);
@@ -348,6 +372,7 @@ pub fn element_plans_over(b: &[u8], at: usize, end: u32) -> Told
 }
 
 pub fn segment_plan_over(b: &[u8], at: usize, end: u32) -> Told
+    requires { ⌜ end ≤ length (now b) ⌝ }
     ensures { λ r. ⌜ Passes segmentPlanC (now (b .entry)) end at overSegmentPlan (r .found) (r .next) ⌝ }
 {
     let occurrence = codec::le_at(b, 4, at, end);
@@ -356,6 +381,7 @@ pub fn segment_plan_over(b: &[u8], at: usize, end: u32) -> Told
 }
 
 pub fn segment_plans_over(b: &[u8], at: usize, end: u32) -> Told
+    requires { ⌜ end ≤ length (now b) ⌝ }
     ensures { λ r. ⌜ Passes (listC segmentPlanC) (now (b .entry)) end at (anyOf overSegmentPlan) (r .found) (r .next) ⌝ }
 {
     let mut left = codec::count_at(b, at, end);
@@ -375,6 +401,7 @@ pub fn segment_plans_over(b: &[u8], at: usize, end: u32) -> Told
 }
 
 pub fn loop_plan_over(b: &[u8], at: usize, end: u32) -> Told
+    requires { ⌜ end ≤ length (now b) ⌝ }
     ensures { λ r. ⌜ Passes loopPlanC (now (b .entry)) end at overLoopPlan (r .found) (r .next) ⌝ }
 {
     let instances = format::instances_at(b, at, end);
@@ -388,6 +415,7 @@ pub fn loop_plan_over(b: &[u8], at: usize, end: u32) -> Told
 }
 
 pub fn plan_over(b: &[u8], at: usize, end: u32) -> Told
+    requires { ⌜ end ≤ length (now b) ⌝ }
     ensures { λ r. ⌜ Passes (listC loopPlanC) (now (b .entry)) end at (anyOf overLoopPlan) (r .found) (r .next) ⌝ }
 {
     let mut left = codec::count_at(b, at, end);
@@ -408,6 +436,7 @@ pub fn plan_over(b: &[u8], at: usize, end: u32) -> Told
 
 // The capacities.
 pub fn layout_over(b: &[u8], at: usize, end: u32) -> bool
+    requires { ⌜ end ≤ length (now b) ⌝ }
     ensures { λ r. ⌜ Says layoutC (now (b .entry)) end at overLayout r ⌝ }
 {
     let order = format::orders_at(b, at, end);
@@ -420,6 +449,7 @@ pub fn layout_over(b: &[u8], at: usize, end: u32) -> bool
 // ---- data
 
 pub fn table_data_over(b: &[u8], at: usize, end: u32) -> Told
+    requires { ⌜ end ≤ length (now b) ⌝ }
     ensures { λ r. ⌜ Passes tableDataC (now (b .entry)) end at overTableData (r .found) (r .next) ⌝ }
 {
     let rows = codec::le_at(b, 4, at, end);
@@ -436,6 +466,7 @@ pub fn table_data_over(b: &[u8], at: usize, end: u32) -> Told
 
 // Each table, and the rows of all together.
 pub fn table_datas_over(b: &[u8], at: usize, end: u32) -> bool
+    requires { ⌜ end ≤ length (now b) ⌝ }
     ensures { λ r. ⌜ Says (listC tableDataC) (now (b .entry)) end at overTables r ⌝ }
 {
     let mut left = codec::count_at(b, at, end);
@@ -457,6 +488,7 @@ pub fn table_datas_over(b: &[u8], at: usize, end: u32) -> bool
 }
 
 pub fn data_over(b: &[u8], at: usize, end: u32) -> bool
+    requires { ⌜ end ≤ length (now b) ⌝ }
     ensures { λ r. ⌜ Says (listC tableDataC) (now (b .entry)) end at overData r ⌝ }
 {
     let x = 16 < codec::count_at(b, at, end);

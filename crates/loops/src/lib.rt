@@ -23,7 +23,7 @@ ghost use Rattle.loops.specs.Parts.{hit, memberIn, repeatsIn, againIn, m
 
 // A child whose parent is not i.
 pub fn stranger_at(b: &[u8], at: usize, end: u32, loops: usize, places: &[usize], i: usize) -> bool
-    requires { ⌜ Placed (now b) end loops (now places) ⌝ }
+    requires { ⌜ Placed (now b) end loops (now places) × (end ≤ length (now b)) ⌝ }
     ensures { λ r. ⌜ ((ls : List Loop) → Is (listC loopC) (now (b .entry)) end loops ls → Says numC (now (b .entry)) end at (notParent ls i) r) ⌝ }
 {
     let c = codec::count_at(b, at, end);
@@ -31,7 +31,7 @@ pub fn stranger_at(b: &[u8], at: usize, end: u32, loops: usize, places: &[usize]
 }
 
 pub fn strangers_at(b: &[u8], at: usize, end: u32, loops: usize, places: &[usize], i: usize) -> bool
-    requires { ⌜ Placed (now b) end loops (now places) ⌝ }
+    requires { ⌜ Placed (now b) end loops (now places) × (end ≤ length (now b)) ⌝ }
     ensures { λ r. ⌜ ((ls : List Loop) → Is (listC loopC) (now (b .entry)) end loops ls → Says (listC numC) (now (b .entry)) end at (anyOf (notParent ls i)) r) ⌝ }
 {
     let mut left = codec::count_at(b, at, end);
@@ -48,7 +48,7 @@ pub fn strangers_at(b: &[u8], at: usize, end: u32, loops: usize, places: &[usize
 
 // A parent that has no child i.
 pub fn unlisted_at(b: &[u8], at: usize, end: u32, loops: usize, places: &[usize], i: usize) -> bool
-    requires { ⌜ Placed (now b) end loops (now places) ⌝ }
+    requires { ⌜ Placed (now b) end loops (now places) × (end ≤ length (now b)) ⌝ }
     ensures { λ r. ⌜ ((ls : List Loop) → Is (listC loopC) (now (b .entry)) end loops ls → Says numC (now (b .entry)) end at (notChild ls i) r) ⌝ }
 {
     let p = codec::count_at(b, at, end);
@@ -63,7 +63,7 @@ pub fn opt_unlisted_at(
     places: &[usize],
     i: usize,
 ) -> bool
-    requires { ⌜ Placed (now b) end loops (now places) ⌝ }
+    requires { ⌜ Placed (now b) end loops (now places) × (end ≤ length (now b)) ⌝ }
     ensures { λ r. ⌜ ((ls : List Loop) → Is (listC loopC) (now (b .entry)) end loops ls → Says (optC numC) (now (b .entry)) end at (ifSome (notChild ls i)) r) ⌝ }
 {
     if codec::tag_at(b, at, end) == 1 {
@@ -75,7 +75,7 @@ pub fn opt_unlisted_at(
 
 // A loop's children repeat. Asked of all loops first, so that no list of children that is looked through is long.
 pub fn loops_repeat(b: &[u8], at: usize, end: u32, places: &[usize]) -> bool
-    requires { ⌜ Placed (now b) end at (now places) ⌝ }
+    requires { ⌜ Placed (now b) end at (now places) × (end ≤ length (now b)) ⌝ }
     ensures { λ r. ⌜ Says (listC loopC) (now (b .entry)) end at (anyOf repeatsBelow) r ⌝ }
 {
     let n = codec::count_at(b, at, end);
@@ -100,7 +100,7 @@ pub fn disagrees_at(
     places: &[usize],
     i: usize,
 ) -> bool
-    requires { ⌜ Placed (now b) end loops (now places) × (children ≡ loopChildren (now b) end at) ⌝ }
+    requires { ⌜ Placed (now b) end loops (now places) × (children ≡ loopChildren (now b) end at) × (end ≤ length (now b)) ⌝ }
     ensures { λ r. ⌜ ((ls : List Loop) → Is (listC loopC) (now (b .entry)) end loops ls → Says loopC (now (b .entry)) end at (disagrees ls i) r) ⌝ }
 {
     if tree::repeats_at(b, children, end) {
@@ -112,7 +112,7 @@ pub fn disagrees_at(
 }
 
 pub fn disagreements(b: &[u8], at: usize, end: u32, places: &[usize]) -> bool
-    requires { ⌜ Placed (now b) end at (now places) ⌝ }
+    requires { ⌜ Placed (now b) end at (now places) × (end ≤ length (now b)) ⌝ }
     ensures { λ r. ⌜ ((ls : List Loop) → Is (listC loopC) (now (b .entry)) end at ls → Says (listC loopC) (now (b .entry)) end at (anyFrom (disagrees ls) 0) r) ⌝ }
 {
     let n = codec::count_at(b, at, end);
@@ -131,7 +131,7 @@ pub fn disagreements(b: &[u8], at: usize, end: u32, places: &[usize]) -> bool
 // ---- rings and roots
 
 pub fn ringed_at(b: &[u8], at: usize, end: u32, places: &[usize], i: usize) -> bool
-    requires { ⌜ Placed (now b) end at (now places) ⌝ }
+    requires { ⌜ Placed (now b) end at (now places) × (end ≤ length (now b)) ⌝ }
     ensures { λ r. ⌜ ((ls : List Loop) → Is (listC loopC) (now (b .entry)) end at ls → (v : Loop) → r ≡ ringed ls i v) ⌝ }
 {
     let mut left = codec::count_at(b, at, end);
@@ -148,7 +148,7 @@ pub fn ringed_at(b: &[u8], at: usize, end: u32, places: &[usize], i: usize) -> b
 }
 
 pub fn rings(b: &[u8], at: usize, end: u32, places: &[usize]) -> bool
-    requires { ⌜ Placed (now b) end at (now places) ⌝ }
+    requires { ⌜ Placed (now b) end at (now places) × (end ≤ length (now b)) ⌝ }
     ensures { λ r. ⌜ ((ls : List Loop) → Is (listC loopC) (now (b .entry)) end at ls → Says (listC loopC) (now (b .entry)) end at (anyFrom (ringed ls) 0) r) ⌝ }
 {
     let n = codec::count_at(b, at, end);
@@ -163,6 +163,7 @@ pub fn rings(b: &[u8], at: usize, end: u32, places: &[usize]) -> bool
 }
 
 pub fn hit_at(b: &[u8], at: usize, end: u32, x: usize) -> usize
+    requires { ⌜ end ≤ length (now b) ⌝ }
     ensures { λ r. ⌜ Says numC (now (b .entry)) end at (hit x) r × (r < 2) ⌝ }
 {
     if tree::same_at(b, at, end, x) {
@@ -173,6 +174,7 @@ pub fn hit_at(b: &[u8], at: usize, end: u32, x: usize) -> usize
 
 // How often x is in a list of numbers.
 pub fn times_at(b: &[u8], at: usize, end: u32, x: usize) -> usize
+    requires { ⌜ end ≤ length (now b) ⌝ }
     ensures { λ r. ⌜ Says (listC numC) (now (b .entry)) end at (timesIn x) r ⌝ }
 {
     let mut left = codec::count_at(b, at, end);
@@ -187,6 +189,7 @@ pub fn times_at(b: &[u8], at: usize, end: u32, x: usize) -> usize
 }
 
 pub fn misrooted_at(b: &[u8], at: usize, end: u32, roots: usize, i: usize) -> bool
+    requires { ⌜ end ≤ length (now b) ⌝ }
     ensures { λ r. ⌜ ((rs : List ℕ) → Is (listC numC) (now (b .entry)) end roots rs → Says loopC (now (b .entry)) end at (misrooted rs i) r) ⌝ }
 {
     let t = times_at(b, roots, end, i);
@@ -197,7 +200,7 @@ pub fn misrooted_at(b: &[u8], at: usize, end: u32, roots: usize, i: usize) -> bo
 }
 
 pub fn misroots(b: &[u8], at: usize, end: u32, roots: usize, places: &[usize]) -> bool
-    requires { ⌜ Placed (now b) end at (now places) ⌝ }
+    requires { ⌜ Placed (now b) end at (now places) × (end ≤ length (now b)) ⌝ }
     ensures { λ r. ⌜ ((rs : List ℕ) → Is (listC numC) (now (b .entry)) end roots rs → Says (listC loopC) (now (b .entry)) end at (anyFrom (misrooted rs) 0) r) ⌝ }
 {
     let n = codec::count_at(b, at, end);
@@ -224,7 +227,7 @@ pub fn misplaced_at(
     places: &[usize],
     k: usize,
 ) -> bool
-    requires { ⌜ Placed (now b) bound loops (now places) ⌝ }
+    requires { ⌜ Placed (now b) bound loops (now places) × (end ≤ length (now b)) × (bound ≤ length (now b)) ⌝ }
     ensures { λ r. ⌜ ((ls : List Loop) → Is (listC loopC) (now (b .entry)) bound loops ls → Says numC (now (b .entry)) end at (λ l. notChild ls l k) r) ⌝ }
 {
     let l = codec::count_at(b, at, end);
@@ -240,7 +243,7 @@ pub fn item_misplaced(
     places: &[usize],
     k: usize,
 ) -> bool
-    requires { ⌜ Placed (now b) bound loops (now places) ⌝ }
+    requires { ⌜ Placed (now b) bound loops (now places) × (end ≤ length (now b)) × (bound ≤ length (now b)) ⌝ }
     ensures { λ r. ⌜ ((ls : List Loop) → Is (listC loopC) (now (b .entry)) bound loops ls → Says itemC (now (b .entry)) end at (onLoop (λ l. notChild ls l k)) r) ⌝ }
 {
     if codec::tag_at(b, at, end) == 1 {
@@ -259,7 +262,7 @@ pub fn items_misplaced(
     places: &[usize],
     k: usize,
 ) -> bool
-    requires { ⌜ Placed (now b) bound loops (now places) ⌝ }
+    requires { ⌜ Placed (now b) bound loops (now places) × (end ≤ length (now b)) × (bound ≤ length (now b)) ⌝ }
     ensures { λ r. ⌜ ((ls : List Loop) → Is (listC loopC) (now (b .entry)) bound loops ls → Says (listC itemC) (now (b .entry)) end at (misplacedIn ls k) r) ⌝ }
 {
     let mut left = codec::count_at(b, at, end);
@@ -275,6 +278,7 @@ pub fn items_misplaced(
 }
 
 pub fn item_same_at(b: &[u8], at: usize, end: u32, x: usize) -> bool
+    requires { ⌜ end ≤ length (now b) ⌝ }
     ensures { λ r. ⌜ Says itemC (now (b .entry)) end at (onLoop (eqb x)) r ⌝ }
 {
     if codec::tag_at(b, at, end) == 1 {
@@ -285,6 +289,7 @@ pub fn item_same_at(b: &[u8], at: usize, end: u32, x: usize) -> bool
 }
 
 pub fn item_member_behind(b: &[u8], at: usize, end: u32, rest: usize, x: usize) -> bool
+    requires { ⌜ end ≤ length (now b) ⌝ }
     ensures { λ r. ⌜ SaysRest itemC (now (b .entry)) end rest at (memberIn x) r ⌝ }
 {
     let mut left = rest;
@@ -301,6 +306,7 @@ pub fn item_member_behind(b: &[u8], at: usize, end: u32, rest: usize, x: usize) 
 
 // Whether the item at a place names a loop that one of the rest behind it, from next on, names too.
 pub fn item_again(b: &[u8], at: usize, end: u32, rest: usize, next: usize) -> bool
+    requires { ⌜ end ≤ length (now b) ⌝ }
     ensures { λ r. ⌜ SaysBefore itemC (now (b .entry)) end at rest next againIn r ⌝ }
 {
     if codec::tag_at(b, at, end) == 1 {
@@ -313,6 +319,7 @@ pub fn item_again(b: &[u8], at: usize, end: u32, rest: usize, next: usize) -> bo
 
 // Whether an order names a loop twice, by a search behind each item.
 pub fn order_searched(b: &[u8], at: usize, end: u32) -> bool
+    requires { ⌜ end ≤ length (now b) ⌝ }
     ensures { λ r. ⌜ Says (listC itemC) (now (b .entry)) end at repeatsIn r ⌝ }
 {
     let mut left = codec::count_at(b, at, end);
@@ -330,7 +337,7 @@ pub fn order_searched(b: &[u8], at: usize, end: u32) -> bool
 
 // Notes the loop that the item at a place names, behind k others.
 pub fn note_name(b: &[u8], at: usize, end: u32, names: &mut [usize], k: usize) -> usize
-    requires { ⌜ k < length (now names) ⌝ }
+    requires { ⌜ (k < length (now names)) × (end ≤ length (now b)) ⌝ }
     ensures { λ r. ⌜ (length (now (names .exit)) ≡ length (now (names .entry))) × ((r ≤ k + 1) × ((y : Item) → Is itemC (now (b .entry)) end at y → take r (now (names .exit)) ≡ take k (now (names .entry)) ++ loopsIn (y ∷ []))) ⌝ }
 {
     if codec::tag_at(b, at, end) == 1 {
@@ -343,6 +350,7 @@ pub fn note_name(b: &[u8], at: usize, end: u32, names: &mut [usize], k: usize) -
 
 // The loops that an order names, as far as there is room.
 pub fn note_names(b: &[u8], at: usize, end: u32, names: &mut [usize]) -> usize
+    requires { ⌜ end ≤ length (now b) ⌝ }
     ensures { λ r. ⌜ (length (now (names .exit)) ≡ length (now (names .entry))) × ((r ≤ length (now (names .exit))) × ((o : List Item) → Is (listC itemC) (now (b .entry)) end at o → Noted (loopsIn o) (now (names .exit)) r)) ⌝ }
 {
     let mut left = codec::count_at(b, at, end);
@@ -361,6 +369,7 @@ pub fn note_names(b: &[u8], at: usize, end: u32, names: &mut [usize]) -> usize
 
 // The same from the first 33 loops that it names, as `tree::repeats_at`.
 pub fn order_repeats(b: &[u8], at: usize, end: u32) -> bool
+    requires { ⌜ end ≤ length (now b) ⌝ }
     ensures { λ r. ⌜ Says (listC itemC) (now (b .entry)) end at repeatsIn r ⌝ }
 {
     if codec::count_at(b, at, end) < 2 {
@@ -386,7 +395,7 @@ pub fn misordered_at(
     places: &[usize],
     k: usize,
 ) -> bool
-    requires { ⌜ Placed (now b) bound loops (now places) ⌝ }
+    requires { ⌜ Placed (now b) bound loops (now places) × (end ≤ length (now b)) × (bound ≤ length (now b)) ⌝ }
     ensures { λ r. ⌜ ((ls : List Loop) → Is (listC loopC) (now (b .entry)) bound loops ls → Says (listC itemC) (now (b .entry)) end at (misordered ls k) r) ⌝ }
 {
     if order_repeats(b, at, end) {
@@ -396,7 +405,7 @@ pub fn misordered_at(
 }
 
 pub fn misorders(b: &[u8], at: usize, end: u32, loops: usize, bound: u32, places: &[usize]) -> bool
-    requires { ⌜ Placed (now b) bound loops (now places) ⌝ }
+    requires { ⌜ Placed (now b) bound loops (now places) × (end ≤ length (now b)) × (bound ≤ length (now b)) ⌝ }
     ensures { λ r. ⌜ ((ls : List Loop) → Is (listC loopC) (now (b .entry)) bound loops ls → Says (listC (listC itemC)) (now (b .entry)) end at (anyFrom (misordered ls) 0) r) ⌝ }
 {
     let mut left = codec::count_at(b, at, end);
@@ -416,7 +425,7 @@ pub fn misorders(b: &[u8], at: usize, end: u32, loops: usize, bound: u32, places
 // ---- the whole
 
 pub fn spec_tangled(b: &[u8], at: usize, end: u32, roots: usize, places: &[usize]) -> bool
-    requires { ⌜ Placed (now b) end at (now places) × (roots ≡ specRoots (now b) end at) ⌝ }
+    requires { ⌜ Placed (now b) end at (now places) × (roots ≡ specRoots (now b) end at) × (end ≤ length (now b)) ⌝ }
     ensures { λ r. ⌜ Says specC (now (b .entry)) end at tangledSpec r ⌝ }
 {
     if loops_repeat(b, at, end, places) {

@@ -1,5 +1,7 @@
 // 5: separators, identifiers, scales and texts. Each function tells whether whatever stands at a place is unfit.
 ghost use mathlib.Core.Path.{_≡_};
+ghost use lib.ListN.{length};
+ghost use Prim.Native.Nat.{_≤_};
 ghost use mathlib.Core.List.{[], _∷_};
 ghost use Rattle.codec.specs.Codec.{_⊗_, listC};
 ghost use Rattle.codec.specs.Forms.{byteC, bytesC, numC, optC};
@@ -46,6 +48,7 @@ pub fn is_textual(c: usize) -> bool
 
 // A byte that no identifier has.
 pub fn stray_at(b: &[u8], at: usize, end: u32) -> bool
+    requires { ⌜ end ≤ length (now b) ⌝ }
     ensures { λ r. ⌜ Says byteC (now (b .entry)) end at stray r ⌝ }
 {
     let c = codec::tag_at(b, at, end);
@@ -55,6 +58,7 @@ pub fn stray_at(b: &[u8], at: usize, end: u32) -> bool
 }
 
 pub fn strays_at(b: &[u8], at: usize, end: u32) -> bool
+    requires { ⌜ end ≤ length (now b) ⌝ }
     ensures { λ r. ⌜ Says (listC byteC) (now (b .entry)) end at (anyOf stray) r ⌝ }
 {
     let mut left = codec::count_at(b, at, end);
@@ -71,6 +75,7 @@ pub fn strays_at(b: &[u8], at: usize, end: u32) -> bool
 
 // Not 2 or 3 bytes of A to Z, 0 to 9.
 pub fn unnamed_at(b: &[u8], at: usize, end: u32) -> bool
+    requires { ⌜ end ≤ length (now b) ⌝ }
     ensures { λ r. ⌜ Says bytesC (now (b .entry)) end at unnamed r ⌝ }
 {
     let n = codec::count_at(b, at, end);
@@ -81,6 +86,7 @@ pub fn unnamed_at(b: &[u8], at: usize, end: u32) -> bool
 }
 
 pub fn names_unfit(b: &[u8], at: usize, end: u32) -> Told
+    requires { ⌜ end ≤ length (now b) ⌝ }
     ensures { λ r. ⌜ Passes (listC bytesC) (now (b .entry)) end at (anyOf unnamed) (r .found) (r .next) ⌝ }
 {
     let mut left = codec::count_at(b, at, end);
@@ -102,6 +108,7 @@ pub fn names_unfit(b: &[u8], at: usize, end: u32) -> Told
 }
 
 pub fn opt_unnamed_at(b: &[u8], at: usize, end: u32) -> bool
+    requires { ⌜ end ≤ length (now b) ⌝ }
     ensures { λ r. ⌜ Says (optC bytesC) (now (b .entry)) end at (ifSome unnamed) r ⌝ }
 {
     if codec::tag_at(b, at, end) == 1 {
@@ -112,6 +119,7 @@ pub fn opt_unnamed_at(b: &[u8], at: usize, end: u32) -> bool
 }
 
 pub fn high_at(b: &[u8], at: usize, end: u32) -> bool
+    requires { ⌜ end ≤ length (now b) ⌝ }
     ensures { λ r. ⌜ Says byteC (now (b .entry)) end at high r ⌝ }
 {
     127 < codec::tag_at(b, at, end)
@@ -119,6 +127,7 @@ pub fn high_at(b: &[u8], at: usize, end: u32) -> bool
 
 // Not ASCII.
 pub fn foreign_at(b: &[u8], at: usize, end: u32) -> bool
+    requires { ⌜ end ≤ length (now b) ⌝ }
     ensures { λ r. ⌜ Says bytesC (now (b .entry)) end at foreign r ⌝ }
 {
     let mut left = codec::count_at(b, at, end);
@@ -134,6 +143,7 @@ pub fn foreign_at(b: &[u8], at: usize, end: u32) -> bool
 }
 
 pub fn opt_foreign_at(b: &[u8], at: usize, end: u32) -> bool
+    requires { ⌜ end ≤ length (now b) ⌝ }
     ensures { λ r. ⌜ Says (optC bytesC) (now (b .entry)) end at (ifSome foreign) r ⌝ }
 {
     if codec::tag_at(b, at, end) == 1 {
@@ -144,6 +154,7 @@ pub fn opt_foreign_at(b: &[u8], at: usize, end: u32) -> bool
 }
 
 pub fn codes_unfit(b: &[u8], at: usize, end: u32) -> Told
+    requires { ⌜ end ≤ length (now b) ⌝ }
     ensures { λ r. ⌜ Passes (listC bytesC) (now (b .entry)) end at (anyOf foreign) (r .found) (r .next) ⌝ }
 {
     let mut left = codec::count_at(b, at, end);
@@ -167,6 +178,7 @@ pub fn codes_unfit(b: &[u8], at: usize, end: u32) -> Told
 // ---- spec
 
 pub fn loop_unfit(b: &[u8], at: usize, end: u32) -> Told
+    requires { ⌜ end ≤ length (now b) ⌝ }
     ensures { λ r. ⌜ Passes loopC (now (b .entry)) end at unfitLoop (r .found) (r .next) ⌝ }
 {
     let parent = codec::opt_num_at(b, at, end);
@@ -186,6 +198,7 @@ pub fn loop_unfit(b: &[u8], at: usize, end: u32) -> Told
 }
 
 pub fn loops_unfit(b: &[u8], at: usize, end: u32) -> Told
+    requires { ⌜ end ≤ length (now b) ⌝ }
     ensures { λ r. ⌜ Passes (listC loopC) (now (b .entry)) end at (anyOf unfitLoop) (r .found) (r .next) ⌝ }
 {
     let mut left = codec::count_at(b, at, end);
@@ -205,6 +218,7 @@ pub fn loops_unfit(b: &[u8], at: usize, end: u32) -> Told
 }
 
 pub fn component_unfit(b: &[u8], at: usize, end: u32) -> Told
+    requires { ⌜ end ≤ length (now b) ⌝ }
     ensures { λ r. ⌜ Passes (numC ⊗ componentC) (now (b .entry)) end at unfitComponent (r .found) (r .next) ⌝ }
 {
     let value = codec::le_at(b, 4, at, end);
@@ -215,6 +229,7 @@ pub fn component_unfit(b: &[u8], at: usize, end: u32) -> Told
 }
 
 pub fn components_unfit(b: &[u8], at: usize, end: u32) -> Told
+    requires { ⌜ end ≤ length (now b) ⌝ }
     ensures { λ r. ⌜ Passes (listC (numC ⊗ componentC)) (now (b .entry)) end at (anyOf unfitComponent) (r .found) (r .next) ⌝ }
 {
     let mut left = codec::count_at(b, at, end);
@@ -234,6 +249,7 @@ pub fn components_unfit(b: &[u8], at: usize, end: u32) -> Told
 }
 
 pub fn element_unfit(b: &[u8], at: usize, end: u32) -> Told
+    requires { ⌜ end ≤ length (now b) ⌝ }
     ensures { λ r. ⌜ Passes (numC ⊗ elementC) (now (b .entry)) end at unfitElement (r .found) (r .next) ⌝ }
 {
     let value = codec::le_at(b, 4, at, end);
@@ -250,6 +266,7 @@ pub fn element_unfit(b: &[u8], at: usize, end: u32) -> Told
 }
 
 pub fn elements_unfit(b: &[u8], at: usize, end: u32) -> Told
+    requires { ⌜ end ≤ length (now b) ⌝ }
     ensures { λ r. ⌜ Passes (listC (numC ⊗ elementC)) (now (b .entry)) end at (anyOf unfitElement) (r .found) (r .next) ⌝ }
 {
     let mut left = codec::count_at(b, at, end);
@@ -269,6 +286,7 @@ pub fn elements_unfit(b: &[u8], at: usize, end: u32) -> Told
 }
 
 pub fn segment_unfit(b: &[u8], at: usize, end: u32) -> Told
+    requires { ⌜ end ≤ length (now b) ⌝ }
     ensures { λ r. ⌜ Passes (bytesC ⊗ segmentC) (now (b .entry)) end at unfitSegment (r .found) (r .next) ⌝ }
 {
     let value = codec::bytes_at(b, at, end);
@@ -282,6 +300,7 @@ pub fn segment_unfit(b: &[u8], at: usize, end: u32) -> Told
 }
 
 pub fn segments_unfit(b: &[u8], at: usize, end: u32) -> Told
+    requires { ⌜ end ≤ length (now b) ⌝ }
     ensures { λ r. ⌜ Passes (listC (bytesC ⊗ segmentC)) (now (b .entry)) end at (anyOf unfitSegment) (r .found) (r .next) ⌝ }
 {
     let mut left = codec::count_at(b, at, end);
@@ -301,6 +320,7 @@ pub fn segments_unfit(b: &[u8], at: usize, end: u32) -> Told
 }
 
 pub fn version_unfit(b: &[u8], at: usize, end: u32) -> bool
+    requires { ⌜ end ≤ length (now b) ⌝ }
     ensures { λ r. ⌜ Says versionC (now (b .entry)) end at unfitVersion r ⌝ }
 {
     let segment = codec::bytes_at(b, at, end);
@@ -311,6 +331,7 @@ pub fn version_unfit(b: &[u8], at: usize, end: u32) -> bool
 }
 
 pub fn opt_version_unfit(b: &[u8], at: usize, end: u32) -> bool
+    requires { ⌜ end ≤ length (now b) ⌝ }
     ensures { λ r. ⌜ Says (optC versionC) (now (b .entry)) end at (ifSome unfitVersion) r ⌝ }
 {
     if codec::tag_at(b, at, end) == 1 {
@@ -321,6 +342,7 @@ pub fn opt_version_unfit(b: &[u8], at: usize, end: u32) -> bool
 }
 
 pub fn spec_unfit(b: &[u8], at: usize, end: u32) -> bool
+    requires { ⌜ end ≤ length (now b) ⌝ }
     ensures { λ r. ⌜ Says specC (now (b .entry)) end at unfitSpec r ⌝ }
 {
     let roots = loops_unfit(b, at, end);
@@ -363,6 +385,7 @@ pub fn four_marked(x: usize, y: usize, z: usize, w: usize) -> bool
 
 // The separators, the element's first.
 pub fn marks_unfit(b: &[u8], at: usize, end: u32) -> bool
+    requires { ⌜ end ≤ length (now b) ⌝ }
     ensures { λ r. ⌜ ((v : Envelope)
         → Is byteC (now (b .entry)) end at (v .element)
         → Is byteC (now (b .entry)) end (skip byteC (now (b .entry)) at end) (v .component)
@@ -385,6 +408,7 @@ pub fn marks_unfit(b: &[u8], at: usize, end: u32) -> bool
 }
 
 pub fn separators_unfit(b: &[u8], at: usize, end: u32) -> bool
+    requires { ⌜ end ≤ length (now b) ⌝ }
     ensures { λ r. ⌜ Says envelopeC (now (b .entry)) end at markedEnvelope r ⌝ }
 {
     let sender_qualifier = codec::bytes_at(b, at, end);
@@ -402,6 +426,7 @@ pub fn separators_unfit(b: &[u8], at: usize, end: u32) -> bool
 
 // The envelope's strings.
 pub fn strings_unfit(b: &[u8], at: usize, end: u32) -> bool
+    requires { ⌜ end ≤ length (now b) ⌝ }
     ensures { λ r. ⌜ Says envelopeC (now (b .entry)) end at foreignEnvelope r ⌝ }
 {
     let sender_qualifier = codec::bytes_at(b, at, end);
@@ -429,6 +454,7 @@ pub fn strings_unfit(b: &[u8], at: usize, end: u32) -> bool
 }
 
 pub fn envelope_unfit(b: &[u8], at: usize, end: u32) -> bool
+    requires { ⌜ end ≤ length (now b) ⌝ }
     ensures { λ r. ⌜ Says envelopeC (now (b .entry)) end at unfitEnvelope r ⌝ }
 {
     let x = separators_unfit(b, at, end);
@@ -440,6 +466,7 @@ pub fn envelope_unfit(b: &[u8], at: usize, end: u32) -> bool
 
 // A scale above 38.
 pub fn column_unfit(b: &[u8], at: usize, end: u32) -> bool
+    requires { ⌜ end ≤ length (now b) ⌝ }
     ensures { λ r. ⌜ Says columnC (now (b .entry)) end at unfitColumn r ⌝ }
 {
     let t = codec::tag_at(b, at, end);
@@ -456,6 +483,7 @@ pub fn column_unfit(b: &[u8], at: usize, end: u32) -> bool
 }
 
 pub fn opt_column_unfit(b: &[u8], at: usize, end: u32) -> bool
+    requires { ⌜ end ≤ length (now b) ⌝ }
     ensures { λ r. ⌜ Says (optC columnC) (now (b .entry)) end at (ifSome unfitColumn) r ⌝ }
 {
     if codec::tag_at(b, at, end) == 1 {
@@ -466,6 +494,7 @@ pub fn opt_column_unfit(b: &[u8], at: usize, end: u32) -> bool
 }
 
 pub fn columns_unfit(b: &[u8], at: usize, end: u32) -> Told
+    requires { ⌜ end ≤ length (now b) ⌝ }
     ensures { λ r. ⌜ Passes (listC (optC columnC)) (now (b .entry)) end at (anyOf (ifSome unfitColumn)) (r .found) (r .next) ⌝ }
 {
     let mut left = codec::count_at(b, at, end);
@@ -487,6 +516,7 @@ pub fn columns_unfit(b: &[u8], at: usize, end: u32) -> Told
 }
 
 pub fn reference_unfit(b: &[u8], at: usize, end: u32) -> bool
+    requires { ⌜ end ≤ length (now b) ⌝ }
     ensures { λ r. ⌜ Says (numC ⊗ optC columnC) (now (b .entry)) end at unfitReference r ⌝ }
 {
     let table = codec::le_at(b, 4, at, end);
@@ -494,6 +524,7 @@ pub fn reference_unfit(b: &[u8], at: usize, end: u32) -> bool
 }
 
 pub fn references_unfit(b: &[u8], at: usize, end: u32) -> Told
+    requires { ⌜ end ≤ length (now b) ⌝ }
     ensures { λ r. ⌜ Passes (listC (numC ⊗ optC columnC)) (now (b .entry)) end at (anyOf unfitReference) (r .found) (r .next) ⌝ }
 {
     let mut left = codec::count_at(b, at, end);
@@ -515,6 +546,7 @@ pub fn references_unfit(b: &[u8], at: usize, end: u32) -> Told
 }
 
 pub fn table_data_unfit(b: &[u8], at: usize, end: u32) -> Told
+    requires { ⌜ end ≤ length (now b) ⌝ }
     ensures { λ r. ⌜ Passes tableDataC (now (b .entry)) end at unfitTableData (r .found) (r .next) ⌝ }
 {
     let rows = codec::le_at(b, 4, at, end);
@@ -532,6 +564,7 @@ pub fn table_data_unfit(b: &[u8], at: usize, end: u32) -> Told
 }
 
 pub fn data_unfit(b: &[u8], at: usize, end: u32) -> Told
+    requires { ⌜ end ≤ length (now b) ⌝ }
     ensures { λ r. ⌜ Passes (listC tableDataC) (now (b .entry)) end at (anyOf unfitTableData) (r .found) (r .next) ⌝ }
 {
     let mut left = codec::count_at(b, at, end);

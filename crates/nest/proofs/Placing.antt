@@ -189,9 +189,9 @@ each-three g h [] = omega arith
 each-three g h (x ∷ xs) = length-append (g x) (each g xs) ∙ (let i = each-three g h xs in let k = h x in omega (arith, i, k))
 
 module _ (j : Job) where
-  pub room-for : (t r n first : ℕ) → rowsOfAll (j .tables) ≤ 4096 → first ≡ T.rowsBefore (j .tables) t → n ≡ (A.dataOf j t) .rows → r < n → first + r < 4096
+  pub room-for : (t r n first : ℕ) → first ≡ T.rowsBefore (j .tables) t → n ≡ (A.dataOf j t) .rows → r < n → first + r < rowsOfAll (j .tables)
   unfolding A.dataOf
-  room-for t r n first h e c k = let q : n ≡ (getD (j .tables) t noTableData) .rows = c in let w = rows-room (j .tables) t in omega (arith, q, w, e, h, k)
+  room-for t r n first e c k = let q : n ≡ (getD (j .tables) t noTableData) .rows = c in let w = rows-room (j .tables) t in omega (arith, q, w, e, k)
 
   pub table-length : (t : ℕ) → length (tableArray (outlineOf j) t) ≡ (A.dataOf j t) .rows * 3
   table-length t = ap length (table-array-all (outlineOf j) t) ∙ each-three (nestRecord (outlineOf j) t) (record-three (outlineOf j) t) (upTo 0 (rowCount (outlineOf j) t)) ∙ ap (λ k. k * 3) (length-from (rowCount (outlineOf j) t - 0) 0 ∙ go)

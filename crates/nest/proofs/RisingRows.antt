@@ -21,10 +21,9 @@ use Rattle.nest.specs.Found.{nestAt, ArrayIs}
 use Rattle.nest.specs.OfJob.{outlineOf}
 use Rattle.nest.specs.Rising.{aboveOf, fallsAt, falls, risingFlag, risingFlags, Climbs, Parted}
 use Rattle.nest.proofs.Bridge.{rows-is}
-use Rattle.nest.proofs.NestLaws.{array-length}
 use Rattle.nest.proofs.Scan.{some-yes, some-no, some-end}
 use Rattle.nest.proofs.Sizes.{rows-past}
-use Rattle.nest.proofs.Stored.{number-of, numbers-within, rows-of-all}
+use Rattle.nest.proofs.Stored.{number-of, numbers-within, array-rows}
 
 -- ---- one table: what is left from row k on
 
@@ -39,7 +38,7 @@ module _ (j : Job) (n : List ℕ) (w : ArrayIs (outlineOf j) n) (t base rows k :
   there : k < rowCount (outlineOf j) t
   there = omega (arith, h, c, rows-is j t)
 
-  pub place-within : rowsOfAll (j .tables) ≤ 4096 → (base + k) * 3 + 2 < length n
+  pub place-within : (base + k) * 3 + 2 < length n
   place-within = numbers-within j n w t k base e there
 
   module _ (i before : ℕ) (p : i ≡ (base + k) * 3) (q : before ≡ i - 3) (low : 1 ≤ k) where
@@ -69,13 +68,10 @@ unfolding risingFlags
 flags-all o = refl
 
 -- the numbers of rows stand before the flags
-pub array-short : (j : Job) → rowsOfAll (j .tables) ≤ 4096 → length (nestArray (outlineOf j)) ≤ 12288
-array-short j h = omega (arith, h, array-length (outlineOf j), rows-of-all j)
-
-pub array-kept : (j : Job) (d d₁ : List ℕ) (t x : ℕ) → rowsOfAll (j .tables) ≤ 4096 → ArrayIs (outlineOf j) d → d₁ ≡ sets d (12288 + t) (x ∷ []) → ArrayIs (outlineOf j) d₁
-array-kept j d d₁ t x h w e = record {
-  room = omega (arith, w .room, ap length e, length-sets d (12288 + t) (x ∷ []));
-  numbers = λ i k. ap (λ xs. getD xs i 0) e ∙ getD-sets-out (x ∷ []) d (12288 + t) i (omega (arith, k, array-short j h)) ∙ w .numbers i k;
+pub array-kept : (j : Job) (d d₁ : List ℕ) (at x : ℕ) → rowsOfAll (j .tables) * 3 ≤ at → ArrayIs (outlineOf j) d → d₁ ≡ sets d at (x ∷ []) → ArrayIs (outlineOf j) d₁
+array-kept j d d₁ at x h w e = record {
+  room = omega (arith, w .room, ap length e, length-sets d at (x ∷ []));
+  numbers = λ i k. ap (λ xs. getD xs i 0) e ∙ getD-sets-out (x ∷ []) d at i (omega (arith, k, array-rows j)) ∙ w .numbers i k;
 }
 
 pub flagged : (o : Outline) (t : ℕ) (d d₁ : List ℕ) (at : ℕ) (down : Bool) → down ≡ falls o t → d₁ ≡ sets d at (once (not down) ∷ []) → d₁ ≡ sets d at (risingFlag o t)
@@ -96,9 +92,9 @@ pub flags-length : (o : Outline) → length (risingFlags o) ≡ length (o .rowCo
 unfolding risingFlags
 flags-length o = ones-length (λ t. once (not (falls o t))) (length (o .rowCounts) - 0) 0 ∙ omega arith
 
-pub flag-right : (o : Outline) (d n : List ℕ) → n ≡ sets d 12288 (risingFlags o) → 12288 + length (o .rowCounts) ≤ length d → (t : ℕ) → getD n (12288 + t) 0 ≡ 1 → falls o t ≡ false
+pub flag-right : (o : Outline) (d n : List ℕ) (at : ℕ) → n ≡ sets d at (risingFlags o) → at + length (o .rowCounts) ≤ length d → (t : ℕ) → getD n (at + t) 0 ≡ 1 → falls o t ≡ false
 unfolding risingFlags falls
-flag-right o d n e l t q = go (decLt t (length (o .rowCounts)))
+flag-right o d n at e l t q = go (decLt t (length (o .rowCounts)))
   where
     told : (b : Bool) → once (not b) ≡ 1 → b ≡ false
     told true z = absurd (omega (arith, z))
@@ -109,7 +105,7 @@ flag-right o d n e l t q = go (decLt t (length (o .rowCounts)))
 
     go : Dec (t < length (o .rowCounts)) → falls o t ≡ false
     go (yes h) =
-        let there : getD n (12288 + t) 0 ≡ getD (risingFlags o) t 0 = ap (λ xs. getD xs (12288 + t) 0) e ∙ getD-sets-in (risingFlags o) d 12288 t (omega (arith, h, flags-length o)) (omega (arith, h, l)) in
+        let there : getD n (at + t) 0 ≡ getD (risingFlags o) t 0 = ap (λ xs. getD xs (at + t) 0) e ∙ getD-sets-in (risingFlags o) d at t (omega (arith, h, flags-length o)) (omega (arith, h, l)) in
         told (falls o t) (sym (listed h) ∙ sym there ∙ q)
     go (no h) = some-end (fallsAt o t) 1 (rowCount o t) (omega (arith, rows-past o t (omega (arith, h))))
 

@@ -23,7 +23,7 @@ use Rattle.spec.specs.declared.ids.TableId.{TableId}
 use Rattle.nest.specs.Found.{rowPlace, nestAt, rowAbove, ArrayIs}
 use Rattle.nest.specs.NestFindings.{contradictions, missingAt, rowFindings}
 use Rattle.nest.specs.OfJob.{outlineOf}
-use Rattle.nest.proofs.Bridge.{rows-is}
+use Rattle.nest.proofs.Bridge.{rows-is, data-count-is}
 use Rattle.nest.proofs.NestLaws.{rowsBefore, before-none, before-next, array-length, record-hangs, record-loose}
 use Rattle.nest.proofs.Sizes.{rows-past, rows-all}
 use Rattle.nest.proofs.ArrayLaws.{number-at}
@@ -74,14 +74,25 @@ pub rows-of-all : (j : Job) → rowsBefore (outlineOf j) (length (outlineOf j .r
 unfolding rowsBefore rowCount outlineOf
 rows-of-all j = counts-all (j .tables)
 
-pub array-in : (j : Job) (d n : List ℕ) → rowsOfAll (j .tables) ≤ 4096 → 12288 ≤ length d → n ≡ sets d 0 (nestArray (outlineOf j)) → ArrayIs (outlineOf j) n
-array-in j d n h l e = record {
-  room = omega (arith, ap length e, length-sets d 0 (nestArray (outlineOf j)));
+-- the rows before the table behind the last are all
+pub rows-counted : (j : Job) (n m : ℕ) → n ≡ length (j .tables) → m ≡ T.rowsBefore (j .tables) n → m ≡ rowsOfAll (j .tables)
+rows-counted j n m e q =
+    let c : length (outlineOf j .rowCounts) ≡ n = data-count-is j ∙ sym e in
+    let b = ap (rowsBefore (outlineOf j)) c ∙ sym (before-is j n) in
+    omega (arith, rows-of-all j, b, q)
+
+-- three numbers a row
+pub array-rows : (j : Job) → length (nestArray (outlineOf j)) ≡ rowsOfAll (j .tables) * 3
+array-rows j = omega (arith, array-length (outlineOf j), rows-of-all j)
+
+pub array-in : (j : Job) (d n : List ℕ) → rowsOfAll (j .tables) * 3 ≤ length d → n ≡ sets d 0 (nestArray (outlineOf j)) → ArrayIs (outlineOf j) n
+array-in j d n l e = record {
+  room = omega (arith, array-rows j, ap length e, length-sets d 0 (nestArray (outlineOf j)));
   numbers = λ i k. rw (e, there) (List·getD-append (nestArray (outlineOf j)) _ 0 i k);
 }
   where
     there : sets d 0 (nestArray (outlineOf j)) ≡ nestArray (outlineOf j) ++ drop (0 + length (nestArray (outlineOf j))) d
-    there = sets-eq (nestArray (outlineOf j)) d 0 (omega (arith, array-length (outlineOf j), rows-of-all j))
+    there = sets-eq (nestArray (outlineOf j)) d 0 (omega (arith, array-rows j))
 
 -- ---- what it says
 
@@ -90,8 +101,8 @@ pub number-in : (o : Outline) (n : List ℕ) → ArrayIs o n → (t r i : ℕ) �
 number-in o n w t r i h k = w .numbers ((rowsBefore o t + r) * 3 + i) (place-in o t r i h k) ∙ number-at o t (row-there o t r h) r i h k
 
 module _ (j : Job) (n : List ℕ) (w : ArrayIs (outlineOf j) n) (t r base : ℕ) (e : base ≡ T.rowsBefore (j .tables) t) (h : r < rowCount (outlineOf j) t) where
-  pub numbers-within : rowsOfAll (j .tables) ≤ 4096 → (base + r) * 3 + 2 < length n
-  numbers-within few = omega (arith, room-for j t r ((A.dataOf j t) .rows) base few e refl (rw (← rows-is j t) h), w .room)
+  pub numbers-within : (base + r) * 3 + 2 < length n
+  numbers-within = omega (arith, room-for j t r ((A.dataOf j t) .rows) base e refl (rw (← rows-is j t) h), w .room, array-rows j)
 
   pub number-of : (i : ℕ) → i < 3 → nestAt n base r i ≡ getD (nestRecord (outlineOf j) t r) i 0
   number-of i k = rw (e ∙ before-is j t) (number-in (outlineOf j) n w t r i h k)

@@ -39,5 +39,5 @@ hookedAt nest base l p r = heldAt nest base p r && eqb (nestAt nest base r 1) l
 
 -- a lent list that holds nest's numbers
 pub record ArrayIs (j : Outline) (n : List ℕ) : Type 0 where
-  pub room : 12288 ≤ length n
+  pub room : length (nestArray j) ≤ length n
   pub numbers : (i : ℕ) → i < length (nestArray j) → getD n i 0 ≡ getD (nestArray j) i 0

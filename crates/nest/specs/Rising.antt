@@ -1,9 +1,9 @@
 -- Tables whose rows hang on rising rows: the rows that hang on one row stand together, and halving finds them.
-use Prim.Native.Nat.{ℕ, _-_, _≤_, _<_}
+use Prim.Native.Nat.{ℕ, _+_, _-_, _≤_, _<_}
 use mathlib.Core.Bool.{Bool, not}
 use mathlib.Core.List.{List, [], _∷_}
 use lib.ListN.{length, getD}
-use lib.Dec.{ltb}
+use lib.Dec.{eqb, ltb}
 use Rattle.nest.specs.Lists.{once, each, some-of, upTo}
 use Rattle.nest.specs.Outline.{Outline, rowCount}
 use Rattle.nest.specs.Nest.{nestRecord}
@@ -29,6 +29,10 @@ unfoldable pub risingFlags : Outline → List ℕ
 risingFlags j = each (risingFlag j) (upTo 0 (length (j .rowCounts)))
 
 -- ---- by nest's numbers
+
+-- the flag of table t, among the last sixteen, is set
+unfoldable pub rises : List ℕ → ℕ → Bool
+rises n t = eqb (getD n (length n - 16 + t) 0) 1
 
 -- a later row hangs on the same row as an earlier one, or on a later
 pub record Climbs (n : List ℕ) (base rows : ℕ) : Type 0 where

@@ -19,7 +19,7 @@ use spec::ids::TableId;
 // The finding of row r of a table with keys, if an earlier row has its key.
 pub fn duplicate_at(
     job: &[u8],
-    index: &[u32],
+    index: &[u16],
     findings: &mut [u64],
     at: usize,
     t: TableId,
@@ -51,7 +51,7 @@ pub fn duplicate_at(
 // The duplicate keys of table t.
 pub fn table_duplicates(
     job: &[u8],
-    index: &[u32],
+    index: &[u16],
     keys: [Keys; 16],
     findings: &mut [u64],
     at: usize,
@@ -77,7 +77,7 @@ pub fn table_duplicates(
 // The duplicate keys of all tables of data, table by table.
 pub fn all_duplicates(
     job: &[u8],
-    index: &[u32],
+    index: &[u16],
     keys: [Keys; 16],
     findings: &mut [u64],
     at: usize,

@@ -57,7 +57,7 @@ pub struct Place {
 }
 
 // How many loops stand above l.
-pub fn depth(job: &[u8], index: &[u32], l: LoopId) -> u32
+pub fn depth(job: &[u8], index: &[u16], l: LoopId) -> u32
     requires { ⌜ Ready (now job) (now index) ⌝ }
     ensures { λ r. ⌜ r ≡ depthOf (outlineAt (now (job .entry))) (l .0) ⌝ }
 {
@@ -95,7 +95,7 @@ pub fn row_table(kind: Instances) -> Number
 }
 
 // How many loops stand above each loop.
-pub fn all_depths(job: &[u8], index: &[u32]) -> [u8; 32]
+pub fn all_depths(job: &[u8], index: &[u16]) -> [u8; 32]
     requires { ⌜ Ready (now job) (now index) ⌝ }
     ensures { λ ds. ⌜ Deep (outlineAt (now (job .entry))) ds ⌝ }
 {
@@ -129,7 +129,7 @@ fn greater(a: u32, b: u32) -> u32
 }
 
 // A depth that no loop of table t is below.
-pub fn deepest(job: &[u8], index: &[u32], depths: [u8; 32], t: TableId) -> u32
+pub fn deepest(job: &[u8], index: &[u16], depths: [u8; 32], t: TableId) -> u32
     requires { ⌜ Ready (now job) (now index) × Deep (outlineAt (now job)) depths ⌝ }
     ensures { λ d. ⌜ Within (outlineAt (now (job .entry))) (t .0) (length ((tableOf (outlineAt (now (job .entry))) (t .0)) .loops)) d ⌝ }
 {
@@ -145,7 +145,7 @@ pub fn deepest(job: &[u8], index: &[u32], depths: [u8; 32], t: TableId) -> u32
 }
 
 // The table whose rows loop l enters, if it stands at depth d.
-pub fn anchor(job: &[u8], index: &[u32], depths: [u8; 32], l: LoopId, d: u32) -> Number
+pub fn anchor(job: &[u8], index: &[u16], depths: [u8; 32], l: LoopId, d: u32) -> Number
     requires { ⌜ Ready (now job) (now index) × Deep (outlineAt (now job)) depths × (l .0 < 32) ⌝ }
     ensures { λ r. ⌜ numberOf r ≡ anchorTable (outlineAt (now (job .entry))) (l .0) d ⌝ }
 {
@@ -157,7 +157,7 @@ pub fn anchor(job: &[u8], index: &[u32], depths: [u8; 32], l: LoopId, d: u32) ->
 }
 
 // The first anchor, the deepest first and equal depths in list order, whose reference row r of the repeat table t has.
-pub fn claim(job: &[u8], index: &[u32], depths: [u8; 32], t: TableId, r: RowId) -> Anchored
+pub fn claim(job: &[u8], index: &[u16], depths: [u8; 32], t: TableId, r: RowId) -> Anchored
     requires { ⌜ Ready (now job) (now index) × Deep (outlineAt (now job)) depths ⌝ }
     ensures { λ c. ⌜ c ≡ claimBy (claimIn (outlineAt (now (job .entry))) (t .0) (r .0) (anchors (outlineAt (now (job .entry))) (t .0))) (lastTable (t .0) (anchors (outlineAt (now (job .entry))) (t .0))) ⌝ }
 {
@@ -213,7 +213,7 @@ fn no_line() -> Line
 }
 
 // The anchors of table t, the deepest first and equal depths in list order; more than eight are left to `claim`.
-pub fn line_up(job: &[u8], index: &[u32], depths: [u8; 32], t: TableId) -> Line
+pub fn line_up(job: &[u8], index: &[u16], depths: [u8; 32], t: TableId) -> Line
     requires { ⌜ Ready (now job) (now index) × Deep (outlineAt (now job)) depths ⌝ }
     ensures { λ s. ⌜ Lined (outlineAt (now (job .entry))) (t .0) s ⌝ }
 {
@@ -259,7 +259,7 @@ pub fn line_up(job: &[u8], index: &[u32], depths: [u8; 32], t: TableId) -> Line
 }
 
 // The anchors that rows of table t are hung by, if it repeats.
-pub fn line_of(job: &[u8], index: &[u32], depths: [u8; 32], t: TableId) -> Line
+pub fn line_of(job: &[u8], index: &[u16], depths: [u8; 32], t: TableId) -> Line
     requires { ⌜ Ready (now job) (now index) × Deep (outlineAt (now job)) depths ⌝ }
     ensures { λ s. ⌜ Lined (outlineAt (now (job .entry))) (t .0) s ⌝ }
 {
@@ -271,7 +271,7 @@ pub fn line_of(job: &[u8], index: &[u32], depths: [u8; 32], t: TableId) -> Line
 }
 
 // The first of the anchors of table t, which are whole, whose reference row r has.
-pub fn claim_along(job: &[u8], index: &[u32], line: Line, t: TableId, r: RowId) -> Anchored
+pub fn claim_along(job: &[u8], index: &[u16], line: Line, t: TableId, r: RowId) -> Anchored
     requires { ⌜ Ready (now job) (now index) × Lined (outlineAt (now job)) (t .0) line × (line .whole ≡ true) ⌝ }
     ensures { λ c. ⌜ c ≡ claimBy (claimIn (outlineAt (now (job .entry))) (t .0) (r .0) (anchors (outlineAt (now (job .entry))) (t .0))) (lastTable (t .0) (anchors (outlineAt (now (job .entry))) (t .0))) ⌝ }
 {
@@ -303,7 +303,7 @@ pub fn claim_along(job: &[u8], index: &[u32], line: Line, t: TableId, r: RowId) 
 // The claim of row r of table t, by its anchors.
 pub fn claim_by(
     job: &[u8],
-    index: &[u32],
+    index: &[u16],
     depths: [u8; 32],
     line: Line,
     t: TableId,
@@ -321,7 +321,7 @@ pub fn claim_by(
 // Where row r of the repeat table t hangs.
 pub fn repeat_place(
     job: &[u8],
-    index: &[u32],
+    index: &[u16],
     keys: [Keys; 16],
     depths: [u8; 32],
     line: Line,
@@ -368,7 +368,7 @@ pub fn repeat_place(
 // Where row r of another table t hangs.
 pub fn parent_place(
     job: &[u8],
-    index: &[u32],
+    index: &[u16],
     keys: [Keys; 16],
     t: TableId,
     r: RowId,
@@ -411,7 +411,7 @@ pub fn parent_place(
 // Where row r of table t hangs, looked for from `near` on.
 pub fn place_of(
     job: &[u8],
-    index: &[u32],
+    index: &[u16],
     keys: [Keys; 16],
     depths: [u8; 32],
     line: Line,

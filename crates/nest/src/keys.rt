@@ -23,7 +23,7 @@ pub enum Keys {
 }
 
 // Whether u is among the ancestors of table d.
-pub fn names(job: &[u8], index: &[u32], d: TableId, u: u32) -> bool
+pub fn names(job: &[u8], index: &[u16], d: TableId, u: u32) -> bool
     requires { ⌜ Ready (now job) (now index) ⌝ }
     ensures { λ r. ⌜ r ≡ some-of (eqb u) ((tableOf (outlineAt (now (job .entry))) (d .0)) .ancestors) ⌝ }
 {
@@ -40,7 +40,7 @@ pub fn names(job: &[u8], index: &[u32], d: TableId, u: u32) -> bool
 }
 
 // Whether some table has u as its ancestor.
-pub fn has_keys(job: &[u8], index: &[u32], u: TableId) -> bool
+pub fn has_keys(job: &[u8], index: &[u16], u: TableId) -> bool
     requires { ⌜ Ready (now job) (now index) ⌝ }
     ensures { λ r. ⌜ r ≡ hasKeys (outlineAt (now (job .entry))) (u .0) ⌝ }
 {
@@ -57,7 +57,7 @@ pub fn has_keys(job: &[u8], index: &[u32], u: TableId) -> bool
 }
 
 // The first row of u whose key is v, whether or not u has keys.
-pub fn first_with(job: &[u8], index: &[u32], u: TableId, v: u64) -> Found
+pub fn first_with(job: &[u8], index: &[u16], u: TableId, v: u64) -> Found
     requires { ⌜ Ready (now job) (now index) ⌝ }
     ensures { λ f. ⌜ f ≡ foundBy (first (keep (λ p. eqb (outlineAt (now (job .entry)) .key (u .0) p) v) (upTo 0 (rowCount (outlineAt (now (job .entry))) (u .0))))) ⌝ }
 {
@@ -74,7 +74,7 @@ pub fn first_with(job: &[u8], index: &[u32], u: TableId, v: u64) -> Found
 }
 
 // Whether the keys of u rise from row to row, as unsigned numbers.
-pub fn ascends(job: &[u8], index: &[u32], u: TableId) -> bool
+pub fn ascends(job: &[u8], index: &[u16], u: TableId) -> bool
     requires { ⌜ Ready (now job) (now index) ⌝ }
     ensures { λ r. ⌜ (r ≡ true → Rises (outlineAt (now (job .entry))) (u .0)) ⌝ }
 {
@@ -93,7 +93,7 @@ pub fn ascends(job: &[u8], index: &[u32], u: TableId) -> bool
 }
 
 // What is known of the keys of u.
-pub fn keys_of(job: &[u8], index: &[u32], u: TableId) -> Keys
+pub fn keys_of(job: &[u8], index: &[u16], u: TableId) -> Keys
     requires { ⌜ Ready (now job) (now index) ⌝ }
     ensures { λ k. ⌜ KeysAre (outlineAt (now (job .entry))) (u .0) k ⌝ }
 {
@@ -109,7 +109,7 @@ pub fn keys_of(job: &[u8], index: &[u32], u: TableId) -> Keys
 }
 
 // What is known of the keys of all tables of data.
-pub fn all_keys(job: &[u8], index: &[u32]) -> [Keys; 16]
+pub fn all_keys(job: &[u8], index: &[u16]) -> [Keys; 16]
     requires { ⌜ Ready (now job) (now index) ⌝ }
     ensures { λ ks. ⌜ Keyed (outlineAt (now (job .entry))) ks ⌝ }
 {
@@ -126,7 +126,7 @@ pub fn all_keys(job: &[u8], index: &[u32]) -> [Keys; 16]
 }
 
 // The row of u whose key is v, where the keys of u rise: each turn halves the rows that are left.
-pub fn search(job: &[u8], index: &[u32], u: TableId, v: u64) -> Found
+pub fn search(job: &[u8], index: &[u16], u: TableId, v: u64) -> Found
     requires { ⌜ Ready (now job) (now index) × Rises (outlineAt (now job)) (u .0) ⌝ }
     ensures { λ f. ⌜ f ≡ foundBy (first (keep (λ p. eqb (outlineAt (now (job .entry)) .key (u .0) p) v) (upTo 0 (rowCount (outlineAt (now (job .entry))) (u .0))))) ⌝ }
 {
@@ -148,7 +148,7 @@ pub fn search(job: &[u8], index: &[u32], u: TableId, v: u64) -> Found
 }
 
 // Whether u has a row k and v is its key.
-pub fn is_key(job: &[u8], index: &[u32], u: TableId, v: u64, k: u32) -> bool
+pub fn is_key(job: &[u8], index: &[u16], u: TableId, v: u64, k: u32) -> bool
     requires { ⌜ Ready (now job) (now index) ⌝ }
     ensures { λ r. ⌜ (r ≡ true → (k < rowCount (outlineAt (now (job .entry))) (u .0)) × (outlineAt (now (job .entry)) .key (u .0) k ≡ v)) ⌝ }
 {
@@ -163,7 +163,7 @@ pub fn is_key(job: &[u8], index: &[u32], u: TableId, v: u64, k: u32) -> bool
 }
 
 // The row of u whose key is v, where the keys of u rise: the rows before and at `near` are looked at first.
-pub fn search_near(job: &[u8], index: &[u32], u: TableId, v: u64, near: u32) -> Found
+pub fn search_near(job: &[u8], index: &[u16], u: TableId, v: u64, near: u32) -> Found
     requires { ⌜ Ready (now job) (now index) × Rises (outlineAt (now job)) (u .0) ⌝ }
     ensures { λ f. ⌜ f ≡ foundBy (first (keep (λ p. eqb (outlineAt (now (job .entry)) .key (u .0) p) v) (upTo 0 (rowCount (outlineAt (now (job .entry))) (u .0))))) ⌝ }
 {
@@ -194,7 +194,7 @@ pub fn known(keys: [Keys; 16], u: TableId) -> Keys
 // The first row of u whose key is v, looked for from `near` on; a table without keys is not searched.
 pub fn first_row(
     job: &[u8],
-    index: &[u32],
+    index: &[u16],
     keys: [Keys; 16],
     u: TableId,
     v: u64,
@@ -214,7 +214,7 @@ pub fn first_row(
 // The row of u that row r of t refers to.
 pub fn referred(
     job: &[u8],
-    index: &[u32],
+    index: &[u16],
     keys: [Keys; 16],
     t: TableId,
     r: RowId,

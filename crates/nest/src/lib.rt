@@ -6,6 +6,8 @@ ghost use lib.ListN.{length};
 ghost use lib.Seq.{sets};
 ghost use Rattle.nest.specs.Lists.{keep, first, upTo};
 ghost use Rattle.nest.specs.Found.{foundBy, nestAt, rowAbove, heldAt, hookedAt};
+ghost use Rattle.format.specs.Refusal.{rowsOfAll};
+ghost use Rattle.format.specs.Sections.{jobOf};
 ghost use Rattle.lent.specs.Fit.{base, Noted};
 ghost use Rattle.nest.specs.Nest.{nestArray};
 ghost use Rattle.nest.specs.NestFindings.{nestFindings};
@@ -136,8 +138,8 @@ pub fn next_hooked(
 }
 
 // Where each row hangs, three numbers a row, and what is found of the rows: duplicate keys first, then row by row.
-pub fn nest(job: &[u8], index: &[u32], nest: &mut [u32], findings: &mut [u64]) -> usize
-    requires { ⌜ Ready (now job) (now index) × (12288 ≤ length (now nest)) ⌝ }
+pub fn nest(job: &[u8], index: &[u16], nest: &mut [u32], findings: &mut [u64]) -> usize
+    requires { ⌜ Ready (now job) (now index) × (rowsOfAll (jobOf (now job) .tables) * 3 ≤ length (now nest)) ⌝ }
     ensures { λ n. ⌜ (now (nest .exit) ≡ sets (now (nest .entry)) 0 (nestArray (outlineAt (now (job .entry))))) × Noted (now (findings .entry)) base (words (nestFindings (outlineAt (now (job .entry))))) n (now (findings .exit)) ⌝ }
 {
     nest_rows(job, index, nest);

@@ -27,7 +27,7 @@ use spec::ids::TableId;
 // The finding of ancestor a, if row r of t and the row p of u that it hangs on refer to different rows of it.
 pub fn contradiction_at(
     job: &[u8],
-    index: &[u32],
+    index: &[u16],
     findings: &mut [u64],
     at: usize,
     t: TableId,
@@ -80,7 +80,7 @@ pub fn contradiction_at(
 // The contradictions of row r of t with the row p of u that it hangs on, over the ancestors of u.
 pub fn contradictions(
     job: &[u8],
-    index: &[u32],
+    index: &[u16],
     findings: &mut [u64],
     at: usize,
     t: TableId,
@@ -105,7 +105,7 @@ pub fn contradictions(
 // The finding of a repeat row that hangs on none.
 pub fn repeat_missing(
     job: &[u8],
-    index: &[u32],
+    index: &[u16],
     findings: &mut [u64],
     at: usize,
     depths: [u8; 32],
@@ -151,7 +151,7 @@ pub fn repeat_missing(
 // The finding of a row of another table that hangs on none; a table without parent has none.
 pub fn parent_missing(
     job: &[u8],
-    index: &[u32],
+    index: &[u16],
     findings: &mut [u64],
     at: usize,
     t: TableId,
@@ -192,7 +192,7 @@ pub fn parent_missing(
 // The finding of a row that hangs on none.
 pub fn missing(
     job: &[u8],
-    index: &[u32],
+    index: &[u16],
     findings: &mut [u64],
     at: usize,
     depths: [u8; 32],
@@ -212,7 +212,7 @@ pub fn missing(
 // The findings of row r of t, by nest's numbers; the rows of t start at `base`.
 pub fn row_findings(
     job: &[u8],
-    index: &[u32],
+    index: &[u16],
     nest: &[u32],
     findings: &mut [u64],
     at: usize,
@@ -239,7 +239,7 @@ pub fn row_findings(
 // The findings of the rows of table t.
 pub fn table_findings(
     job: &[u8],
-    index: &[u32],
+    index: &[u16],
     nest: &[u32],
     findings: &mut [u64],
     at: usize,
@@ -263,7 +263,7 @@ pub fn table_findings(
 // The findings of the rows of the spec's tables, table by table.
 pub fn all_findings(
     job: &[u8],
-    index: &[u32],
+    index: &[u16],
     nest: &[u32],
     findings: &mut [u64],
     at: usize,

@@ -6,6 +6,7 @@ ghost use lib.Seq.{sets};
 ghost use Rattle.nest.specs.Nest.{tableArray, nestArray};
 ghost use Rattle.nest.specs.Keys.{Keyed, Deep};
 ghost use Rattle.nest.specs.Ready.{Ready, outlineAt};
+ghost use Rattle.format.specs.Refusal.{rowsOfAll};
 ghost use Rattle.format.specs.Sections.{jobOf};
 ghost use Rattle.tables.specs.Parts.{rowsBefore};
 use crate::hang::all_depths;
@@ -20,13 +21,13 @@ use spec::ids::TableId;
 // The numbers of the rows of table t, three a row.
 pub fn nest_table(
     job: &[u8],
-    index: &[u32],
+    index: &[u16],
     nest: &mut [u32],
     keys: [Keys; 16],
     depths: [u8; 32],
     t: TableId,
 )
-    requires { ⌜ Ready (now job) (now index) × Keyed (outlineAt (now job)) keys × Deep (outlineAt (now job)) depths × (12288 ≤ length (now nest)) ⌝ }
+    requires { ⌜ Ready (now job) (now index) × Keyed (outlineAt (now job)) keys × Deep (outlineAt (now job)) depths × (rowsOfAll (jobOf (now job) .tables) * 3 ≤ length (now nest)) ⌝ }
     ensures { λ _. ⌜ now (nest .exit) ≡ sets (now (nest .entry)) (rowsBefore (jobOf (now (job .entry)) .tables) (t .0) * 3) (tableArray (outlineAt (now (job .entry))) (t .0)) ⌝ }
 {
     let first = tables::data::first_row(job, index, t);
@@ -45,8 +46,8 @@ pub fn nest_table(
 }
 
 // The numbers of the rows of all tables of data, one table after the other.
-pub fn nest_rows(job: &[u8], index: &[u32], nest: &mut [u32])
-    requires { ⌜ Ready (now job) (now index) × (12288 ≤ length (now nest)) ⌝ }
+pub fn nest_rows(job: &[u8], index: &[u16], nest: &mut [u32])
+    requires { ⌜ Ready (now job) (now index) × (rowsOfAll (jobOf (now job) .tables) * 3 ≤ length (now nest)) ⌝ }
     ensures { λ _. ⌜ now (nest .exit) ≡ sets (now (nest .entry)) 0 (nestArray (outlineAt (now (job .entry)))) ⌝ }
 {
     let keys = all_keys(job, index);

@@ -15,14 +15,14 @@ use spec::ids::LoopId;
 use spec::ids::Number;
 use spec::ids::TableId;
 
-pub fn loops(job: &[u8], index: &[u32]) -> u32
+pub fn loops(job: &[u8], index: &[u16]) -> u32
     requires { ⌜ Ready (now job) (now index) ⌝ }
     ensures { λ r. ⌜ (r ≡ length (outlineAt (now (job .entry)) .loops)) × (r ≤ 32) ⌝ }
 {
     spec::loops::loop_count(job, index)
 }
 
-pub fn tables(job: &[u8], index: &[u32]) -> u32
+pub fn tables(job: &[u8], index: &[u16]) -> u32
     requires { ⌜ Ready (now job) (now index) ⌝ }
     ensures { λ r. ⌜ (r ≡ length (outlineAt (now (job .entry)) .tables)) × (r ≤ 16) ⌝ }
 {
@@ -40,7 +40,7 @@ pub fn once(x: bool) -> u32
 }
 
 // Whether a table of the spec has no repeat segment.
-pub fn plain(job: &[u8], index: &[u32], t: TableId) -> bool
+pub fn plain(job: &[u8], index: &[u16], t: TableId) -> bool
     requires { ⌜ Ready (now job) (now index) ⌝ }
     ensures { λ r. ⌜ r ≡ plainIn (outlineAt (now (job .entry))) (t .0) ⌝ }
 {
@@ -53,7 +53,7 @@ pub fn plain(job: &[u8], index: &[u32], t: TableId) -> bool
 }
 
 // Whether a table of the spec has a repeat segment.
-pub fn repeated(job: &[u8], index: &[u32], t: TableId) -> bool
+pub fn repeated(job: &[u8], index: &[u16], t: TableId) -> bool
     requires { ⌜ Ready (now job) (now index) ⌝ }
     ensures { λ r. ⌜ r ≡ repeatedIn (outlineAt (now (job .entry))) (t .0) ⌝ }
 {
@@ -65,7 +65,7 @@ pub fn repeated(job: &[u8], index: &[u32], t: TableId) -> bool
 }
 
 // Where the instances of a loop come from.
-pub fn kind(job: &[u8], index: &[u32], l: LoopId) -> Instances
+pub fn kind(job: &[u8], index: &[u16], l: LoopId) -> Instances
     requires { ⌜ Ready (now job) (now index) × (l .0 < 32) ⌝ }
     ensures { λ r. ⌜ kindIn (instancesOf r) ≡ kindOf (outlineAt (now (job .entry))) (l .0) ⌝ }
 {
@@ -112,7 +112,7 @@ pub fn is_repeat(s: Source, t: TableId) -> bool
 }
 
 // Whether the table that a loop names, if it does, has no repeat segment.
-pub fn plain_named(job: &[u8], index: &[u32], k: Instances) -> bool
+pub fn plain_named(job: &[u8], index: &[u16], k: Instances) -> bool
     requires { ⌜ Ready (now job) (now index) ⌝ }
     ensures { λ r. ⌜ r ≡ if-there (named (kindIn (instancesOf k))) (plainIn (outlineAt (now (job .entry)))) ⌝ }
 {
@@ -127,7 +127,7 @@ pub fn plain_named(job: &[u8], index: &[u32], k: Instances) -> bool
 }
 
 // Whether the parent of a table, if it has one, has no repeat segment.
-pub fn parent_plain(job: &[u8], index: &[u32], t: TableId) -> bool
+pub fn parent_plain(job: &[u8], index: &[u16], t: TableId) -> bool
     requires { ⌜ Ready (now job) (now index) ⌝ }
     ensures { λ r. ⌜ r ≡ if-there (tableParent (outlineAt (now (job .entry))) (t .0)) (plainIn (outlineAt (now (job .entry)))) ⌝ }
 {

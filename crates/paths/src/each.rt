@@ -21,7 +21,7 @@ use spec::ids::LoopId;
 use spec::ids::TableId;
 
 // 1: every table without repeat segment has one row loop.
-pub fn tables_once(job: &[u8], index: &[u32]) -> bool
+pub fn tables_once(job: &[u8], index: &[u16]) -> bool
     requires { ⌜ Ready (now job) (now index) ⌝ }
     ensures { λ r. ⌜ r ≡ eachTable (outlineAt (now (job .entry))) (oneRowLoop (outlineAt (now (job .entry)))) ⌝ }
 {
@@ -36,7 +36,7 @@ pub fn tables_once(job: &[u8], index: &[u32]) -> bool
     true
 }
 
-fn loop_plain(job: &[u8], index: &[u32], l: LoopId) -> bool
+fn loop_plain(job: &[u8], index: &[u16], l: LoopId) -> bool
     requires { ⌜ Ready (now job) (now index) × (l .0 < 32) ⌝ }
     ensures { λ r. ⌜ r ≡ namesPlain (outlineAt (now (job .entry))) (l .0) ⌝ }
 {
@@ -45,7 +45,7 @@ fn loop_plain(job: &[u8], index: &[u32], l: LoopId) -> bool
 }
 
 // 1: no loop names another table.
-pub fn loops_plain(job: &[u8], index: &[u32]) -> bool
+pub fn loops_plain(job: &[u8], index: &[u16]) -> bool
     requires { ⌜ Ready (now job) (now index) ⌝ }
     ensures { λ r. ⌜ r ≡ eachLoop (outlineAt (now (job .entry))) (namesPlain (outlineAt (now (job .entry)))) ⌝ }
 {
@@ -61,7 +61,7 @@ pub fn loops_plain(job: &[u8], index: &[u32]) -> bool
 }
 
 // 2: every parent has no repeat segment.
-pub fn parents_plain(job: &[u8], index: &[u32]) -> bool
+pub fn parents_plain(job: &[u8], index: &[u16]) -> bool
     requires { ⌜ Ready (now job) (now index) ⌝ }
     ensures { λ r. ⌜ r ≡ eachTable (outlineAt (now (job .entry))) (parentPlain (outlineAt (now (job .entry)))) ⌝ }
 {
@@ -76,7 +76,7 @@ pub fn parents_plain(job: &[u8], index: &[u32]) -> bool
     true
 }
 
-fn segment_ordered(job: &[u8], index: &[u32], l: LoopId, i: u32) -> bool
+fn segment_ordered(job: &[u8], index: &[u16], l: LoopId, i: u32) -> bool
     requires { ⌜ Ready (now job) (now index) × (l .0 < 32) ⌝ }
     ensures { λ r. ⌜ r ≡ segmentOrdered (outlineAt (now (job .entry))) (l .0) i ⌝ }
 {
@@ -87,7 +87,7 @@ fn segment_ordered(job: &[u8], index: &[u32], l: LoopId, i: u32) -> bool
     occurs(job, index, l, i)
 }
 
-fn segments_ordered(job: &[u8], index: &[u32], l: LoopId) -> bool
+fn segments_ordered(job: &[u8], index: &[u16], l: LoopId) -> bool
     requires { ⌜ Ready (now job) (now index) × (l .0 < 32) ⌝ }
     ensures { λ r. ⌜ r ≡ each-below (planned (outlineAt (now (job .entry))) (l .0)) (segmentOrdered (outlineAt (now (job .entry))) (l .0)) ⌝ }
 {
@@ -102,7 +102,7 @@ fn segments_ordered(job: &[u8], index: &[u32], l: LoopId) -> bool
     true
 }
 
-fn loop_ordered(job: &[u8], index: &[u32], l: LoopId) -> bool
+fn loop_ordered(job: &[u8], index: &[u16], l: LoopId) -> bool
     requires { ⌜ Ready (now job) (now index) × (l .0 < 32) ⌝ }
     ensures { λ r. ⌜ r ≡ loopOrdered (outlineAt (now (job .entry))) (l .0) ⌝ }
 {
@@ -118,7 +118,7 @@ fn loop_ordered(job: &[u8], index: &[u32], l: LoopId) -> bool
 }
 
 // 2: every order lists each child loop and each planned segment once, and nothing more.
-pub fn loops_ordered(job: &[u8], index: &[u32]) -> bool
+pub fn loops_ordered(job: &[u8], index: &[u16]) -> bool
     requires { ⌜ Ready (now job) (now index) ⌝ }
     ensures { λ r. ⌜ r ≡ eachLoop (outlineAt (now (job .entry))) (loopOrdered (outlineAt (now (job .entry)))) ⌝ }
 {
@@ -134,7 +134,7 @@ pub fn loops_ordered(job: &[u8], index: &[u32]) -> bool
 }
 
 // 3: what stands above every row loop fits its table.
-pub fn loops_fit(job: &[u8], index: &[u32]) -> bool
+pub fn loops_fit(job: &[u8], index: &[u16]) -> bool
     requires { ⌜ Ready (now job) (now index) ⌝ }
     ensures { λ r. ⌜ r ≡ eachLoop (outlineAt (now (job .entry))) (rowFits (outlineAt (now (job .entry)))) ⌝ }
 {
@@ -150,7 +150,7 @@ pub fn loops_fit(job: &[u8], index: &[u32]) -> bool
 }
 
 // 4: every row loop that anchors a repeat table plans one repeat segment of it.
-pub fn tables_planned(job: &[u8], index: &[u32]) -> bool
+pub fn tables_planned(job: &[u8], index: &[u16]) -> bool
     requires { ⌜ Ready (now job) (now index) ⌝ }
     ensures { λ r. ⌜ r ≡ eachTable (outlineAt (now (job .entry))) (repeatPlanned (outlineAt (now (job .entry)))) ⌝ }
 {
@@ -165,7 +165,7 @@ pub fn tables_planned(job: &[u8], index: &[u32]) -> bool
     true
 }
 
-fn segments_anchored(job: &[u8], index: &[u32], l: LoopId) -> bool
+fn segments_anchored(job: &[u8], index: &[u16], l: LoopId) -> bool
     requires { ⌜ Ready (now job) (now index) × (l .0 < 32) ⌝ }
     ensures { λ r. ⌜ r ≡ loopAnchored (outlineAt (now (job .entry))) (l .0) ⌝ }
 {
@@ -181,7 +181,7 @@ fn segments_anchored(job: &[u8], index: &[u32], l: LoopId) -> bool
 }
 
 // 4: no other repeat segment is planned.
-pub fn loops_anchored(job: &[u8], index: &[u32]) -> bool
+pub fn loops_anchored(job: &[u8], index: &[u16]) -> bool
     requires { ⌜ Ready (now job) (now index) ⌝ }
     ensures { λ r. ⌜ r ≡ eachLoop (outlineAt (now (job .entry))) (loopAnchored (outlineAt (now (job .entry)))) ⌝ }
 {

@@ -20,7 +20,7 @@ pub mod repeats;
 pub mod up;
 
 // Whether plan and layout have one entry a loop, capacities and data one a table.
-pub fn entries_fit(job: &[u8], index: &[u32]) -> bool
+pub fn entries_fit(job: &[u8], index: &[u16]) -> bool
     requires { ⌜ Ready (now job) (now index) ⌝ }
     ensures { λ r. ⌜ Decides r (Entries4 (jobOf (now (job .entry)))) ⌝ }
 {
@@ -58,7 +58,7 @@ pub fn entries_fit(job: &[u8], index: &[u32]) -> bool
 }
 
 // Condition 1: row loops.
-pub fn rows_fit(job: &[u8], index: &[u32]) -> bool
+pub fn rows_fit(job: &[u8], index: &[u16]) -> bool
     requires { ⌜ Ready (now job) (now index) ⌝ }
     ensures { λ r. ⌜ r ≡ condition1 (outlineAt (now (job .entry))) ⌝ }
 {
@@ -70,7 +70,7 @@ pub fn rows_fit(job: &[u8], index: &[u32]) -> bool
 }
 
 // Condition 2: entries, parents and orders.
-pub fn orders_fit(job: &[u8], index: &[u32]) -> bool
+pub fn orders_fit(job: &[u8], index: &[u16]) -> bool
     requires { ⌜ Ready (now job) (now index) ⌝ }
     ensures { λ r. ⌜ Decides r (Orders (jobOf (now (job .entry)))) ⌝ }
 {
@@ -86,7 +86,7 @@ pub fn orders_fit(job: &[u8], index: &[u32]) -> bool
 }
 
 // Condition 3: what stands above a row loop.
-pub fn paths_fit(job: &[u8], index: &[u32]) -> bool
+pub fn paths_fit(job: &[u8], index: &[u16]) -> bool
     requires { ⌜ Ready (now job) (now index) ⌝ }
     ensures { λ r. ⌜ r ≡ condition3 (outlineAt (now (job .entry))) ⌝ }
 {
@@ -95,7 +95,7 @@ pub fn paths_fit(job: &[u8], index: &[u32]) -> bool
 
 // Condition 4: repeat segments. The tables come first: where they pass, a loop plans one repeat segment of each table that it anchors, so that no table's
 // list of loops is gone through more than once a loop afterwards.
-pub fn repeats_fit(job: &[u8], index: &[u32]) -> bool
+pub fn repeats_fit(job: &[u8], index: &[u16]) -> bool
     requires { ⌜ Ready (now job) (now index) ⌝ }
     ensures { λ r. ⌜ r ≡ condition4 (outlineAt (now (job .entry))) ⌝ }
 {

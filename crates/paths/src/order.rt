@@ -48,7 +48,7 @@ fn same_item(x: Item, v: Item) -> u32
 }
 
 // How often an item stands in the order of a loop.
-fn item_times(job: &[u8], index: &[u32], l: LoopId, x: Item) -> u32
+fn item_times(job: &[u8], index: &[u16], l: LoopId, x: Item) -> u32
     requires { ⌜ Ready (now job) (now index) × (l .0 < 32) ⌝ }
     ensures { λ r. ⌜ r ≡ sum (sameItem (itemOf x)) (orderOf (jobOf (now (job .entry))) (l .0)) ⌝ }
 {
@@ -65,7 +65,7 @@ fn item_times(job: &[u8], index: &[u32], l: LoopId, x: Item) -> u32
 }
 
 // How often loop k is a child of loop l.
-fn child_times(job: &[u8], index: &[u32], l: LoopId, k: u32) -> u32
+fn child_times(job: &[u8], index: &[u16], l: LoopId, k: u32) -> u32
     requires { ⌜ Ready (now job) (now index) ⌝ }
     ensures { λ r. ⌜ r ≡ times k ((loopOf (outlineAt (now (job .entry))) (l .0)) .children) ⌝ }
 {
@@ -82,7 +82,7 @@ fn child_times(job: &[u8], index: &[u32], l: LoopId, k: u32) -> u32
 }
 
 // Whether the order of loop l names loop k as often as it is a child.
-fn order_right(job: &[u8], index: &[u32], l: LoopId, k: u32) -> bool
+fn order_right(job: &[u8], index: &[u16], l: LoopId, k: u32) -> bool
     requires { ⌜ Ready (now job) (now index) × (l .0 < 32) ⌝ }
     ensures { λ r. ⌜ r ≡ orderRight (outlineAt (now (job .entry))) (l .0) k ⌝ }
 {
@@ -91,7 +91,7 @@ fn order_right(job: &[u8], index: &[u32], l: LoopId, k: u32) -> bool
     a == b
 }
 
-pub fn order_loops(job: &[u8], index: &[u32], l: LoopId) -> bool
+pub fn order_loops(job: &[u8], index: &[u16], l: LoopId) -> bool
     requires { ⌜ Ready (now job) (now index) × (l .0 < 32) ⌝ }
     ensures { λ r. ⌜ r ≡ each-below (length (outlineAt (now (job .entry)) .loops)) (orderRight (outlineAt (now (job .entry))) (l .0)) ⌝ }
 {
@@ -107,7 +107,7 @@ pub fn order_loops(job: &[u8], index: &[u32], l: LoopId) -> bool
 }
 
 // Whether planned segment i stands once in the order of loop l.
-pub fn once_ordered(job: &[u8], index: &[u32], l: LoopId, i: u32) -> bool
+pub fn once_ordered(job: &[u8], index: &[u16], l: LoopId, i: u32) -> bool
     requires { ⌜ Ready (now job) (now index) × (l .0 < 32) ⌝ }
     ensures { λ r. ⌜ r ≡ eqb (times i (itemSegments (orderIn (outlineAt (now (job .entry))) (l .0)))) 1 ⌝ }
 {
@@ -126,7 +126,7 @@ fn segment_below(v: Item, n: u32) -> bool
 }
 
 // Whether the order of loop l names only planned segments.
-pub fn only_planned(job: &[u8], index: &[u32], l: LoopId) -> bool
+pub fn only_planned(job: &[u8], index: &[u16], l: LoopId) -> bool
     requires { ⌜ Ready (now job) (now index) × (l .0 < 32) ⌝ }
     ensures { λ r. ⌜ r ≡ onlyPlanned (outlineAt (now (job .entry))) (l .0) ⌝ }
 {
@@ -145,7 +145,7 @@ pub fn only_planned(job: &[u8], index: &[u32], l: LoopId) -> bool
 }
 
 // Whether the spec has the occurrence that planned segment i of loop l names.
-pub fn occurs(job: &[u8], index: &[u32], l: LoopId, i: u32) -> bool
+pub fn occurs(job: &[u8], index: &[u16], l: LoopId, i: u32) -> bool
     requires { ⌜ Ready (now job) (now index) × (l .0 < 32) ⌝ }
     ensures { λ r. ⌜ r ≡ ltb ((segmentOf (outlineAt (now (job .entry))) (l .0) i) .occurrence) ((loopOf (outlineAt (now (job .entry))) (l .0)) .occurrences) ⌝ }
 {

@@ -22,7 +22,7 @@ use plan::answers::Source;
 use spec::ids::LoopId;
 use spec::ids::TableId;
 
-fn row_loops(job: &[u8], index: &[u32], t: TableId) -> u32
+fn row_loops(job: &[u8], index: &[u16], t: TableId) -> u32
     requires { ⌜ Ready (now job) (now index) ⌝ }
     ensures { λ r. ⌜ r ≡ rowLoops (outlineAt (now (job .entry))) (t .0) ⌝ }
 {
@@ -39,7 +39,7 @@ fn row_loops(job: &[u8], index: &[u32], t: TableId) -> u32
 }
 
 // Whether a table without repeat segment has one row loop.
-pub fn one_row_loop(job: &[u8], index: &[u32], t: TableId) -> bool
+pub fn one_row_loop(job: &[u8], index: &[u16], t: TableId) -> bool
     requires { ⌜ Ready (now job) (now index) ⌝ }
     ensures { λ r. ⌜ r ≡ not (plainIn (outlineAt (now (job .entry))) (t .0)) || eqb (rowLoops (outlineAt (now (job .entry))) (t .0)) 1 ⌝ }
 {
@@ -51,7 +51,7 @@ pub fn one_row_loop(job: &[u8], index: &[u32], t: TableId) -> bool
     true
 }
 
-fn repeats_in(job: &[u8], index: &[u32], t: TableId, l: LoopId) -> u32
+fn repeats_in(job: &[u8], index: &[u16], t: TableId, l: LoopId) -> u32
     requires { ⌜ Ready (now job) (now index) × (l .0 < 32) ⌝ }
     ensures { λ r. ⌜ r ≡ repeatsIn (outlineAt (now (job .entry))) (t .0) (l .0) ⌝ }
 {
@@ -68,7 +68,7 @@ fn repeats_in(job: &[u8], index: &[u32], t: TableId, l: LoopId) -> u32
 }
 
 // Whether loop l, if it is a row loop, plans one repeat segment of table t.
-fn planned_once(job: &[u8], index: &[u32], t: TableId, l: LoopId) -> bool
+fn planned_once(job: &[u8], index: &[u16], t: TableId, l: LoopId) -> bool
     requires { ⌜ Ready (now job) (now index) × (l .0 < 32) ⌝ }
     ensures { λ r. ⌜ r ≡ plannedOnce (outlineAt (now (job .entry))) (t .0) (l .0) ⌝ }
 {
@@ -81,7 +81,7 @@ fn planned_once(job: &[u8], index: &[u32], t: TableId, l: LoopId) -> bool
     true
 }
 
-fn all_planned(job: &[u8], index: &[u32], t: TableId) -> bool
+fn all_planned(job: &[u8], index: &[u16], t: TableId) -> bool
     requires { ⌜ Ready (now job) (now index) ⌝ }
     ensures { λ r. ⌜ r ≡ each-of ((tableOf (outlineAt (now (job .entry))) (t .0)) .loops) (plannedOnce (outlineAt (now (job .entry))) (t .0)) ⌝ }
 {
@@ -99,7 +99,7 @@ fn all_planned(job: &[u8], index: &[u32], t: TableId) -> bool
 }
 
 // Whether each row loop that anchors a repeat table plans one repeat segment of it.
-pub fn repeat_planned(job: &[u8], index: &[u32], t: TableId) -> bool
+pub fn repeat_planned(job: &[u8], index: &[u16], t: TableId) -> bool
     requires { ⌜ Ready (now job) (now index) ⌝ }
     ensures { λ r. ⌜ r ≡ not (repeatedIn (outlineAt (now (job .entry))) (t .0)) || each-of ((tableOf (outlineAt (now (job .entry))) (t .0)) .loops) (plannedOnce (outlineAt (now (job .entry))) (t .0)) ⌝ }
 {
@@ -111,7 +111,7 @@ pub fn repeat_planned(job: &[u8], index: &[u32], t: TableId) -> bool
 }
 
 // Whether table t lists loop l.
-fn lists(job: &[u8], index: &[u32], l: LoopId, t: TableId) -> bool
+fn lists(job: &[u8], index: &[u16], l: LoopId, t: TableId) -> bool
     requires { ⌜ Ready (now job) (now index) ⌝ }
     ensures { λ r. ⌜ r ≡ ltb 0 (times (l .0) ((tableOf (outlineAt (now (job .entry))) (t .0)) .loops)) ⌝ }
 {
@@ -127,7 +127,7 @@ fn lists(job: &[u8], index: &[u32], l: LoopId, t: TableId) -> bool
     false
 }
 
-fn anchors(job: &[u8], index: &[u32], l: LoopId, t: TableId) -> bool
+fn anchors(job: &[u8], index: &[u16], l: LoopId, t: TableId) -> bool
     requires { ⌜ Ready (now job) (now index) × (l .0 < 32) ⌝ }
     ensures { λ r. ⌜ r ≡ anchorsIn (outlineAt (now (job .entry))) (l .0) (t .0) ⌝ }
 {
@@ -143,7 +143,7 @@ fn anchors(job: &[u8], index: &[u32], l: LoopId, t: TableId) -> bool
     has_rows(k)
 }
 
-fn source_anchored(job: &[u8], index: &[u32], l: LoopId, s: Source) -> bool
+fn source_anchored(job: &[u8], index: &[u16], l: LoopId, s: Source) -> bool
     requires { ⌜ Ready (now job) (now index) × (l .0 < 32) ⌝ }
     ensures { λ r. ⌜ r ≡ if-there (repeatTable (sourceIn (sourceOf s))) (anchorsIn (outlineAt (now (job .entry))) (l .0)) ⌝ }
 {
@@ -155,7 +155,7 @@ fn source_anchored(job: &[u8], index: &[u32], l: LoopId, s: Source) -> bool
 }
 
 // Whether planned segment i of loop l, if it repeats a table, repeats one that the loop anchors.
-pub fn anchored(job: &[u8], index: &[u32], l: LoopId, i: u32) -> bool
+pub fn anchored(job: &[u8], index: &[u16], l: LoopId, i: u32) -> bool
     requires { ⌜ Ready (now job) (now index) × (l .0 < 32) ⌝ }
     ensures { λ r. ⌜ r ≡ if-there (repeatTable ((segmentOf (outlineAt (now (job .entry))) (l .0) i) .source)) (anchorsIn (outlineAt (now (job .entry))) (l .0)) ⌝ }
 {

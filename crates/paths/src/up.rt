@@ -26,7 +26,7 @@ pub enum Up {
     On(u32, u32),
 }
 
-fn parent_is(job: &[u8], index: &[u32], w: TableId, v: TableId) -> bool
+fn parent_is(job: &[u8], index: &[u16], w: TableId, v: TableId) -> bool
     requires { ⌜ Ready (now job) (now index) ⌝ }
     ensures { λ r. ⌜ r ≡ is (tableParent (outlineAt (now (job .entry))) (w .0)) (v .0) ⌝ }
 {
@@ -38,7 +38,7 @@ fn parent_is(job: &[u8], index: &[u32], w: TableId, v: TableId) -> bool
 }
 
 // Above a loop without parent: well where the table has none either.
-fn top(job: &[u8], index: &[u32], w: TableId) -> Up
+fn top(job: &[u8], index: &[u16], w: TableId) -> Up
     requires { ⌜ Ready (now job) (now index) ⌝ }
     ensures { λ r. ⌜ ((h : ℕ) → on (tableParent (outlineAt (now (job .entry))) (w .0)) (λ u. false) true ≡ outcome (outlineAt (now (job .entry))) h r) ⌝ }
 {
@@ -49,7 +49,7 @@ fn top(job: &[u8], index: &[u32], w: TableId) -> Up
     }
 }
 
-fn past_rows(job: &[u8], index: &[u32], p: LoopId, w: TableId, v: TableId) -> Up
+fn past_rows(job: &[u8], index: &[u16], p: LoopId, w: TableId, v: TableId) -> Up
     requires { ⌜ Ready (now job) (now index) ⌝ }
     ensures { λ r. ⌜ ((h : ℕ) → is (tableParent (outlineAt (now (job .entry))) (w .0)) (v .0) && fitsIn (outlineAt (now (job .entry))) h (p .0) (v .0) ≡ outcome (outlineAt (now (job .entry))) h r) ⌝ }
 {
@@ -69,7 +69,7 @@ fn past_groups(p: LoopId, w: TableId, v: TableId) -> Up
     Up::No
 }
 
-fn past_kind(job: &[u8], index: &[u32], p: LoopId, w: TableId, k: Instances) -> Up
+fn past_kind(job: &[u8], index: &[u16], p: LoopId, w: TableId, k: Instances) -> Up
     requires { ⌜ Ready (now job) (now index) ⌝ }
     ensures { λ r. ⌜ ((h : ℕ) → past (outlineAt (now (job .entry))) (fitsIn (outlineAt (now (job .entry))) h (p .0)) (w .0) (kindIn (instancesOf k)) ≡ outcome (outlineAt (now (job .entry))) h r) ⌝ }
 {
@@ -83,7 +83,7 @@ fn past_kind(job: &[u8], index: &[u32], p: LoopId, w: TableId, k: Instances) -> 
     }
 }
 
-fn past_loop(job: &[u8], index: &[u32], p: LoopId, w: TableId) -> Up
+fn past_loop(job: &[u8], index: &[u16], p: LoopId, w: TableId) -> Up
     requires { ⌜ Ready (now job) (now index) × (p .0 < 32) ⌝ }
     ensures { λ r. ⌜ ((h : ℕ) → past (outlineAt (now (job .entry))) (fitsIn (outlineAt (now (job .entry))) h (p .0)) (w .0) (kindOf (outlineAt (now (job .entry))) (p .0)) ≡ outcome (outlineAt (now (job .entry))) h r) ⌝ }
 {
@@ -91,7 +91,7 @@ fn past_loop(job: &[u8], index: &[u32], p: LoopId, w: TableId) -> Up
     past_kind(job, index, p, w, k)
 }
 
-fn step_up(job: &[u8], index: &[u32], l: LoopId, w: TableId) -> Up
+fn step_up(job: &[u8], index: &[u16], l: LoopId, w: TableId) -> Up
     requires { ⌜ Ready (now job) (now index) ⌝ }
     ensures { λ r. ⌜ ((h : ℕ) → fitsIn (outlineAt (now (job .entry))) (suc h) (l .0) (w .0) ≡ outcome (outlineAt (now (job .entry))) h r) ⌝ }
 {
@@ -102,7 +102,7 @@ fn step_up(job: &[u8], index: &[u32], l: LoopId, w: TableId) -> Up
     }
 }
 
-fn fits(job: &[u8], index: &[u32], l: LoopId, w: TableId) -> bool
+fn fits(job: &[u8], index: &[u16], l: LoopId, w: TableId) -> bool
     requires { ⌜ Ready (now job) (now index) ⌝ }
     ensures { λ r. ⌜ r ≡ fitsIn (outlineAt (now (job .entry))) (length (outlineAt (now (job .entry)) .loops)) (l .0) (w .0) ⌝ }
 {
@@ -128,7 +128,7 @@ fn fits(job: &[u8], index: &[u32], l: LoopId, w: TableId) -> bool
     false
 }
 
-fn kind_fits(job: &[u8], index: &[u32], l: LoopId, k: Instances) -> bool
+fn kind_fits(job: &[u8], index: &[u16], l: LoopId, k: Instances) -> bool
     requires { ⌜ Ready (now job) (now index) × (kindIn (instancesOf k) ≡ kindOf (outlineAt (now job)) (l .0)) ⌝ }
     ensures { λ r. ⌜ r ≡ rowFits (outlineAt (now (job .entry))) (l .0) ⌝ }
 {
@@ -143,7 +143,7 @@ fn kind_fits(job: &[u8], index: &[u32], l: LoopId, k: Instances) -> bool
 }
 
 // Whether the loops above a row loop fit its table.
-pub fn row_fits(job: &[u8], index: &[u32], l: LoopId) -> bool
+pub fn row_fits(job: &[u8], index: &[u16], l: LoopId) -> bool
     requires { ⌜ Ready (now job) (now index) × (l .0 < 32) ⌝ }
     ensures { λ r. ⌜ r ≡ rowFits (outlineAt (now (job .entry))) (l .0) ⌝ }
 {

@@ -26,7 +26,7 @@ fn both(x: bool, y: bool) -> bool
 }
 
 // The places of planned segments.
-pub fn segments_fit(job: &[u8], index: &[u32]) -> bool
+pub fn segments_fit(job: &[u8], index: &[u16]) -> bool
     requires { ⌜ Ready (now job) (now index) ⌝ }
     ensures { λ r. ⌜ Decides r (SegmentsFit (jobOf (now (job .entry)))) ⌝ }
 {
@@ -36,7 +36,7 @@ pub fn segments_fit(job: &[u8], index: &[u32]) -> bool
 }
 
 // Envelope fields that give a separator.
-pub fn separators_alone(job: &[u8], index: &[u32]) -> bool
+pub fn separators_alone(job: &[u8], index: &[u16]) -> bool
     requires { ⌜ Ready (now job) (now index) × (length (jobOf (now job) .plan) ≡ length (jobOf (now job) .spec .loops)) ⌝ }
     ensures { λ r. ⌜ Decides r (SeparatorsAlone (jobOf (now (job .entry)))) ⌝ }
 {
@@ -46,7 +46,7 @@ pub fn separators_alone(job: &[u8], index: &[u32]) -> bool
 }
 
 // Condition 5, where the plan has one entry a loop.
-pub fn places_fit(job: &[u8], index: &[u32]) -> bool
+pub fn places_fit(job: &[u8], index: &[u16]) -> bool
     requires { ⌜ Ready (now job) (now index) × (length (jobOf (now job) .plan) ≡ length (jobOf (now job) .spec .loops)) ⌝ }
     ensures { λ r. ⌜ Decides r (Fits5 (jobOf (now (job .entry)))) ⌝ }
 {

@@ -1,5 +1,6 @@
 // The places of planned segments. Each function that reads tells whether whatever stands at a place is wrong.
 ghost use mathlib.Core.Path.{_≡_};
+ghost use lib.ListN.{length};
 ghost use Prim.Native.Nat.{_≤_, _<_, max};
 ghost use Rattle.codec.specs.Codec.{listC};
 ghost use Rattle.codec.specs.Forms.{numC, optC};
@@ -112,6 +113,7 @@ fn spot_wrong(step: usize, x: Spot) -> bool
 // ---- what stands in the plan
 
 fn rank_at(b: &[u8], at: usize, end: u32) -> usize
+    requires { ⌜ end ≤ length (now b) ⌝ }
     ensures { λ r. ⌜ Says (optC numC) (now (b .entry)) end at rank r ⌝ }
 {
     if codec::tag_at(b, at, end) == 1 {
@@ -122,6 +124,7 @@ fn rank_at(b: &[u8], at: usize, end: u32) -> usize
 }
 
 fn reach_at(b: &[u8], at: usize, end: u32, room: usize) -> usize
+    requires { ⌜ end ≤ length (now b) ⌝ }
     ensures { λ r. ⌜ Says valueC (now (b .entry)) end at (reachOf room) r ⌝ }
 {
     if codec::tag_at(b, at, end) == 1 {
@@ -131,6 +134,7 @@ fn reach_at(b: &[u8], at: usize, end: u32, room: usize) -> usize
 }
 
 fn spot_at(b: &[u8], at: usize, end: u32, room: usize) -> Spot
+    requires { ⌜ end ≤ length (now b) ⌝ }
     ensures { λ r. ⌜ Says elementPlanC (now (b .entry)) end at (spotOf room) r ⌝ }
 {
     let component = codec::le_at(b, 4, at, end);
@@ -146,6 +150,7 @@ fn spot_at(b: &[u8], at: usize, end: u32, room: usize) -> Spot
 }
 
 fn clashes_at(b: &[u8], at: usize, end: u32, kind: u8, step: usize, room: usize, x: Spot) -> bool
+    requires { ⌜ end ≤ length (now b) ⌝ }
     ensures { λ r. ⌜ Says elementPlanC (now (b .entry)) end at (λ (e : ElementPlan). clash kind step x (spotOf room e)) r ⌝ }
 {
     let y = spot_at(b, at, end, room);
@@ -163,6 +168,7 @@ fn clash_behind(
     room: usize,
     x: Spot,
 ) -> bool
+    requires { ⌜ end ≤ length (now b) ⌝ }
     ensures { λ r. ⌜ SaysRest elementPlanC (now (b .entry)) end rest at (anyOf (λ (e : ElementPlan). clash kind step x (spotOf room e))) r ⌝ }
 {
     let mut left = rest;
@@ -178,6 +184,7 @@ fn clash_behind(
 }
 
 fn spots_wrong(b: &[u8], at: usize, end: u32, kind: u8, step: usize, room: usize) -> bool
+    requires { ⌜ end ≤ length (now b) ⌝ }
     ensures { λ r. ⌜ Says (listC elementPlanC) (now (b .entry)) end at (wrongSpots kind step room) r ⌝ }
 {
     let mut left = codec::count_at(b, at, end);
@@ -206,8 +213,8 @@ fn at_least_1(n: u32) -> usize
 }
 
 // The elements of a repeat segment of table t.
-fn repeat_wrong(job: &[u8], index: &[u32], at: usize, end: u32, t: TableId) -> bool
-    requires { ⌜ SpecIndexed (now job) (now index) × PlanIndexed (now job) (now index) ⌝ }
+fn repeat_wrong(job: &[u8], index: &[u16], at: usize, end: u32, t: TableId) -> bool
+    requires { ⌜ SpecIndexed (now job) (now index) × PlanIndexed (now job) (now index) × (end ≤ length (now job)) ⌝ }
     ensures { λ r. ⌜ Says (listC elementPlanC) (now (job .entry)) end at (wrongSpots 2 (stepOf (jobOf (now (job .entry))) (t .0)) (max 1 (capacityOf (jobOf (now (job .entry))) (t .0)))) r ⌝ }
 {
     let step = spec::tables::step(job, index, t);
@@ -216,8 +223,8 @@ fn repeat_wrong(job: &[u8], index: &[u32], at: usize, end: u32, t: TableId) -> b
     spots_wrong(job, at, end, 2, step as usize, room)
 }
 
-fn segment_wrong(job: &[u8], index: &[u32], at: usize, end: u32) -> bool
-    requires { ⌜ SpecIndexed (now job) (now index) × PlanIndexed (now job) (now index) ⌝ }
+fn segment_wrong(job: &[u8], index: &[u16], at: usize, end: u32) -> bool
+    requires { ⌜ SpecIndexed (now job) (now index) × PlanIndexed (now job) (now index) × (end ≤ length (now job)) ⌝ }
     ensures { λ r. ⌜ Says segmentPlanC (now (job .entry)) end at (wrongSegment (jobOf (now (job .entry)))) r ⌝ }
 {
     let source = codec::le_at(job, 4, at, end);
@@ -234,8 +241,8 @@ fn segment_wrong(job: &[u8], index: &[u32], at: usize, end: u32) -> bool
     spots_wrong(job, elements, end, 0, 0, 1)
 }
 
-fn segments_wrong(job: &[u8], index: &[u32], at: usize, end: u32) -> bool
-    requires { ⌜ SpecIndexed (now job) (now index) × PlanIndexed (now job) (now index) ⌝ }
+fn segments_wrong(job: &[u8], index: &[u16], at: usize, end: u32) -> bool
+    requires { ⌜ SpecIndexed (now job) (now index) × PlanIndexed (now job) (now index) × (end ≤ length (now job)) ⌝ }
     ensures { λ r. ⌜ Says (listC segmentPlanC) (now (job .entry)) end at (anyOf (wrongSegment (jobOf (now (job .entry))))) r ⌝ }
 {
     let mut left = codec::count_at(job, at, end);
@@ -250,16 +257,16 @@ fn segments_wrong(job: &[u8], index: &[u32], at: usize, end: u32) -> bool
     false
 }
 
-fn plan_wrong(job: &[u8], index: &[u32], at: usize, end: u32) -> bool
-    requires { ⌜ SpecIndexed (now job) (now index) × PlanIndexed (now job) (now index) ⌝ }
+fn plan_wrong(job: &[u8], index: &[u16], at: usize, end: u32) -> bool
+    requires { ⌜ SpecIndexed (now job) (now index) × PlanIndexed (now job) (now index) × (end ≤ length (now job)) ⌝ }
     ensures { λ r. ⌜ Says loopPlanC (now (job .entry)) end at (wrongPlan (jobOf (now (job .entry)))) r ⌝ }
 {
     let segments = format::instances_at(job, at, end);
     segments_wrong(job, index, segments, end)
 }
 
-pub fn plans_wrong(job: &[u8], index: &[u32], at: usize, end: u32) -> bool
-    requires { ⌜ SpecIndexed (now job) (now index) × PlanIndexed (now job) (now index) ⌝ }
+pub fn plans_wrong(job: &[u8], index: &[u16], at: usize, end: u32) -> bool
+    requires { ⌜ SpecIndexed (now job) (now index) × PlanIndexed (now job) (now index) × (end ≤ length (now job)) ⌝ }
     ensures { λ r. ⌜ Says (listC loopPlanC) (now (job .entry)) end at (anyOf (wrongPlan (jobOf (now (job .entry))))) r ⌝ }
 {
     let mut left = codec::count_at(job, at, end);

@@ -1,5 +1,6 @@
 // Envelope fields that give a separator. Each function that reads tells whether whatever stands at a place is wrong.
 ghost use mathlib.Core.Path.{_≡_};
+ghost use lib.ListN.{length};
 ghost use mathlib.Core.List.{List};
 ghost use Prim.Native.Nat.{_≤_, _<_};
 ghost use Rattle.codec.specs.Codec.{_⊗_, listC};
@@ -53,6 +54,7 @@ fn position_gives(depth: usize, repeated: bool, plain: bool, position: u32) -> b
 }
 
 fn element_gives(b: &[u8], at: usize, end: u32, t: Trigger) -> bool
+    requires { ⌜ end ≤ length (now b) ⌝ }
     ensures { λ r. ⌜ Says (numC ⊗ elementC) (now (b .entry)) end at (gives t) r ⌝ }
 {
     let opener = t.opener;
@@ -74,6 +76,7 @@ fn element_gives(b: &[u8], at: usize, end: u32, t: Trigger) -> bool
 // ---- elements with components
 
 fn part_at(b: &[u8], at: usize, end: u32, n: usize) -> bool
+    requires { ⌜ end ≤ length (now b) ⌝ }
     ensures { λ r. ⌜ Says elementPlanC (now (b .entry)) end at (partOf n) r ⌝ }
 {
     let component = codec::le_at(b, 4, at, end);
@@ -83,6 +86,7 @@ fn part_at(b: &[u8], at: usize, end: u32, n: usize) -> bool
 }
 
 fn parts_at(b: &[u8], at: usize, end: u32, n: usize) -> bool
+    requires { ⌜ end ≤ length (now b) ⌝ }
     ensures { λ r. ⌜ Says (listC elementPlanC) (now (b .entry)) end at (anyOf (partOf n)) r ⌝ }
 {
     let mut left = codec::count_at(b, at, end);
@@ -99,6 +103,7 @@ fn parts_at(b: &[u8], at: usize, end: u32, n: usize) -> bool
 
 // The planned elements stand at own.
 fn crowded_at(b: &[u8], at: usize, end: u32, own: usize, bound: u32) -> bool
+    requires { ⌜ (end ≤ length (now b)) × (bound ≤ length (now b)) ⌝ }
     ensures { λ r. ⌜ ((es : List ElementPlan) → Is (listC elementPlanC) (now (b .entry)) bound own es → Says (numC ⊗ elementC) (now (b .entry)) end at (crowded es) r) ⌝ }
 {
     let value = codec::le_at(b, 4, at, end);
@@ -112,6 +117,7 @@ fn crowded_at(b: &[u8], at: usize, end: u32, own: usize, bound: u32) -> bool
 }
 
 fn element_wrong(b: &[u8], at: usize, end: u32, t: Trigger, own: usize, bound: u32) -> bool
+    requires { ⌜ (end ≤ length (now b)) × (bound ≤ length (now b)) ⌝ }
     ensures { λ r. ⌜ ((es : List ElementPlan) → Is (listC elementPlanC) (now (b .entry)) bound own es → Says (numC ⊗ elementC) (now (b .entry)) end at (wrongElement t es) r) ⌝ }
 {
     let x = element_gives(b, at, end, t);
@@ -120,6 +126,7 @@ fn element_wrong(b: &[u8], at: usize, end: u32, t: Trigger, own: usize, bound: u
 }
 
 fn elements_wrong(b: &[u8], at: usize, end: u32, t: Trigger, own: usize, bound: u32) -> bool
+    requires { ⌜ (end ≤ length (now b)) × (bound ≤ length (now b)) ⌝ }
     ensures { λ r. ⌜ ((es : List ElementPlan) → Is (listC elementPlanC) (now (b .entry)) bound own es → Says (listC (numC ⊗ elementC)) (now (b .entry)) end at (anyOf (wrongElement t es)) r) ⌝ }
 {
     let mut left = codec::count_at(b, at, end);
@@ -138,6 +145,7 @@ fn elements_wrong(b: &[u8], at: usize, end: u32, t: Trigger, own: usize, bound: 
 // ---- planned segments: the definitions of the trigger's elements stand at defs
 
 fn trigger_wrong(b: &[u8], at: usize, end: u32, t: Trigger, defs: usize, bound: u32) -> bool
+    requires { ⌜ (end ≤ length (now b)) × (bound ≤ length (now b)) ⌝ }
     ensures { λ r. ⌜ ((xs : SegmentDef) → Is (listC (numC ⊗ elementC)) (now (b .entry)) bound defs xs → Says segmentPlanC (now (b .entry)) end at (wrongTrigger t xs) r) ⌝ }
 {
     let source = codec::le_at(b, 4, at, end);
@@ -150,6 +158,7 @@ fn trigger_wrong(b: &[u8], at: usize, end: u32, t: Trigger, defs: usize, bound: 
 }
 
 fn triggers_wrong(b: &[u8], at: usize, end: u32, t: Trigger, defs: usize, bound: u32) -> bool
+    requires { ⌜ (end ≤ length (now b)) × (bound ≤ length (now b)) ⌝ }
     ensures { λ r. ⌜ ((xs : SegmentDef) → Is (listC (numC ⊗ elementC)) (now (b .entry)) bound defs xs → Says (listC segmentPlanC) (now (b .entry)) end at (anyOf (wrongTrigger t xs)) r) ⌝ }
 {
     let mut left = codec::count_at(b, at, end);
@@ -166,7 +175,7 @@ fn triggers_wrong(b: &[u8], at: usize, end: u32, t: Trigger, defs: usize, bound:
 
 // ---- loops
 
-fn trigger_of(job: &[u8], index: &[u32], l: LoopId, opener: usize) -> Trigger
+fn trigger_of(job: &[u8], index: &[u16], l: LoopId, opener: usize) -> Trigger
     requires { ⌜ Ready (now job) (now index) × (l .0 < 32) ⌝ }
     ensures { λ r. ⌜ r ≡ triggerOf (jobOf (now (job .entry))) (l .0) opener ⌝ }
 {
@@ -186,8 +195,8 @@ fn trigger_of(job: &[u8], index: &[u32], l: LoopId, opener: usize) -> Trigger
     }
 }
 
-fn ruled_wrong(job: &[u8], index: &[u32], at: usize, end: u32, l: LoopId, opener: usize) -> bool
-    requires { ⌜ Ready (now job) (now index) × (l .0 < 32) ⌝ }
+fn ruled_wrong(job: &[u8], index: &[u16], at: usize, end: u32, l: LoopId, opener: usize) -> bool
+    requires { ⌜ Ready (now job) (now index) × (l .0 < 32) × (end ≤ length (now job)) ⌝ }
     ensures { λ r. ⌜ Says loopPlanC (now (job .entry)) end at (wrongRuled (jobOf (now (job .entry))) (l .0) opener) r ⌝ }
 {
     let t = trigger_of(job, index, l, opener);
@@ -201,8 +210,8 @@ fn ruled_wrong(job: &[u8], index: &[u32], at: usize, end: u32, l: LoopId, opener
     }
 }
 
-fn loop_wrong(job: &[u8], index: &[u32], at: usize, end: u32, l: LoopId) -> bool
-    requires { ⌜ Ready (now job) (now index) × (l .0 < 32) ⌝ }
+fn loop_wrong(job: &[u8], index: &[u16], at: usize, end: u32, l: LoopId) -> bool
+    requires { ⌜ Ready (now job) (now index) × (l .0 < 32) × (end ≤ length (now job)) ⌝ }
     ensures { λ r. ⌜ Says loopPlanC (now (job .entry)) end at (wrongLoopAt (jobOf (now (job .entry))) (l .0)) r ⌝ }
 {
     let c = spec::loops::control(job, index, l);
@@ -212,8 +221,8 @@ fn loop_wrong(job: &[u8], index: &[u32], at: usize, end: u32, l: LoopId) -> bool
     }
 }
 
-pub fn loops_wrong(job: &[u8], index: &[u32], at: usize, end: u32) -> bool
-    requires { ⌜ Ready (now job) (now index) × (countAt (now job) at end ≤ 32) ⌝ }
+pub fn loops_wrong(job: &[u8], index: &[u16], at: usize, end: u32) -> bool
+    requires { ⌜ Ready (now job) (now index) × (countAt (now job) at end ≤ 32) × (end ≤ length (now job)) ⌝ }
     ensures { λ r. ⌜ Says (listC loopPlanC) (now (job .entry)) end at (anyFrom (wrongLoopAt (jobOf (now (job .entry)))) 0) r ⌝ }
 {
     let mut left = codec::count_at(job, at, end);

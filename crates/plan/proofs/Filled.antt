@@ -76,10 +76,10 @@ module _ (b old d new : List ℕ) (x : Passed b) (p : PlanInto b (layoutStart b)
   low′ : envelopeStart b ≤ length b
   low′ = omega (arith, x .sound .least, x .sound .envelope, x .sound .tables)
 
-  fits : layoutStart b < 4294967296
+  fits : layoutStart b < 65536
   fits = omega (arith, low, x .sound .most)
 
-  fits′ : envelopeStart b < 4294967296
+  fits′ : envelopeStart b < 65536
   fits′ = omega (arith, low′, x .sound .most)
 
   few-segments : (l : ℕ) → length ((planOf (jobOf b) l) .segments) ≤ 32

@@ -1,8 +1,8 @@
 // The region of the index that belongs to plan and layout, and how it is filled.
 ghost use mathlib.Core.Path.{_≡_};
 ghost use mathlib.Core.List.{List};
-ghost use Prim.Native.Nat.{ℕ, _+_};
-ghost use lib.ListN.{getD};
+ghost use Prim.Native.Nat.{ℕ, _+_, _≤_};
+ghost use lib.ListN.{getD, length};
 ghost use Rattle.codec.specs.Codec.{le};
 ghost use Rattle.format.specs.Passed.{Passed};
 ghost use Rattle.plan.specs.Index.{PlanFilled};
@@ -26,7 +26,8 @@ pub const CAPACITY: usize = 1189;
 pub const SEGMENTS: usize = 1222;
 
 // Stores the place of the plan of loop l and those of its planned segments, if it is among the first 32; answers the place behind it.
-pub fn loop_plan_into(job: &[u8], index: &mut [u32], l: usize, p: usize, end: u32) -> usize
+pub fn loop_plan_into(job: &[u8], index: &mut [u16], l: usize, p: usize, end: u32) -> usize
+    requires { ⌜ end ≤ length (now job) ⌝ }
     ensures { λ r. ⌜ ((start : ℕ) (old : List ℕ) → PlanLists (now (job .entry)) end start l p old (now (index .entry)) → PlanLists (now (job .entry)) end start (l + 1) r old (now (index .exit))) ⌝ }
 {
     if l < 32 {
@@ -38,7 +39,8 @@ pub fn loop_plan_into(job: &[u8], index: &mut [u32], l: usize, p: usize, end: u3
 }
 
 // Stores the places of the plan that stands at a place.
-pub fn plan_into(job: &[u8], index: &mut [u32], at: usize, end: u32)
+pub fn plan_into(job: &[u8], index: &mut [u16], at: usize, end: u32)
+    requires { ⌜ end ≤ length (now job) ⌝ }
     ensures { λ r. ⌜ PlanInto (now (job .entry)) end at (now (index .entry)) (now (index .exit)) ⌝ }
 {
     let n = codec::count_at(job, at, end);
@@ -52,7 +54,8 @@ pub fn plan_into(job: &[u8], index: &mut [u32], at: usize, end: u32)
 }
 
 // Stores the places of the layout that stands at a place.
-pub fn layout_into(job: &[u8], index: &mut [u32], at: usize, end: u32)
+pub fn layout_into(job: &[u8], index: &mut [u16], at: usize, end: u32)
+    requires { ⌜ end ≤ length (now job) ⌝ }
     ensures { λ r. ⌜ LayoutInto (now (job .entry)) end at (now (index .entry)) (now (index .exit)) ⌝ }
 {
     let forced = list_into(job, index, Part::Order, ORDER, at, end);
@@ -63,7 +66,7 @@ pub fn layout_into(job: &[u8], index: &mut [u32], at: usize, end: u32)
 }
 
 // Fills the region.
-pub fn fill(job: &[u8], index: &mut [u32])
+pub fn fill(job: &[u8], index: &mut [u16])
     requires { ⌜ Passed (now job) ⌝ }
     ensures { λ r. ⌜ PlanFilled (now (job .entry)) (now (index .entry)) (now (index .exit)) ⌝ }
 {
@@ -76,7 +79,7 @@ pub fn fill(job: &[u8], index: &mut [u32])
 }
 
 // How many items the list has whose place is number k of the index.
-pub fn list_count(job: &[u8], index: &[u32], k: usize) -> u32
+pub fn list_count(job: &[u8], index: &[u16], k: usize) -> u32
     ensures { λ r. ⌜ r ≡ le 4 (now (job .entry)) (getD (now (index .entry)) k 0) ⌝ }
 {
     let p = codec::place(index, k);

@@ -20,7 +20,7 @@ use spec::ids::LoopId;
 use spec::ids::TableId;
 
 // How many items the order of a loop has.
-pub fn order_count(job: &[u8], index: &[u32], l: LoopId) -> u32
+pub fn order_count(job: &[u8], index: &[u16], l: LoopId) -> u32
     requires { ⌜ PlanIndexed (now job) (now index) × (l .0 < 32) ⌝ }
     ensures { λ r. ⌜ r ≡ length (orderOf (jobOf (now (job .entry))) (l .0)) ⌝ }
 {
@@ -28,7 +28,7 @@ pub fn order_count(job: &[u8], index: &[u32], l: LoopId) -> u32
 }
 
 // The order of a loop.
-pub fn order(job: &[u8], index: &[u32], l: LoopId) -> Order
+pub fn order(job: &[u8], index: &[u16], l: LoopId) -> Order
     requires { ⌜ PlanIndexed (now job) (now index) × (l .0 < 32) ⌝ }
     ensures { λ r. ⌜ OrderIs (now (job .entry)) (l .0) r ⌝ }
 {
@@ -49,7 +49,7 @@ pub fn order_item(job: &[u8], o: Order, k: u32) -> Item
 }
 
 // Item k of the order of a loop.
-pub fn item(job: &[u8], index: &[u32], l: LoopId, k: u32) -> Item
+pub fn item(job: &[u8], index: &[u16], l: LoopId, k: u32) -> Item
     requires { ⌜ PlanIndexed (now job) (now index) × (l .0 < 32) ⌝ }
     ensures { λ r. ⌜ itemOf r ≡ getD (orderOf (jobOf (now (job .entry))) (l .0)) k noItem ⌝ }
 {
@@ -61,7 +61,7 @@ pub fn item(job: &[u8], index: &[u32], l: LoopId, k: u32) -> Item
 }
 
 // Whether planned segment i of a loop is written also where none of its columns has a value.
-pub fn forced(job: &[u8], index: &[u32], l: LoopId, i: u32) -> bool
+pub fn forced(job: &[u8], index: &[u16], l: LoopId, i: u32) -> bool
     requires { ⌜ PlanIndexed (now job) (now index) × (l .0 < 32) ⌝ }
     ensures { λ r. ⌜ r ≡ forcedOf (jobOf (now (job .entry))) (l .0) i ⌝ }
 {
@@ -75,7 +75,7 @@ pub fn forced(job: &[u8], index: &[u32], l: LoopId, i: u32) -> bool
 }
 
 // How many columns make the groups of a loop.
-pub fn group_column_count(job: &[u8], index: &[u32], l: LoopId) -> u32
+pub fn group_column_count(job: &[u8], index: &[u16], l: LoopId) -> u32
     requires { ⌜ PlanIndexed (now job) (now index) × (l .0 < 32) ⌝ }
     ensures { λ r. ⌜ r ≡ length (groupColumnsOf (jobOf (now (job .entry))) (l .0)) ⌝ }
 {
@@ -83,7 +83,7 @@ pub fn group_column_count(job: &[u8], index: &[u32], l: LoopId) -> u32
 }
 
 // Group column k of a loop.
-pub fn group_column(job: &[u8], index: &[u32], l: LoopId, k: u32) -> u32
+pub fn group_column(job: &[u8], index: &[u16], l: LoopId, k: u32) -> u32
     requires { ⌜ PlanIndexed (now job) (now index) × (l .0 < 32) ⌝ }
     ensures { λ r. ⌜ r ≡ getD (groupColumnsOf (jobOf (now (job .entry))) (l .0)) k 0 ⌝ }
 {
@@ -96,7 +96,7 @@ pub fn group_column(job: &[u8], index: &[u32], l: LoopId, k: u32) -> u32
 }
 
 // The depth of a loop among the envelope loops; 0 where it has none.
-pub fn depth(job: &[u8], index: &[u32], l: LoopId) -> u32
+pub fn depth(job: &[u8], index: &[u16], l: LoopId) -> u32
     requires { ⌜ PlanIndexed (now job) (now index) × (l .0 < 32) ⌝ }
     ensures { λ r. ⌜ r ≡ depthOf (jobOf (now (job .entry))) (l .0) ⌝ }
 {
@@ -115,7 +115,7 @@ pub fn depth(job: &[u8], index: &[u32], l: LoopId) -> u32
 }
 
 // How many rows a repeat segment of a table takes; 1 where the layout lacks the table.
-pub fn capacity(job: &[u8], index: &[u32], t: TableId) -> u32
+pub fn capacity(job: &[u8], index: &[u16], t: TableId) -> u32
     requires { ⌜ PlanIndexed (now job) (now index) ⌝ }
     ensures { λ r. ⌜ r ≡ capacityOf (jobOf (now (job .entry))) (t .0) ⌝ }
 {

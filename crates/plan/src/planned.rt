@@ -16,7 +16,7 @@ use crate::read;
 use spec::ids::LoopId;
 
 // Where the instances of a loop come from; Absent where the plan lacks the loop.
-pub fn instances(job: &[u8], index: &[u32], l: LoopId) -> Instances
+pub fn instances(job: &[u8], index: &[u16], l: LoopId) -> Instances
     requires { ⌜ PlanIndexed (now job) (now index) × (l .0 < 32) ⌝ }
     ensures { λ r. ⌜ instancesOf r ≡ (planOf (jobOf (now (job .entry))) (l .0)) .instances ⌝ }
 {
@@ -31,7 +31,7 @@ pub fn instances(job: &[u8], index: &[u32], l: LoopId) -> Instances
 }
 
 // How many segments are planned for a loop.
-pub fn planned_count(job: &[u8], index: &[u32], l: LoopId) -> u32
+pub fn planned_count(job: &[u8], index: &[u16], l: LoopId) -> u32
     requires { ⌜ PlanIndexed (now job) (now index) × (l .0 < 32) ⌝ }
     ensures { λ r. ⌜ r ≡ length ((planOf (jobOf (now (job .entry))) (l .0)) .segments) ⌝ }
 {
@@ -46,7 +46,7 @@ pub fn planned_count(job: &[u8], index: &[u32], l: LoopId) -> u32
 }
 
 // What fills planned segment i of a loop.
-pub fn source(job: &[u8], index: &[u32], l: LoopId, i: u32) -> Source
+pub fn source(job: &[u8], index: &[u16], l: LoopId, i: u32) -> Source
     requires { ⌜ PlanIndexed (now job) (now index) × (l .0 < 32) ⌝ }
     ensures { λ r. ⌜ sourceOf r ≡ (plannedOf (jobOf (now (job .entry))) (l .0) i) .source ⌝ }
 {
@@ -59,7 +59,7 @@ pub fn source(job: &[u8], index: &[u32], l: LoopId, i: u32) -> Source
 }
 
 // Which occurrence of its loop planned segment i is.
-pub fn occurrence_of(job: &[u8], index: &[u32], l: LoopId, i: u32) -> u32
+pub fn occurrence_of(job: &[u8], index: &[u16], l: LoopId, i: u32) -> u32
     requires { ⌜ PlanIndexed (now job) (now index) × (l .0 < 32) ⌝ }
     ensures { λ r. ⌜ r ≡ (plannedOf (jobOf (now (job .entry))) (l .0) i) .occurrence ⌝ }
 {
@@ -72,7 +72,7 @@ pub fn occurrence_of(job: &[u8], index: &[u32], l: LoopId, i: u32) -> u32
 }
 
 // Planned segment i of a loop.
-pub fn segment(job: &[u8], index: &[u32], l: LoopId, i: u32) -> Planned
+pub fn segment(job: &[u8], index: &[u16], l: LoopId, i: u32) -> Planned
     requires { ⌜ PlanIndexed (now job) (now index) × (l .0 < 32) ⌝ }
     ensures { λ r. ⌜ PlannedIs (now (job .entry)) (l .0) i r ⌝ }
 {

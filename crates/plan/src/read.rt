@@ -197,7 +197,7 @@ pub fn item_at(job: &[u8], at: usize) -> Item
 }
 
 // How many items the list of loop l has, among the lists whose numbers in the index begin at k.
-pub fn inner_count(job: &[u8], index: &[u32], k: usize, l: u32) -> u32
+pub fn inner_count(job: &[u8], index: &[u16], k: usize, l: u32) -> u32
     requires { ⌜ k < 4294967296 ⌝ }
     ensures { λ r. ⌜ r ≡ innerCount (now (job .entry)) (now (index .entry)) k l ⌝ }
 {

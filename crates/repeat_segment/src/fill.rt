@@ -77,7 +77,7 @@ fn quiet(job: &[u8], cell: Cell, d: Delimiters) -> bool
 // The findings on the text of a cell at element p.
 fn note_text(
     job: &[u8],
-    index: &[u32],
+    index: &[u16],
     findings: &mut [u64],
     at: usize,
     s: Planned,
@@ -102,7 +102,7 @@ fn note_text(
 // The findings on a cell at element p; its text is made only where it may have one.
 fn note_cell(
     job: &[u8],
-    index: &[u32],
+    index: &[u16],
     findings: &mut [u64],
     at: usize,
     s: Planned,
@@ -126,7 +126,7 @@ fn note_cell(
 // The findings on a planned element at p.
 fn note_source(
     job: &[u8],
-    index: &[u32],
+    index: &[u16],
     findings: &mut [u64],
     at: usize,
     s: Planned,
@@ -150,7 +150,7 @@ fn note_source(
 // The findings on a planned element for row number k.
 fn note_element(
     job: &[u8],
-    index: &[u32],
+    index: &[u16],
     findings: &mut [u64],
     at: usize,
     s: Planned,
@@ -196,7 +196,7 @@ fn entries_of(e: ElementPlan, step: u32, k: u32) -> usize
 // The planned elements one by one.
 pub fn fill_elements(
     job: &[u8],
-    index: &[u32],
+    index: &[u16],
     findings: &mut [u64],
     state: Counts,
     s: Planned,

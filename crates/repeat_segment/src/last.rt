@@ -34,7 +34,7 @@ fn number_of(m: u32, c: Number, q: Number) -> u32
     }
 }
 
-fn number_if(job: &[u8], index: &[u32], s: Planned, e: ElementPlan, m: u32, r: RowId, n: u32) -> u32
+fn number_if(job: &[u8], index: &[u16], s: Planned, e: ElementPlan, m: u32, r: RowId, n: u32) -> u32
     requires { ⌜ Ready (now job) (now index) × Of (now job) s ⌝ }
     ensures { λ v. ⌜ v ≡ pick (isEmpty ((textIn (now (job .entry)) s m (r .0) (elementOf (now (job .entry)) e)) .text)) 0 n ⌝ }
 {
@@ -52,7 +52,7 @@ fn number_if(job: &[u8], index: &[u32], s: Planned, e: ElementPlan, m: u32, r: R
 // For one planned element and one row.
 fn highest_at(
     job: &[u8],
-    index: &[u32],
+    index: &[u16],
     s: Planned,
     e: ElementPlan,
     q: Number,
@@ -82,7 +82,7 @@ fn higher(a: u32, b: u32) -> u32
 // For one planned element and some rows.
 fn highest_rows(
     job: &[u8],
-    index: &[u32],
+    index: &[u16],
     rows: &[u32],
     s: Planned,
     e: ElementPlan,
@@ -106,7 +106,7 @@ fn highest_rows(
 // For one planned element and all rows: with a step one row at most stands at an element.
 fn highest_of(
     job: &[u8],
-    index: &[u32],
+    index: &[u16],
     rows: &[u32],
     count: u32,
     s: Planned,
@@ -132,7 +132,7 @@ fn highest_of(
 }
 
 // The last filled element, or the last filled component of the element asked for.
-pub fn highest_in(job: &[u8], index: &[u32], rows: &[u32], count: u32, s: Planned, q: Number) -> u32
+pub fn highest_in(job: &[u8], index: &[u16], rows: &[u32], count: u32, s: Planned, q: Number) -> u32
     requires { ⌜ Ready (now job) (now index) × Of (now job) s × (count ≤ 256) × (count ≤ length (now rows)) ⌝ }
     ensures { λ v. ⌜ v ≡ highest (numberBy (numberOf q)) (partsOf (now (job .entry)) s (now (rows .entry)) count) ⌝ }
 {

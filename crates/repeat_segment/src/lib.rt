@@ -27,7 +27,7 @@ ghost use Rattle.repeat_segment.specs.Planned.{Of};
 // Row number k of a chunk: the findings on its cells, a trace entry for each.
 pub fn fill_row(
     job: &[u8],
-    index: &[u32],
+    index: &[u16],
     findings: &mut [u64],
     s: Counts,
     segment: Planned,
@@ -55,7 +55,7 @@ fn source_of(rows: &[u32], count: usize, t: TableId) -> From
 // The segment of a chunk: its first `count` rows.
 pub fn write_chunk(
     job: &[u8],
-    index: &[u32],
+    index: &[u16],
     rows: &[u32],
     count: usize,
     doc: &mut [u8],

@@ -119,7 +119,7 @@ fn put_own(doc: &mut [u8], sep: Separators, pen: Pen, p: u32, text: Text) -> Pen
 fn put_said(
     doc: &mut [u8],
     job: &[u8],
-    index: &[u32],
+    index: &[u16],
     sep: Separators,
     s: Planned,
     pen: Pen,
@@ -140,7 +140,7 @@ fn put_said(
 fn put_cell(
     doc: &mut [u8],
     job: &[u8],
-    index: &[u32],
+    index: &[u16],
     sep: Separators,
     s: Planned,
     pen: Pen,
@@ -167,7 +167,7 @@ fn put_cell(
 fn put_source(
     doc: &mut [u8],
     job: &[u8],
-    index: &[u32],
+    index: &[u16],
     sep: Separators,
     s: Planned,
     pen: Pen,
@@ -203,7 +203,7 @@ fn put_source(
 fn put_element(
     doc: &mut [u8],
     job: &[u8],
-    index: &[u32],
+    index: &[u16],
     sep: Separators,
     s: Planned,
     pen: Pen,
@@ -225,7 +225,7 @@ fn put_element(
 fn put_row(
     doc: &mut [u8],
     job: &[u8],
-    index: &[u32],
+    index: &[u16],
     sep: Separators,
     s: Planned,
     pen: Pen,
@@ -251,7 +251,7 @@ fn put_row(
 fn put_rows(
     doc: &mut [u8],
     job: &[u8],
-    index: &[u32],
+    index: &[u16],
     rows: &[u32],
     count: u32,
     sep: Separators,
@@ -276,7 +276,7 @@ pub fn put_ordered(
     doc: &mut [u8],
     at: usize,
     job: &[u8],
-    index: &[u32],
+    index: &[u16],
     rows: &[u32],
     count: u32,
     sep: Separators,

@@ -101,7 +101,7 @@ pub fn source_of(v: ValueSource) -> Source
 }
 
 // The text of a planned element at element p.
-pub fn text(job: &[u8], index: &[u32], s: Planned, e: ElementPlan, p: u32, r: RowId) -> Written
+pub fn text(job: &[u8], index: &[u16], s: Planned, e: ElementPlan, p: u32, r: RowId) -> Written
     requires { ⌜ Ready (now job) (now index) × Of (now job) s ⌝ }
     ensures { λ w. ⌜ Writes (now (job .entry)) w (textIn (now (job .entry)) s p (r .0) (elementOf (now (job .entry)) e)) ⌝ }
 {

@@ -20,7 +20,7 @@ pub struct Planned {
     pub count: u32,
 }
 
-pub fn planned_segment(job: &[u8], index: &[u32], l: LoopId, i: u32, t: TableId) -> Planned
+pub fn planned_segment(job: &[u8], index: &[u16], l: LoopId, i: u32, t: TableId) -> Planned
     requires { ⌜ Ready (now job) (now index) × (l .0 < 32) ⌝ }
     ensures { λ s. ⌜ Of (now (job .entry)) s × (s .l ≡ l) × (s .i ≡ i) × (s .table ≡ t) ⌝ }
 {

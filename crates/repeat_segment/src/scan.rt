@@ -79,7 +79,7 @@ fn first_at(job: &[u8], s: Planned, count: u32, p: u32, rank: u64) -> First
     f
 }
 
-fn found_value(job: &[u8], index: &[u32], rows: &[u32], s: Planned, p: u32, f: First) -> Value
+fn found_value(job: &[u8], index: &[u16], rows: &[u32], s: Planned, p: u32, f: First) -> Value
     requires { ⌜ Ready (now job) (now index) × Of (now job) s × (f .row < length (now rows)) ⌝ }
     ensures { λ v. ⌜ valueText (now (job .entry)) v ≡ (textIn (now (job .entry)) s p (getD (now (rows .entry)) (f .row) 0) (elementOf (now (job .entry)) (f .plan))) .text ⌝ }
 {
@@ -92,7 +92,7 @@ fn found_value(job: &[u8], index: &[u32], rows: &[u32], s: Planned, p: u32, f: F
 
 fn ranked_value(
     job: &[u8],
-    index: &[u32],
+    index: &[u16],
     rows: &[u32],
     count: u32,
     s: Planned,
@@ -109,7 +109,7 @@ fn ranked_value(
     segment::held(0, 0)
 }
 
-fn first_component(job: &[u8], index: &[u32], rows: &[u32], count: u32, s: Planned, p: u32) -> Value
+fn first_component(job: &[u8], index: &[u16], rows: &[u32], count: u32, s: Planned, p: u32) -> Value
     requires { ⌜ Ready (now job) (now index) × Of (now job) s × (count ≤ 256) × (count ≤ length (now rows)) ⌝ }
     ensures { λ v. ⌜ valueText (now (job .entry)) v ≡ repeatText (partsOf (now (job .entry)) s (now (rows .entry)) count) p 1 ⌝ }
 {
@@ -123,7 +123,7 @@ fn first_component(job: &[u8], index: &[u32], rows: &[u32], count: u32, s: Plann
 // The text of component c of element p.
 pub fn component_value(
     job: &[u8],
-    index: &[u32],
+    index: &[u16],
     rows: &[u32],
     count: u32,
     s: Planned,

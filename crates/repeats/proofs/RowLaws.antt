@@ -25,7 +25,7 @@ use Rattle.nest.specs.Lists.{keep, first, from, upTo}
 use Rattle.nest.specs.Outline.{Outline, rowCount, repeated}
 use Rattle.nest.specs.Nest.{hooked, repeatRows}
 use Rattle.nest.specs.Found.{foundBy, nestAt, heldAt, hookedAt}
-use Rattle.nest.specs.Rising.{Climbs, Parted}
+use Rattle.nest.specs.Rising.{Climbs, Parted, rises}
 use Rattle.nest.specs.Ready.{Ready, outlineAt}
 use Rattle.nest.specs.OfJob.{outlineOf}
 use Rattle.nest.proofs.Scan.{keep-alike, keep-none, keep-skip, keep-cut, upTo-all}
@@ -106,7 +106,7 @@ module _ {b idx n : List ℕ} (N : Nested b idx n) (t p : ℕ) (w : Table) (e : 
   part-all l = record { is = W; table = e; same = rows-hooked l }
 
   -- those that hang on row p, where the rows climb
-  pub part-climbs : getD n (12288 + t) 0 ≡ 1 → Climbs n (w .base) (w .rows)
+  pub part-climbs : rises n t ≡ true → Climbs n (w .base) (w .rows)
   part-climbs f = subst (λ (x : ℕ). Climbs n x (w .rows)) (sym base-is) (lent-climbs N t (w .rows) f (omega (arith, q)))
 
   module _ (low high : ℕ) (first : Parted n (w .base) 0 (w .rows) (p + 1) low) (second : Parted n (w .base) low (w .rows) (p + 2) high) where
@@ -119,7 +119,7 @@ module _ {b idx n : List ℕ} (N : Nested b idx n) (t p : ℕ) (w : Table) (e : 
         let a : 0 + low ≡ low = omega arith in
         let z : high + (w .rows - high) ≡ w .rows = omega (arith, second .within) in
         record {
-          is = record { base = W .base; rows = omega (arith, W .rows, second .within); within = omega (arith, W .within, second .within); room = W .room; few = W .few };
+          is = record { base = W .base; rows = omega (arith, W .rows, second .within); within = omega (arith, W .within, second .within); among = omega (arith, W .among, second .within); room = W .room; few = W .few };
           table = e;
           same =
               rows-hooked l
@@ -173,6 +173,7 @@ table-is {b} R w e h c =
       base = e;
       rows = omega (arith, q, rows-is (jobOf b) (w .t .0));
       within = omega (arith, e, h, rows-room (jobOf b .tables) (w .t .0), R .tables .few-rows);
+      among = omega (arith, e, h, rows-room (jobOf b .tables) (w .t .0));
       room = c .0;
       few = c .1;
     }

@@ -5,6 +5,7 @@ use mathlib.Core.Bool.{Bool}
 use mathlib.Core.List.{List}
 use lib.ListN.{length, take}
 use Rattle.format.specs.Job.{Job}
+use Rattle.format.specs.Refusal.{rowsOfAll}
 use Rattle.format.specs.Sections.{jobOf}
 use Rattle.tables.specs.Parts.{rowsBefore}
 use Rattle.nest.specs.Lists.{keep, upTo}
@@ -28,6 +29,7 @@ pub record TableIs (b : List ℕ) (w : Table) : Type 0 where
   pub base : w .base ≡ rowsBefore (jobOf b .tables) (w .t .0)
   pub rows : w .rows ≤ rowCount (outlineAt b) (w .t .0)
   pub within : w .base + w .rows ≤ 4096
+  pub among : w .base + w .rows ≤ rowsOfAll (jobOf b .tables)
   pub room : w .room ≡ max 1 (outlineAt b .capacity (w .t .0))
   pub few : w .room < 256
 

@@ -23,6 +23,7 @@ use emit::state::Mark;
 use enter::Entered;
 use nest::Found;
 use nest::order::first_at;
+use nest::order::rises;
 use repeat_segment::fill_row;
 use repeat_segment::planned::Planned;
 use repeat_segment::planned::planned_segment;
@@ -62,7 +63,7 @@ pub struct Chunk {
 }
 
 // How many rows go into a segment; 0 counts as 1.
-fn room_of(job: &[u8], index: &[u32], t: TableId) -> u32
+fn room_of(job: &[u8], index: &[u16], t: TableId) -> u32
     requires { ⌜ Ready (now job) (now index) ⌝ }
     ensures { λ n. ⌜ (n ≡ max 1 (outlineAt (now (job .entry)) .capacity (t .0))) × (n < 256) ⌝ }
 {
@@ -73,7 +74,7 @@ fn room_of(job: &[u8], index: &[u32], t: TableId) -> u32
     n
 }
 
-fn table_of(job: &[u8], index: &[u32], t: TableId) -> Table
+fn table_of(job: &[u8], index: &[u16], t: TableId) -> Table
     requires { ⌜ Ready (now job) (now index) ⌝ }
     ensures { λ w. ⌜ (w .t .0 ≡ t .0) × TableIs (now (job .entry)) w × (w .rows ≡ rowCount (outlineAt (now (job .entry))) (t .0)) ⌝ }
 {
@@ -89,22 +90,19 @@ fn table_of(job: &[u8], index: &[u32], t: TableId) -> Table
 }
 
 // The rows of table t that may go into an instance that row p opens: where the rows hang on rising rows, those that hang on p.
-fn part_of(job: &[u8], index: &[u32], nest: &[u32], t: TableId, p: RowId) -> Part
+fn part_of(job: &[u8], index: &[u16], nest: &[u32], t: TableId, p: RowId) -> Part
     requires { ⌜ Nested (now job) (now index) (now nest) × (p .0 < 4096) × (repeated (outlineAt (now job)) (t .0) ≡ true) ⌝ }
     ensures { λ r. ⌜ ((l : ℕ) → PartIs (now (job .entry)) (now (nest .entry)) (t .0) l (p .0) r) ⌝ }
 {
     let mut w = table_of(job, index, t);
-    let i = 12288 + t.0 as usize;
-    if i < nest.len() {
-        if nest[i] == 1 {
-            let low = first_at(nest, w.base, 0, w.rows, p.0 + 1);
-            let high = first_at(nest, w.base, low, w.rows, p.0 + 2);
-            w.rows = high;
-            return Part {
-                table: w,
-                from: low,
-            };
-        }
+    if rises(nest, t) {
+        let low = first_at(nest, w.base, 0, w.rows, p.0 + 1);
+        let high = first_at(nest, w.base, low, w.rows, p.0 + 2);
+        w.rows = high;
+        return Part {
+            table: w,
+            from: low,
+        };
     }
     Part { table: w, from: 0 }
 }
@@ -112,7 +110,7 @@ fn part_of(job: &[u8], index: &[u32], nest: &[u32], t: TableId, p: RowId) -> Par
 // Whether row r joins a chunk of so many rows: there is room, and it agrees with the first.
 fn joins(
     job: &[u8],
-    index: &[u32],
+    index: &[u16],
     l: LoopId,
     i: u32,
     head: RowId,
@@ -132,7 +130,7 @@ fn joins(
 // Row r is entered as number k of its chunk, and gives its cells.
 fn add_row(
     job: &[u8],
-    index: &[u32],
+    index: &[u16],
     nest: &[u32],
     rows: &mut [u32],
     findings: &mut [u64],
@@ -158,7 +156,7 @@ fn add_row(
 // The chunk is written.
 fn close(
     job: &[u8],
-    index: &[u32],
+    index: &[u16],
     rows: &[u32],
     doc: &mut [u8],
     segments: &mut [u64],
@@ -183,7 +181,7 @@ fn close(
 // Row r joins the chunk.
 fn extend(
     job: &[u8],
-    index: &[u32],
+    index: &[u16],
     nest: &[u32],
     rows: &mut [u32],
     findings: &mut [u64],
@@ -226,7 +224,7 @@ fn extend(
 // The chunk is written, and row r begins the next.
 fn cut(
     job: &[u8],
-    index: &[u32],
+    index: &[u16],
     nest: &[u32],
     rows: &mut [u32],
     doc: &mut [u8],
@@ -270,7 +268,7 @@ fn cut(
 // Row r comes to the chunk: it joins, or begins the next.
 fn add_next(
     job: &[u8],
-    index: &[u32],
+    index: &[u16],
     nest: &[u32],
     rows: &mut [u32],
     doc: &mut [u8],
@@ -309,7 +307,7 @@ fn add_next(
 // The rows from `from` on come to the chunk `first`, and the last chunk is written.
 fn add_rows(
     job: &[u8],
-    index: &[u32],
+    index: &[u16],
     nest: &[u32],
     rows: &mut [u32],
     doc: &mut [u8],
@@ -360,7 +358,7 @@ fn add_rows(
 // The planned segment is read once; the first row of all begins a chunk, and the rows behind it come to it.
 fn begin(
     job: &[u8],
-    index: &[u32],
+    index: &[u16],
     nest: &[u32],
     rows: &mut [u32],
     doc: &mut [u8],
@@ -413,7 +411,7 @@ fn begin(
 // The same for a table of repeat segments that data has, the rows of a chunk standing in `rows`.
 fn write_hooked(
     job: &[u8],
-    index: &[u32],
+    index: &[u16],
     nest: &[u32],
     rows: &mut [u32],
     doc: &mut [u8],
@@ -464,7 +462,7 @@ fn write_hooked(
 // The repeat segments of table t in the instance of loop l that row p opens: the rows that go into it, cut into chunks.
 pub fn write_repeats(
     job: &[u8],
-    index: &[u32],
+    index: &[u16],
     nest: &[u32],
     doc: &mut [u8],
     segments: &mut [u64],

@@ -62,7 +62,7 @@ fn put_stretch(
 // A cell that was read, and whose text is its own: it holds no separator.
 fn put_own(
     job: &[u8],
-    index: &[u32],
+    index: &[u16],
     doc: &mut [u8],
     findings: &mut [u64],
     s: Separators,
@@ -106,7 +106,7 @@ fn put_own(
 // Any part, by its text as a value.
 fn put_value(
     job: &[u8],
-    index: &[u32],
+    index: &[u16],
     doc: &mut [u8],
     findings: &mut [u64],
     s: Separators,
@@ -141,7 +141,7 @@ fn put_value(
 // A cell: a stretch of the job or a text of its own; one that holds a separator goes by its value.
 fn put_cell(
     job: &[u8],
-    index: &[u32],
+    index: &[u16],
     doc: &mut [u8],
     findings: &mut [u64],
     s: Separators,
@@ -198,7 +198,7 @@ fn put_cell(
 // A part at its place.
 pub fn put_part(
     job: &[u8],
-    index: &[u32],
+    index: &[u16],
     doc: &mut [u8],
     findings: &mut [u64],
     s: Separators,

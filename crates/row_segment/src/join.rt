@@ -32,7 +32,7 @@ pub struct Scanned {
 // The parts at element e with which a look begins are noted.
 fn scan(
     job: &[u8],
-    index: &[u32],
+    index: &[u16],
     findings: &mut [u64],
     t: Tally,
     x: Line,
@@ -70,7 +70,7 @@ fn scan(
 }
 
 // The text at component c of element e: that of the first part there.
-fn component_value(job: &[u8], index: &[u32], x: Line, n: Look, e: u32, c: usize) -> Value
+fn component_value(job: &[u8], index: &[u16], x: Line, n: Look, e: u32, c: usize) -> Value
     requires { ⌜ Lined (now job) (now index) x × Sees (now job) x n ⌝ }
     ensures { λ r. ⌜ valueText (now (job .entry)) r ≡ componentText (here e ((ahead (now (job .entry)) x n) .parts)) c ⌝ }
 {
@@ -94,7 +94,7 @@ fn component_value(job: &[u8], index: &[u32], x: Line, n: Look, e: u32, c: usize
 // Element e, whose last filled component is k.
 fn put_group(
     job: &[u8],
-    index: &[u32],
+    index: &[u16],
     doc: &mut [u8],
     s: Separators,
     pen: Pen,
@@ -132,7 +132,7 @@ pub struct Step {
 // The element of a look, written and noted.
 fn put_next(
     job: &[u8],
-    index: &[u32],
+    index: &[u16],
     doc: &mut [u8],
     findings: &mut [u64],
     s: Separators,
@@ -160,7 +160,7 @@ fn put_next(
 // The parts of a look, as far as their elements rise.
 fn put_groups(
     job: &[u8],
-    index: &[u32],
+    index: &[u16],
     doc: &mut [u8],
     findings: &mut [u64],
     s: Separators,
@@ -212,7 +212,7 @@ pub struct Joined {
 // The parts that no element takes are noted, and the segment ends behind its last filled element.
 fn end_line(
     job: &[u8],
-    index: &[u32],
+    index: &[u16],
     doc: &mut [u8],
     findings: &mut [u64],
     s: Separators,
@@ -238,7 +238,7 @@ fn end_line(
 // The bytes of a line from `at` on, and its notes; `from` numbers of findings stand before.
 pub fn join_any(
     job: &[u8],
-    index: &[u32],
+    index: &[u16],
     doc: &mut [u8],
     findings: &mut [u64],
     at: usize,

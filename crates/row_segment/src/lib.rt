@@ -29,7 +29,7 @@ ghost use Rattle.row_segment.specs.Notes.{Totals};
 // The bytes of a line from `at` on, and its notes; `from` numbers of findings stand before.
 fn join_line(
     job: &[u8],
-    index: &[u32],
+    index: &[u16],
     doc: &mut [u8],
     findings: &mut [u64],
     at: usize,
@@ -55,7 +55,7 @@ fn join_line(
 // The row segment of a line, written and traced.
 fn put_line(
     job: &[u8],
-    index: &[u32],
+    index: &[u16],
     doc: &mut [u8],
     segments: &mut [u64],
     findings: &mut [u64],
@@ -75,7 +75,7 @@ fn put_line(
 // Planned segment i of a loop, which is p, written from a row: one segment, its findings, its trace.
 pub fn write_row(
     job: &[u8],
-    index: &[u32],
+    index: &[u16],
     doc: &mut [u8],
     segments: &mut [u64],
     findings: &mut [u64],

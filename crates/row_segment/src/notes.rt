@@ -65,7 +65,7 @@ fn spot(x: Line, name: u64, element: u32, component: Number, column: u32) -> Spo
 }
 
 // What the texts of a line are tried for; s are the job's separators.
-pub fn tried_of(job: &[u8], index: &[u32], x: Line, s: Separators) -> Tried
+pub fn tried_of(job: &[u8], index: &[u16], x: Line, s: Separators) -> Tried
     requires { ⌜ Lined (now job) (now index) x × (s ≡ separatorsOf (jobOf (now job))) ⌝ }
     ensures { λ r. ⌜ Tries (now (job .entry)) x r ⌝ }
 {
@@ -183,7 +183,7 @@ pub fn none_noted(at: usize) -> Tally
 // The parts of a look are noted, behind those that a tally has.
 pub fn note_rest(
     job: &[u8],
-    index: &[u32],
+    index: &[u16],
     findings: &mut [u64],
     t: Tally,
     x: Line,

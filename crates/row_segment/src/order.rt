@@ -37,7 +37,7 @@ fn behind(e: u32, c: u32, at: u32, from: usize) -> bool
 }
 
 // Whether the parts of a line come in the order of their places.
-pub fn in_order(job: &[u8], index: &[u32], x: Line) -> bool
+pub fn in_order(job: &[u8], index: &[u16], x: Line) -> bool
     requires { ⌜ Lined (now job) (now index) x ⌝ }
     ensures { λ r. ⌜ (r ≡ true → Rises 1 1 ((puts (now (job .entry)) x 0) .parts)) ⌝ }
 {
@@ -68,7 +68,7 @@ pub fn in_order(job: &[u8], index: &[u32], x: Line) -> bool
 // The parts of a line, each as it comes. The pen's numbers go apart: copied as one, they would be waited for.
 fn put_parts(
     job: &[u8],
-    index: &[u32],
+    index: &[u16],
     doc: &mut [u8],
     findings: &mut [u64],
     s: Separators,
@@ -122,7 +122,7 @@ fn put_parts(
 // The bytes of a line from `at` on, and its notes; `from` numbers of findings stand before. The pen ends at the last filled element.
 pub fn join_ordered(
     job: &[u8],
-    index: &[u32],
+    index: &[u16],
     doc: &mut [u8],
     findings: &mut [u64],
     at: usize,

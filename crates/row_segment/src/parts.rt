@@ -56,7 +56,7 @@ pub struct Look {
 // The line of planned segment i of a loop, which is s, and a row.
 pub fn line_of(
     job: &[u8],
-    index: &[u32],
+    index: &[u16],
     l: LoopId,
     i: u32,
     s: PlannedSegment,
@@ -125,7 +125,7 @@ fn ended(k: u32, at: usize) -> Look
 }
 
 // The first part from planned element k on, which stands at a place.
-pub fn next_part(job: &[u8], index: &[u32], x: Line, k: u32, at: usize) -> Look
+pub fn next_part(job: &[u8], index: &[u16], x: Line, k: u32, at: usize) -> Look
     requires { ⌜ Lined (now job) (now index) x × Stands (now job) x k at ⌝ }
     ensures { λ r. ⌜ Looks (now (job .entry)) x k r ⌝ }
 {
@@ -144,7 +144,7 @@ pub fn next_part(job: &[u8], index: &[u32], x: Line, k: u32, at: usize) -> Look
 }
 
 // The first part of all.
-pub fn first_part(job: &[u8], index: &[u32], x: Line) -> Look
+pub fn first_part(job: &[u8], index: &[u16], x: Line) -> Look
     requires { ⌜ Lined (now job) (now index) x ⌝ }
     ensures { λ r. ⌜ Looks (now (job .entry)) x 0 r ⌝ }
 {
@@ -152,7 +152,7 @@ pub fn first_part(job: &[u8], index: &[u32], x: Line) -> Look
 }
 
 // The text of a part, and the reason why it has none.
-pub fn text_of(job: &[u8], index: &[u32], x: Line, p: Planned) -> Written
+pub fn text_of(job: &[u8], index: &[u16], x: Line, p: Planned) -> Written
     requires { ⌜ Lined (now job) (now index) x ⌝ }
     ensures { λ w. ⌜ Writes (now (job .entry)) w (outcomeOf (now (job .entry)) x p) ⌝ }
 {

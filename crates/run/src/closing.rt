@@ -16,7 +16,7 @@ ghost use Rattle.emit.specs.Did.{Within};
 ghost use Rattle.run.specs.Went.{Closes};
 
 // Whether a loop has `end`.
-fn ends(job: &[u8], index: &[u32], l: LoopId) -> bool
+fn ends(job: &[u8], index: &[u16], l: LoopId) -> bool
     requires { ⌜ Ready (now job) (now index) ⌝ }
     ensures { λ b. ⌜ b ≡ (loopOf (outlineAt (now (job .entry))) (l .0)) .ends ⌝ }
 {
@@ -28,7 +28,7 @@ fn ends(job: &[u8], index: &[u32], l: LoopId) -> bool
 }
 
 // Whether a loop has `end` and `control`.
-fn closes(job: &[u8], index: &[u32], l: LoopId) -> bool
+fn closes(job: &[u8], index: &[u16], l: LoopId) -> bool
     requires { ⌜ Ready (now job) (now index) ⌝ }
     ensures { λ b. ⌜ b ≡ ((loopOf (outlineAt (now (job .entry))) (l .0)) .ends && (loopOf (outlineAt (now (job .entry))) (l .0)) .controlled) ⌝ }
 {
@@ -48,7 +48,7 @@ pub struct Closed {
 // The closer of an instance with so many child instances, behind so many segments of its own: it counts itself. `number` is the loop's next.
 pub fn close(
     job: &[u8],
-    index: &[u32],
+    index: &[u16],
     doc: &mut [u8],
     segments: &mut [u64],
     s: Counts,

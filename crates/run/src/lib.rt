@@ -57,7 +57,7 @@ fn tally(s: State, written: usize, instances: usize) -> Visited
 // Every instance of loop l in a context, so many levels deep.
 fn visits(
     job: &[u8],
-    index: &[u32],
+    index: &[u16],
     nest: &[u32],
     doc: &mut [u8],
     segments: &mut [u64],
@@ -136,7 +136,7 @@ fn visits(
 // The items of a loop's order in an instance.
 fn items(
     job: &[u8],
-    index: &[u32],
+    index: &[u16],
     nest: &[u32],
     doc: &mut [u8],
     segments: &mut [u64],
@@ -254,7 +254,7 @@ fn items(
 // Every instance of the spec's top-level loops.
 pub fn run(
     job: &[u8],
-    index: &[u32],
+    index: &[u16],
     nest: &[u32],
     doc: &mut [u8],
     segments: &mut [u64],

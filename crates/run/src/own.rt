@@ -50,7 +50,7 @@ fn owner_in(c: Context, t: TableId) -> Owner
 }
 
 // The row that opened an instance of loop l.
-pub fn own_row(job: &[u8], index: &[u32], l: LoopId, c: Context) -> Owner
+pub fn own_row(job: &[u8], index: &[u16], l: LoopId, c: Context) -> Owner
     requires { ⌜ Ready (now job) (now index) × (l .0 < 32) ⌝ }
     ensures { λ o. ⌜ ownerBy o ≡ ownRow (kindOf (outlineAt (now (job .entry))) (l .0)) (contextBy c) ⌝ }
 {
@@ -75,7 +75,7 @@ pub fn table_in(own: Owner) -> usize
 // An instance of a `Rows` loop stops at the row that opened it, where m is the highest row of the row's table.
 pub fn enter_own(
     job: &[u8],
-    index: &[u32],
+    index: &[u16],
     nest: &[u32],
     findings: &mut [u64],
     stops: &mut [u64],

@@ -30,7 +30,7 @@ pub enum Due {
 }
 
 // Whether a loop has `control`.
-pub fn controlled(job: &[u8], index: &[u32], l: LoopId) -> bool
+pub fn controlled(job: &[u8], index: &[u16], l: LoopId) -> bool
     requires { ⌜ Ready (now job) (now index) ⌝ }
     ensures { λ b. ⌜ b ≡ (loopOf (outlineAt (now (job .entry))) (l .0)) .controlled ⌝ }
 {
@@ -42,7 +42,7 @@ pub fn controlled(job: &[u8], index: &[u32], l: LoopId) -> bool
 }
 
 // The trigger of a loop with `control`.
-fn opener_due(job: &[u8], index: &[u32], l: LoopId) -> Due
+fn opener_due(job: &[u8], index: &[u16], l: LoopId) -> Due
     requires { ⌜ Ready (now job) (now index) ⌝ }
     ensures { λ d. ⌜ ((i : ℕ) → Gives (outlineAt (now (job .entry))) (l .0) i (cond ((loopOf (outlineAt (now (job .entry))) (l .0)) .controlled) (opener (l .0) ∷ []) []) d) ⌝ }
 {
@@ -54,7 +54,7 @@ fn opener_due(job: &[u8], index: &[u32], l: LoopId) -> Due
 }
 
 // The segment of a row.
-fn due_at(job: &[u8], index: &[u32], l: LoopId, i: u32, s: Planned, t: TableId, r: RowId) -> Due
+fn due_at(job: &[u8], index: &[u16], l: LoopId, i: u32, s: Planned, t: TableId, r: RowId) -> Due
     requires { ⌜ Ready (now job) (now index) × (l .0 < 32) × PlannedIs (now job) (l .0) i s ⌝ }
     ensures { λ d. ⌜ Gives (outlineAt (now (job .entry))) (l .0) i (cond (hasOccurrence (outlineAt (now (job .entry))) (l .0) i && dueRow (outlineAt (now (job .entry))) (l .0) i (t .0) (r .0)) (rowSegment (l .0) i (t .0) (r .0) ∷ []) []) d ⌝ }
 {
@@ -70,7 +70,7 @@ fn due_at(job: &[u8], index: &[u32], l: LoopId, i: u32, s: Planned, t: TableId, 
 }
 
 // A segment of a table's row, in an instance that sits in one.
-fn row_due(job: &[u8], index: &[u32], l: LoopId, i: u32, s: Planned, t: TableId, c: Context) -> Due
+fn row_due(job: &[u8], index: &[u16], l: LoopId, i: u32, s: Planned, t: TableId, c: Context) -> Due
     requires { ⌜ Ready (now job) (now index) × (l .0 < 32) × PlannedIs (now job) (l .0) i s ⌝ }
     ensures { λ d. ⌜ Gives (outlineAt (now (job .entry))) (l .0) i (fromSource (outlineAt (now (job .entry))) (l .0) i (contextBy c) (ofRow (t .0))) d ⌝ }
 {
@@ -84,7 +84,7 @@ fn row_due(job: &[u8], index: &[u32], l: LoopId, i: u32, s: Planned, t: TableId,
 // The repeat segments of an instance that a row opened.
 fn repeat_due(
     job: &[u8],
-    index: &[u32],
+    index: &[u16],
     l: LoopId,
     i: u32,
     s: Planned,
@@ -113,7 +113,7 @@ fn repeat_due(
 }
 
 // What planned segment i of loop l, which is s, gives by its source.
-pub fn segment_due(job: &[u8], index: &[u32], l: LoopId, i: u32, s: Planned, c: Context) -> Due
+pub fn segment_due(job: &[u8], index: &[u16], l: LoopId, i: u32, s: Planned, c: Context) -> Due
     requires { ⌜ Ready (now job) (now index) × Sound (outlineAt (now job)) (contextBy c) × (l .0 < 32) × PlannedIs (now job) (l .0) i s ⌝ }
     ensures { λ d. ⌜ Gives (outlineAt (now (job .entry))) (l .0) i (segmentSteps (outlineAt (now (job .entry))) (l .0) (contextBy c) i) d ⌝ }
 {

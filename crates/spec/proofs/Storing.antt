@@ -93,7 +93,7 @@ module _ {A : Type 0} (C : Codec A) (b : List ℕ) (e : ℕ) where
   }
 
   -- where the list stands, the places are those of the list and its items
-  pub listed : (at k : ℕ) (idx : List ℕ) (vs : List A) → e < 4294967296 → k + 33 ≤ length idx → Stored C b e at k idx → Is (listC C) b e at vs → Listed C b e idx k vs
+  pub listed : (at k : ℕ) (idx : List ℕ) (vs : List A) → e < 65536 → k + 33 ≤ length idx → Stored C b e at k idx → Is (listC C) b e at vs → Listed C b e idx k vs
   listed at k idx vs m l h i =
       let z : ListIs C b e at vs = is-list C b e at vs i in
       let n : length vs ≡ countAt b at e = count-list C b e at vs z in

@@ -83,7 +83,7 @@ module _ (b : List ℕ) (w : Passed b) where
   envelope-is : EnvelopeIs b (dataStart b) (envelopeStart b) (jobOf b .envelope)
   envelope-is = is-envelope b (dataStart b) (envelopeStart b) (jobOf b .envelope) (is-read envelopeC b (envelopeStart b) (dataStart b) (jobOf b .envelope) (w .read .envelope))
 
-  low : dataStart b < 4294967296
+  low : dataStart b < 65536
   low = let s = w .sound in omega (arith, s .least, s .most, s .tables)
 
   pub envelope-filled : (d₀ d₁ : List ℕ) (at e : ℕ) → at ≡ envelopeStart b → e ≡ dataStart b → d₁ ≡ stored d₀ 2560 (envelopeRow b e at) → (10752 ≤ length d₀ → EnvelopeIndexed b d₁) × Kept 2560 2624 d₀ d₁

@@ -60,7 +60,7 @@ module _ (b : List ℕ) (w : Passed b) where
 
   -- ---- from the numbers to the index
   module _ (idx : List ℕ) (h : Has idx 0 (headRow b)) (l : Has idx 8 (loopRows b (planStart b) 0)) (t : Has idx 232 (tableRows b (planStart b) (specTables b (planStart b) 0))) where
-    low : planStart b < 4294967296
+    low : planStart b < 65536
     low = let s = w .sound in let i = spec-within in omega (arith, s .most)
 
     head : (i : ℕ) → i < 4 → getD idx i 0 ≡ getD (headRow b) i 0

@@ -124,7 +124,7 @@ module _ (b : List ℕ) (w : Passed b) where
 
   -- ---- from the numbers to the index
   module _ (idx : List ℕ) (h : Has idx 4096 (small (specSegments b (planStart b) 0) ∷ [])) (l : Has idx 4097 (entryRows b (planStart b) (specSegments b (planStart b) 0))) where
-    low : planStart b < 4294967296
+    low : planStart b < 65536
     low = let s = w .sound in let i = spec-within b w in omega (arith, s .most, i)
 
     number : (i : ℕ) → i < length (jobOf b .spec .segments) → getD idx (4097 + i) 0 ≡ small (steps (bytesC ⊗ segmentC) b (planStart b) i (skip (leC 4) b (specSegments b (planStart b) 0) (planStart b)))

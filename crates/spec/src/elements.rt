@@ -84,7 +84,7 @@ pub fn element(job: &[u8], c: Elements) -> Element
 
 // Behind the element where the cursor is.
 pub fn next_element(job: &[u8], c: Elements) -> Elements
-    requires { ⌜ (24 ≤ length (now job)) × (length (now job) ≤ 65536) × (0 < c .left) ⌝ }
+    requires { ⌜ (24 ≤ length (now job)) × (length (now job) ≤ 65536) × (0 < c .left) × (planStart (now job) ≤ length (now job)) ⌝ }
     ensures { λ r. ⌜ ((x : ℕ × ElementDef) (xs : SegmentDef) → Entries (now (job .entry)) c (x ∷ xs) → Entries (now (job .entry)) r xs) ⌝ }
 {
     let at = c.at;

@@ -11,7 +11,7 @@ use crate::read::flag_at;
 use crate::read::stretch_at;
 use crate::read::text_at;
 
-pub fn sender_qualifier(job: &[u8], index: &[u32]) -> Stretch
+pub fn sender_qualifier(job: &[u8], index: &[u16]) -> Stretch
     requires { ⌜ EnvelopeIndexed (now job) (now index) ⌝ }
     ensures { λ r. ⌜ Holds (now (job .entry)) r (jobOf (now (job .entry)) .envelope .senderQualifier) ⌝ }
 {
@@ -19,7 +19,7 @@ pub fn sender_qualifier(job: &[u8], index: &[u32]) -> Stretch
     stretch_at(job, p)
 }
 
-pub fn sender_id(job: &[u8], index: &[u32]) -> Stretch
+pub fn sender_id(job: &[u8], index: &[u16]) -> Stretch
     requires { ⌜ EnvelopeIndexed (now job) (now index) ⌝ }
     ensures { λ r. ⌜ Holds (now (job .entry)) r (jobOf (now (job .entry)) .envelope .senderId) ⌝ }
 {
@@ -27,7 +27,7 @@ pub fn sender_id(job: &[u8], index: &[u32]) -> Stretch
     stretch_at(job, p)
 }
 
-pub fn receiver_qualifier(job: &[u8], index: &[u32]) -> Stretch
+pub fn receiver_qualifier(job: &[u8], index: &[u16]) -> Stretch
     requires { ⌜ EnvelopeIndexed (now job) (now index) ⌝ }
     ensures { λ r. ⌜ Holds (now (job .entry)) r (jobOf (now (job .entry)) .envelope .receiverQualifier) ⌝ }
 {
@@ -35,7 +35,7 @@ pub fn receiver_qualifier(job: &[u8], index: &[u32]) -> Stretch
     stretch_at(job, p)
 }
 
-pub fn receiver_id(job: &[u8], index: &[u32]) -> Stretch
+pub fn receiver_id(job: &[u8], index: &[u16]) -> Stretch
     requires { ⌜ EnvelopeIndexed (now job) (now index) ⌝ }
     ensures { λ r. ⌜ Holds (now (job .entry)) r (jobOf (now (job .entry)) .envelope .receiverId) ⌝ }
 {
@@ -43,7 +43,7 @@ pub fn receiver_id(job: &[u8], index: &[u32]) -> Stretch
     stretch_at(job, p)
 }
 
-pub fn application_sender(job: &[u8], index: &[u32]) -> Text
+pub fn application_sender(job: &[u8], index: &[u16]) -> Text
     requires { ⌜ EnvelopeIndexed (now job) (now index) ⌝ }
     ensures { λ r. ⌜ HoldsText (now (job .entry)) r (jobOf (now (job .entry)) .envelope .applicationSender) ⌝ }
 {
@@ -51,7 +51,7 @@ pub fn application_sender(job: &[u8], index: &[u32]) -> Text
     text_at(job, p)
 }
 
-pub fn application_receiver(job: &[u8], index: &[u32]) -> Text
+pub fn application_receiver(job: &[u8], index: &[u16]) -> Text
     requires { ⌜ EnvelopeIndexed (now job) (now index) ⌝ }
     ensures { λ r. ⌜ HoldsText (now (job .entry)) r (jobOf (now (job .entry)) .envelope .applicationReceiver) ⌝ }
 {
@@ -60,7 +60,7 @@ pub fn application_receiver(job: &[u8], index: &[u32]) -> Text
 }
 
 // The 32 bits of the date, a signed number.
-pub fn date(job: &[u8], index: &[u32]) -> u32
+pub fn date(job: &[u8], index: &[u16]) -> u32
     requires { ⌜ EnvelopeIndexed (now job) (now index) ⌝ }
     ensures { λ r. ⌜ r ≡ jobOf (now (job .entry)) .envelope .date ⌝ }
 {
@@ -69,7 +69,7 @@ pub fn date(job: &[u8], index: &[u32]) -> u32
 }
 
 // The 32 bits of the time, a signed number.
-pub fn time(job: &[u8], index: &[u32]) -> u32
+pub fn time(job: &[u8], index: &[u16]) -> u32
     requires { ⌜ EnvelopeIndexed (now job) (now index) ⌝ }
     ensures { λ r. ⌜ r ≡ jobOf (now (job .entry)) .envelope .time ⌝ }
 {
@@ -77,7 +77,7 @@ pub fn time(job: &[u8], index: &[u32]) -> u32
     codec::num(job, p) as u32
 }
 
-pub fn usage_indicator(job: &[u8], index: &[u32]) -> Stretch
+pub fn usage_indicator(job: &[u8], index: &[u16]) -> Stretch
     requires { ⌜ EnvelopeIndexed (now job) (now index) ⌝ }
     ensures { λ r. ⌜ Holds (now (job .entry)) r (jobOf (now (job .entry)) .envelope .usageIndicator) ⌝ }
 {
@@ -85,7 +85,7 @@ pub fn usage_indicator(job: &[u8], index: &[u32]) -> Stretch
     stretch_at(job, p)
 }
 
-pub fn control_number(job: &[u8], index: &[u32]) -> u64
+pub fn control_number(job: &[u8], index: &[u16]) -> u64
     requires { ⌜ EnvelopeIndexed (now job) (now index) ⌝ }
     ensures { λ r. ⌜ r ≡ jobOf (now (job .entry)) .envelope .controlNumber ⌝ }
 {
@@ -93,7 +93,7 @@ pub fn control_number(job: &[u8], index: &[u32]) -> u64
     codec::long(job, p)
 }
 
-pub fn element_separator(job: &[u8], index: &[u32]) -> u8
+pub fn element_separator(job: &[u8], index: &[u16]) -> u8
     requires { ⌜ EnvelopeIndexed (now job) (now index) ⌝ }
     ensures { λ r. ⌜ r ≡ jobOf (now (job .entry)) .envelope .element ⌝ }
 {
@@ -101,7 +101,7 @@ pub fn element_separator(job: &[u8], index: &[u32]) -> u8
     codec::byte_at(job, p) as u8
 }
 
-pub fn component_separator(job: &[u8], index: &[u32]) -> u8
+pub fn component_separator(job: &[u8], index: &[u16]) -> u8
     requires { ⌜ EnvelopeIndexed (now job) (now index) ⌝ }
     ensures { λ r. ⌜ r ≡ jobOf (now (job .entry)) .envelope .component ⌝ }
 {
@@ -109,7 +109,7 @@ pub fn component_separator(job: &[u8], index: &[u32]) -> u8
     codec::byte_at(job, p) as u8
 }
 
-pub fn segment_terminator(job: &[u8], index: &[u32]) -> u8
+pub fn segment_terminator(job: &[u8], index: &[u16]) -> u8
     requires { ⌜ EnvelopeIndexed (now job) (now index) ⌝ }
     ensures { λ r. ⌜ r ≡ jobOf (now (job .entry)) .envelope .segment ⌝ }
 {
@@ -117,7 +117,7 @@ pub fn segment_terminator(job: &[u8], index: &[u32]) -> u8
     codec::byte_at(job, p) as u8
 }
 
-pub fn repetition(job: &[u8], index: &[u32]) -> Number
+pub fn repetition(job: &[u8], index: &[u16]) -> Number
     requires { ⌜ EnvelopeIndexed (now job) (now index) ⌝ }
     ensures { λ r. ⌜ HoldsByte r (jobOf (now (job .entry)) .envelope .repetition) ⌝ }
 {
@@ -125,7 +125,7 @@ pub fn repetition(job: &[u8], index: &[u32]) -> Number
     byte_number_at(job, p)
 }
 
-pub fn line_break(job: &[u8], index: &[u32]) -> bool
+pub fn line_break(job: &[u8], index: &[u16]) -> bool
     requires { ⌜ EnvelopeIndexed (now job) (now index) ⌝ }
     ensures { λ r. ⌜ r ≡ jobOf (now (job .entry)) .envelope .lineBreak ⌝ }
 {

@@ -19,7 +19,7 @@ ghost use Rattle.spec.specs.Rows.{loopRow, tableRow, loopRows, tableRows
 use crate::read::spec_end;
 
 pub fn put6(
-    index: &mut [u32],
+    index: &mut [u16],
     k: u32,
     p0: usize,
     p1: usize,
@@ -36,8 +36,8 @@ pub fn put6(
 }
 
 // Stores where the parts of a loop stand.
-pub fn loop_into(b: &[u8], index: &mut [u32], k: u32, at: usize, end: u32) -> usize
-    requires { ⌜ k < 10752 ⌝ }
+pub fn loop_into(b: &[u8], index: &mut [u16], k: u32, at: usize, end: u32) -> usize
+    requires { ⌜ (k < 10752) × (end ≤ length (now b)) ⌝ }
     ensures { λ r. ⌜ (r ≡ skip loopC (now (b .entry)) at end) × (now (index .exit) ≡ stored (now (index .entry)) k (loopRow (now (b .entry)) end at)) ⌝ }
 {
     let trigger = codec::opt_num_at(b, at, end);
@@ -52,8 +52,8 @@ pub fn loop_into(b: &[u8], index: &mut [u32], k: u32, at: usize, end: u32) -> us
 }
 
 // Stores where the parts of a table stand.
-pub fn table_into(b: &[u8], index: &mut [u32], k: u32, at: usize, end: u32) -> usize
-    requires { ⌜ k < 10752 ⌝ }
+pub fn table_into(b: &[u8], index: &mut [u16], k: u32, at: usize, end: u32) -> usize
+    requires { ⌜ (k < 10752) × (end ≤ length (now b)) ⌝ }
     ensures { λ r. ⌜ (r ≡ skip tableC (now (b .entry)) at end) × (now (index .exit) ≡ stored (now (index .entry)) k (tableRow (now (b .entry)) end at)) ⌝ }
 {
     let segment = codec::les_at(b, 4, at, end);
@@ -66,8 +66,8 @@ pub fn table_into(b: &[u8], index: &mut [u32], k: u32, at: usize, end: u32) -> u
 }
 
 // Stores the loops' rows; answers the place behind them.
-pub fn loops_into(b: &[u8], index: &mut [u32], end: u32) -> usize
-    requires { ⌜ countAt (now b) 0 end ≤ 32 ⌝ }
+pub fn loops_into(b: &[u8], index: &mut [u16], end: u32) -> usize
+    requires { ⌜ (countAt (now b) 0 end ≤ 32) × (end ≤ length (now b)) ⌝ }
     ensures { λ r. ⌜ (r ≡ skip (listC loopC) (now (b .entry)) 0 end) × (now (index .exit) ≡ stored (now (index .entry)) 8 (loopRows (now (b .entry)) end 0)) ⌝ }
 {
     let mut left = codec::count_at(b, 0, end);
@@ -82,8 +82,8 @@ pub fn loops_into(b: &[u8], index: &mut [u32], end: u32) -> usize
 }
 
 // Stores the tables' rows; answers the place behind them.
-pub fn tables_into(b: &[u8], index: &mut [u32], at: usize, end: u32) -> usize
-    requires { ⌜ countAt (now b) at end ≤ 16 ⌝ }
+pub fn tables_into(b: &[u8], index: &mut [u16], at: usize, end: u32) -> usize
+    requires { ⌜ (countAt (now b) at end ≤ 16) × (end ≤ length (now b)) ⌝ }
     ensures { λ r. ⌜ (r ≡ skip (listC tableC) (now (b .entry)) at end) × (now (index .exit) ≡ stored (now (index .entry)) 232 (tableRows (now (b .entry)) end at)) ⌝ }
 {
     let mut left = codec::count_at(b, at, end);
@@ -98,8 +98,8 @@ pub fn tables_into(b: &[u8], index: &mut [u32], at: usize, end: u32) -> usize
 }
 
 // Stores the places of the segments; answers the place behind them.
-pub fn entries_into(b: &[u8], index: &mut [u32], at: usize, end: u32) -> usize
-    requires { ⌜ countAt (now b) at end ≤ 6655 ⌝ }
+pub fn entries_into(b: &[u8], index: &mut [u16], at: usize, end: u32) -> usize
+    requires { ⌜ (countAt (now b) at end ≤ 6655) × (end ≤ length (now b)) ⌝ }
     ensures { λ r. ⌜ (r ≡ skip (listC (bytesC ⊗ segmentC)) (now (b .entry)) at end) × (now (index .exit) ≡ stored (now (index .entry)) 4097 (entryRows (now (b .entry)) end at)) ⌝ }
 {
     let mut left = codec::count_at(b, at, end);
@@ -115,7 +115,7 @@ pub fn entries_into(b: &[u8], index: &mut [u32], at: usize, end: u32) -> usize
     p
 }
 
-pub fn heads_into(index: &mut [u32], roots: usize, tables: usize, version: usize)
+pub fn heads_into(index: &mut [u16], roots: usize, tables: usize, version: usize)
     ensures { λ r. ⌜ now (index .exit) ≡ stored (now (index .entry)) 0 (small 0 ∷ small roots ∷ small tables ∷ small version ∷ []) ⌝ }
 {
     codec::put2(index, 0, 0, roots);
@@ -123,8 +123,8 @@ pub fn heads_into(index: &mut [u32], roots: usize, tables: usize, version: usize
 }
 
 // The region of the segments, whose list stands at a place; answers the place behind it.
-pub fn fill_segments(job: &[u8], index: &mut [u32], at: usize, end: u32) -> usize
-    requires { ⌜ Passed (now job) × (end ≡ planStart (now job)) × (at ≡ specSegments (now job) end 0) ⌝ }
+pub fn fill_segments(job: &[u8], index: &mut [u16], at: usize, end: u32) -> usize
+    requires { ⌜ Passed (now job) × (end ≡ planStart (now job)) × (at ≡ specSegments (now job) end 0) × (end ≤ length (now job)) ⌝ }
     ensures { λ r. ⌜ (r ≡ specTables (now (job .entry)) end 0) × (10752 ≤ length (now (index .entry)) → SegmentsIndexed (now (job .entry)) (now (index .exit))) × Kept 4096 10752 (now (index .entry)) (now (index .exit)) ⌝ }
 {
     codec::put(index, 4096, at);
@@ -132,7 +132,7 @@ pub fn fill_segments(job: &[u8], index: &mut [u32], at: usize, end: u32) -> usiz
 }
 
 // The regions of the spec and of the segments.
-pub fn fill_spec(job: &[u8], index: &mut [u32])
+pub fn fill_spec(job: &[u8], index: &mut [u16])
     requires { ⌜ Passed (now job) ⌝ }
     ensures { λ r. ⌜ SpecFilled (now (job .entry)) (now (index .entry)) (now (index .exit)) ⌝ }
 {
@@ -144,7 +144,8 @@ pub fn fill_spec(job: &[u8], index: &mut [u32])
     heads_into(index, roots, tables, version);
 }
 
-pub fn envelope_into(b: &[u8], index: &mut [u32], at: usize, end: u32)
+pub fn envelope_into(b: &[u8], index: &mut [u16], at: usize, end: u32)
+    requires { ⌜ end ≤ length (now b) ⌝ }
     ensures { λ r. ⌜ now (index .exit) ≡ stored (now (index .entry)) 2560 (envelopeRow (now (b .entry)) end at) ⌝ }
 {
     let sender_id = codec::bytes_at(b, at, end);
@@ -185,7 +186,7 @@ pub fn envelope_into(b: &[u8], index: &mut [u32], at: usize, end: u32)
 }
 
 // The region of the envelope.
-pub fn fill_envelope(job: &[u8], index: &mut [u32])
+pub fn fill_envelope(job: &[u8], index: &mut [u16])
     requires { ⌜ Passed (now job) ⌝ }
     ensures { λ r. ⌜ (10752 ≤ length (now (index .entry)) → EnvelopeIndexed (now (job .entry)) (now (index .exit))) ⌝ }
     ensures { λ r. ⌜ Kept 2560 2624 (now (index .entry)) (now (index .exit)) ⌝ }
@@ -197,7 +198,7 @@ pub fn fill_envelope(job: &[u8], index: &mut [u32])
 }
 
 // All three regions.
-pub fn fill(job: &[u8], index: &mut [u32])
+pub fn fill(job: &[u8], index: &mut [u16])
     requires { ⌜ Passed (now job) ⌝ }
     ensures { λ r. ⌜ Filled (now (job .entry)) (now (index .entry)) (now (index .exit)) ⌝ }
 {

@@ -22,7 +22,7 @@ use crate::read::stretch_at;
 use crate::read::string_at;
 use crate::read::text_at;
 
-pub fn loop_count(job: &[u8], index: &[u32]) -> u32
+pub fn loop_count(job: &[u8], index: &[u16]) -> u32
     requires { ⌜ SpecIndexed (now job) (now index) ⌝ }
     ensures { λ r. ⌜ r ≡ length (jobOf (now (job .entry)) .spec .loops) ⌝ }
 {
@@ -30,7 +30,7 @@ pub fn loop_count(job: &[u8], index: &[u32]) -> u32
     codec::num(job, p) as u32
 }
 
-pub fn root_count(job: &[u8], index: &[u32]) -> u32
+pub fn root_count(job: &[u8], index: &[u16]) -> u32
     requires { ⌜ SpecIndexed (now job) (now index) ⌝ }
     ensures { λ r. ⌜ r ≡ length (jobOf (now (job .entry)) .spec .roots) ⌝ }
 {
@@ -38,7 +38,7 @@ pub fn root_count(job: &[u8], index: &[u32]) -> u32
     codec::num(job, p) as u32
 }
 
-pub fn root(job: &[u8], index: &[u32], k: u32) -> LoopId
+pub fn root(job: &[u8], index: &[u16], k: u32) -> LoopId
     requires { ⌜ SpecIndexed (now job) (now index) ⌝ }
     ensures { λ r. ⌜ r .0 ≡ getD (jobOf (now (job .entry)) .spec .roots) k 0 ⌝ }
 {
@@ -47,13 +47,13 @@ pub fn root(job: &[u8], index: &[u32], k: u32) -> LoopId
 }
 
 // Where field f of a loop stands.
-pub fn loop_field(job: &[u8], index: &[u32], l: LoopId, f: u32) -> usize
+pub fn loop_field(job: &[u8], index: &[u16], l: LoopId, f: u32) -> usize
     ensures { λ r. ⌜ (r ≡ rowPlace (now (job .entry)) (now (index .entry)) 0 8 7 (l .0) f) × (r < 4294967296) ⌝ }
 {
     row_place(job, index, 0, 8, 7, l.0, f)
 }
 
-pub fn loop_parent(job: &[u8], index: &[u32], l: LoopId) -> Number
+pub fn loop_parent(job: &[u8], index: &[u16], l: LoopId) -> Number
     requires { ⌜ SpecIndexed (now job) (now index) ⌝ }
     ensures { λ r. ⌜ numberOf r ≡ (loopOf (jobOf (now (job .entry))) (l .0)) .parent ⌝ }
 {
@@ -61,7 +61,7 @@ pub fn loop_parent(job: &[u8], index: &[u32], l: LoopId) -> Number
     number_at(job, p)
 }
 
-pub fn trigger(job: &[u8], index: &[u32], l: LoopId) -> Stretch
+pub fn trigger(job: &[u8], index: &[u16], l: LoopId) -> Stretch
     requires { ⌜ SpecIndexed (now job) (now index) ⌝ }
     ensures { λ r. ⌜ Holds (now (job .entry)) r ((loopOf (jobOf (now (job .entry))) (l .0)) .trigger) ⌝ }
 {
@@ -69,7 +69,7 @@ pub fn trigger(job: &[u8], index: &[u32], l: LoopId) -> Stretch
     stretch_at(job, p)
 }
 
-pub fn occurrence_count(job: &[u8], index: &[u32], l: LoopId) -> u32
+pub fn occurrence_count(job: &[u8], index: &[u16], l: LoopId) -> u32
     requires { ⌜ SpecIndexed (now job) (now index) ⌝ }
     ensures { λ r. ⌜ r ≡ length ((loopOf (jobOf (now (job .entry))) (l .0)) .occurrences) ⌝ }
 {
@@ -78,7 +78,7 @@ pub fn occurrence_count(job: &[u8], index: &[u32], l: LoopId) -> u32
 }
 
 // The identifier of segment k of a loop, empty past its last.
-pub fn occurrence(job: &[u8], index: &[u32], l: LoopId, k: u32) -> Stretch
+pub fn occurrence(job: &[u8], index: &[u16], l: LoopId, k: u32) -> Stretch
     requires { ⌜ SpecIndexed (now job) (now index) ⌝ }
     ensures { λ r. ⌜ Holds (now (job .entry)) r (getD ((loopOf (jobOf (now (job .entry))) (l .0)) .occurrences) k []) ⌝ }
 {
@@ -92,7 +92,7 @@ pub fn occurrence(job: &[u8], index: &[u32], l: LoopId, k: u32) -> Stretch
     stretch_at(job, q)
 }
 
-pub fn required(job: &[u8], index: &[u32], l: LoopId) -> bool
+pub fn required(job: &[u8], index: &[u16], l: LoopId) -> bool
     requires { ⌜ SpecIndexed (now job) (now index) ⌝ }
     ensures { λ r. ⌜ r ≡ isRequired ((loopOf (jobOf (now (job .entry))) (l .0)) .usage) ⌝ }
 {
@@ -100,7 +100,7 @@ pub fn required(job: &[u8], index: &[u32], l: LoopId) -> bool
     !flag_at(job, p)
 }
 
-pub fn loop_end(job: &[u8], index: &[u32], l: LoopId) -> Text
+pub fn loop_end(job: &[u8], index: &[u16], l: LoopId) -> Text
     requires { ⌜ SpecIndexed (now job) (now index) ⌝ }
     ensures { λ r. ⌜ HoldsText (now (job .entry)) r ((loopOf (jobOf (now (job .entry))) (l .0)) .end) ⌝ }
 {
@@ -108,7 +108,7 @@ pub fn loop_end(job: &[u8], index: &[u32], l: LoopId) -> Text
     text_at(job, p)
 }
 
-pub fn control(job: &[u8], index: &[u32], l: LoopId) -> Controls
+pub fn control(job: &[u8], index: &[u16], l: LoopId) -> Controls
     requires { ⌜ SpecIndexed (now job) (now index) ⌝ }
     ensures { λ r. ⌜ controlOf r ≡ (loopOf (jobOf (now (job .entry))) (l .0)) .control ⌝ }
 {
@@ -116,7 +116,7 @@ pub fn control(job: &[u8], index: &[u32], l: LoopId) -> Controls
     control_at(job, p)
 }
 
-pub fn child_count(job: &[u8], index: &[u32], l: LoopId) -> u32
+pub fn child_count(job: &[u8], index: &[u16], l: LoopId) -> u32
     requires { ⌜ SpecIndexed (now job) (now index) ⌝ }
     ensures { λ r. ⌜ r ≡ length ((loopOf (jobOf (now (job .entry))) (l .0)) .children) ⌝ }
 {
@@ -124,7 +124,7 @@ pub fn child_count(job: &[u8], index: &[u32], l: LoopId) -> u32
     codec::num(job, p) as u32
 }
 
-pub fn child(job: &[u8], index: &[u32], l: LoopId, k: u32) -> LoopId
+pub fn child(job: &[u8], index: &[u16], l: LoopId, k: u32) -> LoopId
     requires { ⌜ SpecIndexed (now job) (now index) ⌝ }
     ensures { λ r. ⌜ r .0 ≡ getD ((loopOf (jobOf (now (job .entry))) (l .0)) .children) k 0 ⌝ }
 {

@@ -110,7 +110,7 @@ pub fn control_at(b: &[u8], at: usize) -> Controls
 
 // Where byte string k of a list stands.
 pub fn string_at(b: &[u8], at: usize, k: u32, end: u32) -> usize
-    requires { ⌜ at < 4294967296 ⌝ }
+    requires { ⌜ (at < 4294967296) × (end ≤ length (now b)) ⌝ }
     ensures { λ r. ⌜ r ≡ steps bytesC (now (b .entry)) end k (at + 4) ⌝ }
 {
     let mut left = k;
@@ -132,7 +132,7 @@ pub fn spec_end(b: &[u8]) -> u32
 }
 
 // The place of field f of row i, past every job where the list has no such row.
-pub fn row_place(b: &[u8], index: &[u32], list: u32, from: u32, width: u8, i: u32, f: u32) -> usize
+pub fn row_place(b: &[u8], index: &[u16], list: u32, from: u32, width: u8, i: u32, f: u32) -> usize
     ensures { λ r. ⌜ (r ≡ rowPlace (now (b .entry)) (now (index .entry)) list from width i f) × (r < 4294967296) ⌝ }
 {
     let p = codec::place(index, list as usize);

@@ -1,6 +1,7 @@
 // Lists in the index. A list takes 33 numbers of it: its place, then the places of its first 32 items.
 ghost use mathlib.Core.Path.{_≡_};
-ghost use Prim.Native.Nat.{_+_, _<_};
+ghost use lib.ListN.{length};
+ghost use Prim.Native.Nat.{_+_, _<_, _≤_};
 ghost use Rattle.codec.specs.Codec.{listC};
 ghost use Rattle.codec.specs.Skip.{skip};
 ghost use Rattle.spec.specs.Kept.{Kept};
@@ -19,6 +20,7 @@ pub enum Part {
 
 // The place behind the part that stands at a place.
 pub fn part_at(job: &[u8], part: Part, at: usize, end: u32) -> usize
+    requires { ⌜ end ≤ length (now job) ⌝ }
     ensures { λ r. ⌜ r ≡ skip (partC part) (now (job .entry)) at end ⌝ }
 {
     match part {
@@ -32,7 +34,7 @@ pub fn part_at(job: &[u8], part: Part, at: usize, end: u32) -> usize
 }
 
 // Stores the place of item i of the list whose numbers begin at k, if it is among the first 32.
-pub fn put_item(index: &mut [u32], k: usize, i: usize, p: usize)
+pub fn put_item(index: &mut [u16], k: usize, i: usize, p: usize)
     requires { ⌜ k < 4294967296 ⌝ }
     ensures { λ r. ⌜ now (index .exit) ≡ putItem (now (index .entry)) k i p ⌝ }
 {
@@ -43,8 +45,8 @@ pub fn put_item(index: &mut [u32], k: usize, i: usize, p: usize)
 }
 
 // Stores the place of a list and those of its items; answers the place behind it.
-pub fn list_into(job: &[u8], index: &mut [u32], part: Part, k: usize, at: usize, end: u32) -> usize
-    requires { ⌜ k < 4294967296 ⌝ }
+pub fn list_into(job: &[u8], index: &mut [u16], part: Part, k: usize, at: usize, end: u32) -> usize
+    requires { ⌜ (k < 4294967296) × (end ≤ length (now job)) ⌝ }
     ensures { λ r. ⌜ (r ≡ skip (listC (partC part)) (now (job .entry)) at end) × Kept k (k + 33) (now (index .entry)) (now (index .exit)) × Stored (partC part) (now (job .entry)) end at k (now (index .exit)) ⌝ }
 {
     let n = codec::count_at(job, at, end);

@@ -57,7 +57,7 @@ pub fn key_is(b: &[u8], s: Stretch, p: usize) -> bool
 
 // Where an element's definition stands in the map of elements at a place.
 pub fn element_place(b: &[u8], at: usize, number: u32, end: u32) -> Place
-    requires { ⌜ at < 4294967296 ⌝ }
+    requires { ⌜ (at < 4294967296) × (end ≤ length (now b)) ⌝ }
     ensures { λ r. ⌜ ((xs : SegmentDef) → Is (numMapC elementC) (now (b .entry)) end at xs → PlaceOf elementC (now (b .entry)) end r (found (eqb number) xs)) ⌝ }
 {
     let n = codec::count_at(b, at, end);
@@ -77,7 +77,7 @@ pub fn element_place(b: &[u8], at: usize, number: u32, end: u32) -> Place
 
 // Where a component's definition stands in the map of components at a place.
 pub fn component_place(b: &[u8], at: usize, number: u32, end: u32) -> Place
-    requires { ⌜ at < 4294967296 ⌝ }
+    requires { ⌜ (at < 4294967296) × (end ≤ length (now b)) ⌝ }
     ensures { λ r. ⌜ ((xs : List (ℕ × ComponentDef)) → Is (numMapC componentC) (now (b .entry)) end at xs → PlaceOf componentC (now (b .entry)) end r (found (eqb number) xs)) ⌝ }
 {
     let n = codec::count_at(b, at, end);
@@ -96,7 +96,7 @@ pub fn component_place(b: &[u8], at: usize, number: u32, end: u32) -> Place
 }
 
 // Where the elements of a segment stand.
-pub fn elements_of(job: &[u8], index: &[u32], identifier: Stretch) -> Place
+pub fn elements_of(job: &[u8], index: &[u16], identifier: Stretch) -> Place
     requires { ⌜ SegmentsIndexed (now job) (now index) × (identifier .start + identifier .len ≤ length (now job)) ⌝ }
     ensures { λ r. ⌜ PlaceOf segmentC (now (job .entry)) (planStart (now (job .entry))) r (segmentDef (jobOf (now (job .entry))) (stretchOf (now (job .entry)) identifier)) ⌝ }
 {
@@ -115,7 +115,7 @@ pub fn elements_of(job: &[u8], index: &[u32], identifier: Stretch) -> Place
 }
 
 // Where the definition of an element of a segment stands.
-pub fn element_of(job: &[u8], index: &[u32], identifier: Stretch, element: u32) -> Place
+pub fn element_of(job: &[u8], index: &[u16], identifier: Stretch, element: u32) -> Place
     requires { ⌜ SegmentsIndexed (now job) (now index) × (identifier .start + identifier .len ≤ length (now job)) ⌝ }
     ensures { λ r. ⌜ PlaceOf elementC (now (job .entry)) (planStart (now (job .entry))) r (elementDef (jobOf (now (job .entry))) (stretchOf (now (job .entry)) identifier) element) ⌝ }
 {
@@ -195,7 +195,7 @@ pub fn max_in(b: &[u8], at: usize, component: Number, end: u32) -> Number
 
 pub fn max_of(
     job: &[u8],
-    index: &[u32],
+    index: &[u16],
     identifier: Stretch,
     element: u32,
     component: Number,
@@ -211,7 +211,7 @@ pub fn max_of(
     }
 }
 
-pub fn min_of(job: &[u8], index: &[u32], identifier: Stretch, element: u32) -> Number
+pub fn min_of(job: &[u8], index: &[u16], identifier: Stretch, element: u32) -> Number
     requires { ⌜ SegmentsIndexed (now job) (now index) × (identifier .start + identifier .len ≤ length (now job)) ⌝ }
     ensures { λ r. ⌜ numberOf r ≡ minOf (jobOf (now (job .entry))) (stretchOf (now (job .entry)) identifier) element ⌝ }
 {

@@ -15,7 +15,7 @@ use crate::read::number_at;
 use crate::read::row_place;
 use crate::read::step_at;
 
-pub fn table_count(job: &[u8], index: &[u32]) -> u32
+pub fn table_count(job: &[u8], index: &[u16]) -> u32
     requires { ⌜ SpecIndexed (now job) (now index) ⌝ }
     ensures { λ r. ⌜ r ≡ length (jobOf (now (job .entry)) .spec .tables) ⌝ }
 {
@@ -24,13 +24,13 @@ pub fn table_count(job: &[u8], index: &[u32]) -> u32
 }
 
 // Where field f of a table stands.
-pub fn table_field(job: &[u8], index: &[u32], t: TableId, f: u32) -> usize
+pub fn table_field(job: &[u8], index: &[u16], t: TableId, f: u32) -> usize
     ensures { λ r. ⌜ (r ≡ rowPlace (now (job .entry)) (now (index .entry)) 2 232 6 (t .0) f) × (r < 4294967296) ⌝ }
 {
     row_place(job, index, 2, 232, 6, t.0, f)
 }
 
-pub fn table_loop_count(job: &[u8], index: &[u32], t: TableId) -> u32
+pub fn table_loop_count(job: &[u8], index: &[u16], t: TableId) -> u32
     requires { ⌜ SpecIndexed (now job) (now index) ⌝ }
     ensures { λ r. ⌜ r ≡ length ((tableOf (jobOf (now (job .entry))) (t .0)) .loops) ⌝ }
 {
@@ -38,7 +38,7 @@ pub fn table_loop_count(job: &[u8], index: &[u32], t: TableId) -> u32
     codec::num(job, p) as u32
 }
 
-pub fn table_loop(job: &[u8], index: &[u32], t: TableId, k: u32) -> LoopId
+pub fn table_loop(job: &[u8], index: &[u16], t: TableId, k: u32) -> LoopId
     requires { ⌜ SpecIndexed (now job) (now index) ⌝ }
     ensures { λ r. ⌜ r .0 ≡ getD ((tableOf (jobOf (now (job .entry))) (t .0)) .loops) k 0 ⌝ }
 {
@@ -47,7 +47,7 @@ pub fn table_loop(job: &[u8], index: &[u32], t: TableId, k: u32) -> LoopId
 }
 
 // Whether the table is one of repeat segments.
-pub fn repeats(job: &[u8], index: &[u32], t: TableId) -> bool
+pub fn repeats(job: &[u8], index: &[u16], t: TableId) -> bool
     requires { ⌜ SpecIndexed (now job) (now index) ⌝ }
     ensures { λ r. ⌜ r ≡ (tableOf (jobOf (now (job .entry))) (t .0)) .segment ⌝ }
 {
@@ -55,7 +55,7 @@ pub fn repeats(job: &[u8], index: &[u32], t: TableId) -> bool
     flag_at(job, p)
 }
 
-pub fn step(job: &[u8], index: &[u32], t: TableId) -> u32
+pub fn step(job: &[u8], index: &[u16], t: TableId) -> u32
     requires { ⌜ SpecIndexed (now job) (now index) ⌝ }
     ensures { λ r. ⌜ r ≡ stepOf (jobOf (now (job .entry))) (t .0) ⌝ }
 {
@@ -63,7 +63,7 @@ pub fn step(job: &[u8], index: &[u32], t: TableId) -> u32
     step_at(job, p)
 }
 
-pub fn column_count(job: &[u8], index: &[u32], t: TableId) -> u32
+pub fn column_count(job: &[u8], index: &[u16], t: TableId) -> u32
     requires { ⌜ SpecIndexed (now job) (now index) ⌝ }
     ensures { λ r. ⌜ r ≡ (tableOf (jobOf (now (job .entry))) (t .0)) .columns ⌝ }
 {
@@ -71,7 +71,7 @@ pub fn column_count(job: &[u8], index: &[u32], t: TableId) -> u32
     codec::num(job, p) as u32
 }
 
-pub fn table_parent(job: &[u8], index: &[u32], t: TableId) -> Number
+pub fn table_parent(job: &[u8], index: &[u16], t: TableId) -> Number
     requires { ⌜ SpecIndexed (now job) (now index) ⌝ }
     ensures { λ r. ⌜ numberOf r ≡ (tableOf (jobOf (now (job .entry))) (t .0)) .parent ⌝ }
 {
@@ -79,7 +79,7 @@ pub fn table_parent(job: &[u8], index: &[u32], t: TableId) -> Number
     number_at(job, p)
 }
 
-pub fn ancestor_count(job: &[u8], index: &[u32], t: TableId) -> u32
+pub fn ancestor_count(job: &[u8], index: &[u16], t: TableId) -> u32
     requires { ⌜ SpecIndexed (now job) (now index) ⌝ }
     ensures { λ r. ⌜ r ≡ length ((tableOf (jobOf (now (job .entry))) (t .0)) .ancestors) ⌝ }
 {
@@ -88,7 +88,7 @@ pub fn ancestor_count(job: &[u8], index: &[u32], t: TableId) -> u32
 }
 
 // The number of ancestor k, which may be no table's.
-pub fn ancestor(job: &[u8], index: &[u32], t: TableId, k: u32) -> u32
+pub fn ancestor(job: &[u8], index: &[u16], t: TableId, k: u32) -> u32
     requires { ⌜ SpecIndexed (now job) (now index) ⌝ }
     ensures { λ r. ⌜ r ≡ getD ((tableOf (jobOf (now (job .entry))) (t .0)) .ancestors) k 0 ⌝ }
 {

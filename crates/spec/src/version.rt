@@ -30,7 +30,7 @@ pub fn version_at(b: &[u8], at: usize) -> Version
     })
 }
 
-pub fn version(job: &[u8], index: &[u32]) -> Version
+pub fn version(job: &[u8], index: &[u16]) -> Version
     requires { ⌜ SpecIndexed (now job) (now index) ⌝ }
     ensures { λ r. ⌜ HoldsVersion (now (job .entry)) r (jobOf (now (job .entry)) .spec .version) ⌝ }
 {

@@ -159,7 +159,7 @@ module _ (b x₀ x₁ x₂ x₃ : List ℕ) (w : Passed b) (i₁ : DataInto b (t
   counted : length (jobOf b .tables) ≡ countAt b (dataStart b) (trailer b)
   counted = count-list tableDataC b (trailer b) (dataStart b) _ (is-list tableDataC b (trailer b) (dataStart b) _ data-there)
 
-  fits : trailer b < 4294967296
+  fits : trailer b < 65536
   fits = omega (arith, w .sound .most)
 
   few-columns : (t : ℕ) → length ((dataOf (jobOf b) t) .columns) ≤ 32

@@ -17,7 +17,7 @@ use spec::ids::RowId;
 use spec::ids::TableId;
 
 // How many tables data has.
-pub fn data_count(job: &[u8], index: &[u32]) -> u32
+pub fn data_count(job: &[u8], index: &[u16]) -> u32
     requires { ⌜ TablesIndexed (now job) (now index) ⌝ }
     ensures { λ r. ⌜ r ≡ length (jobOf (now (job .entry)) .tables) ⌝ }
 {
@@ -25,7 +25,7 @@ pub fn data_count(job: &[u8], index: &[u32]) -> u32
 }
 
 // Where a table stands.
-pub fn table_at(job: &[u8], index: &[u32], t: TableId) -> OptNum
+pub fn table_at(job: &[u8], index: &[u16], t: TableId) -> OptNum
     requires { ⌜ TablesIndexed (now job) (now index) ⌝ }
     ensures { λ r. ⌜ TableAt (now (job .entry)) r (dataOf (jobOf (now (job .entry))) (t .0)) × (placeOf r < 4294967296) ⌝ }
 {
@@ -36,7 +36,7 @@ pub fn table_at(job: &[u8], index: &[u32], t: TableId) -> OptNum
     OptNum::Num(codec::place(index, 2625 + t.0 as usize))
 }
 
-pub fn row_count(job: &[u8], index: &[u32], t: TableId) -> u32
+pub fn row_count(job: &[u8], index: &[u16], t: TableId) -> u32
     requires { ⌜ TablesIndexed (now job) (now index) ⌝ }
     ensures { λ r. ⌜ r ≡ (dataOf (jobOf (now (job .entry))) (t .0)) .rows ⌝ }
 {
@@ -48,7 +48,7 @@ pub fn row_count(job: &[u8], index: &[u32], t: TableId) -> u32
 }
 
 // How many rows stand in the tables before t: the number of its first row, the rows of all tables numbered through.
-pub fn first_row(job: &[u8], index: &[u32], t: TableId) -> u32
+pub fn first_row(job: &[u8], index: &[u16], t: TableId) -> u32
     requires { ⌜ TablesIndexed (now job) (now index) ⌝ }
     ensures { λ r. ⌜ r ≡ rowsBefore (jobOf (now (job .entry)) .tables) (t .0) ⌝ }
 {
@@ -60,7 +60,7 @@ pub fn first_row(job: &[u8], index: &[u32], t: TableId) -> u32
 }
 
 // The cell of a row; no answer reads as null.
-pub fn cell(job: &[u8], index: &[u32], t: TableId, column: u32, row: RowId) -> Cell
+pub fn cell(job: &[u8], index: &[u16], t: TableId, column: u32, row: RowId) -> Cell
     requires { ⌜ TablesIndexed (now job) (now index) ⌝ }
     ensures { λ r. ⌜ Reads (now (job .entry)) r (some (cellOf (dataOf (jobOf (now (job .entry))) (t .0)) column (row .0))) ⌝ }
 {
@@ -79,7 +79,7 @@ pub fn cell(job: &[u8], index: &[u32], t: TableId, column: u32, row: RowId) -> C
 }
 
 // The cell of the `segment` column, which keeps that there is no answer.
-pub fn segment_cell(job: &[u8], index: &[u32], t: TableId, row: RowId) -> Cell
+pub fn segment_cell(job: &[u8], index: &[u16], t: TableId, row: RowId) -> Cell
     requires { ⌜ TablesIndexed (now job) (now index) ⌝ }
     ensures { λ r. ⌜ Reads (now (job .entry)) r (segmentCell (dataOf (jobOf (now (job .entry))) (t .0)) (row .0)) ⌝ }
 {
@@ -91,7 +91,7 @@ pub fn segment_cell(job: &[u8], index: &[u32], t: TableId, row: RowId) -> Cell
 }
 
 // The key of a row, by its 64 bits.
-pub fn key(job: &[u8], index: &[u32], t: TableId, row: RowId) -> u64
+pub fn key(job: &[u8], index: &[u16], t: TableId, row: RowId) -> u64
     requires { ⌜ TablesIndexed (now job) (now index) ⌝ }
     ensures { λ r. ⌜ r ≡ keyOf (dataOf (jobOf (now (job .entry))) (t .0)) (row .0) ⌝ }
 {
@@ -103,7 +103,7 @@ pub fn key(job: &[u8], index: &[u32], t: TableId, row: RowId) -> u64
 }
 
 // The reference of a row to a table above, by its 64 bits.
-pub fn reference(job: &[u8], index: &[u32], t: TableId, above: u32, row: RowId) -> OptInt
+pub fn reference(job: &[u8], index: &[u16], t: TableId, above: u32, row: RowId) -> OptInt
     requires { ⌜ TablesIndexed (now job) (now index) ⌝ }
     ensures { λ r. ⌜ intIs r ≡ referenceOf (dataOf (jobOf (now (job .entry))) (t .0)) above (row .0) ⌝ }
 {

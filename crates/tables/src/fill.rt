@@ -13,8 +13,8 @@ use spec::region::Part;
 use spec::region::list_into;
 
 // Stores the place of table t and those of its columns; answers the place behind it.
-pub fn table_into(job: &[u8], index: &mut [u32], t: u32, p: usize, end: u32) -> usize
-    requires { ⌜ t < 16 ⌝ }
+pub fn table_into(job: &[u8], index: &mut [u16], t: u32, p: usize, end: u32) -> usize
+    requires { ⌜ (t < 16) × (end ≤ length (now job)) ⌝ }
     ensures { λ r. ⌜ ((start : ℕ) (old : List ℕ) → DataLists (now (job .entry)) end start t p old (now (index .entry)) → DataLists (now (job .entry)) end start (t + 1) r old (now (index .exit))) ⌝ }
 {
     codec::put(index, 2625 + t as usize, p);
@@ -33,8 +33,8 @@ pub fn table_into(job: &[u8], index: &mut [u32], t: u32, p: usize, end: u32) -> 
 }
 
 // Stores the place of the list of n tables, those of the tables and those of their columns.
-pub fn tables_into(job: &[u8], index: &mut [u32], n: u32, at: usize, end: u32)
-    requires { ⌜ (n ≤ 16) × (n ≡ countAt (now job) at end) ⌝ }
+pub fn tables_into(job: &[u8], index: &mut [u16], n: u32, at: usize, end: u32)
+    requires { ⌜ (n ≤ 16) × (n ≡ countAt (now job) at end) × (end ≤ length (now job)) ⌝ }
     ensures { λ r. ⌜ DataInto (now (job .entry)) end at (now (index .entry)) (now (index .exit)) ⌝ }
 {
     let mut p = codec::le_at(job, 4, at, end);
@@ -47,8 +47,8 @@ pub fn tables_into(job: &[u8], index: &mut [u32], n: u32, at: usize, end: u32)
 }
 
 // Stores for each of the first n tables the place of its references, and in front of them n.
-pub fn refs_into(job: &[u8], index: &mut [u32], n: u32, end: u32)
-    requires { ⌜ n ≤ 16 ⌝ }
+pub fn refs_into(job: &[u8], index: &mut [u16], n: u32, end: u32)
+    requires { ⌜ (n ≤ 16) × (end ≤ length (now job)) ⌝ }
     ensures { λ r. ⌜ RefsStored (now (job .entry)) end n (now (index .entry)) (now (index .exit)) ⌝ }
 {
     let mut t: u32 = 0;
@@ -64,7 +64,7 @@ pub fn refs_into(job: &[u8], index: &mut [u32], n: u32, end: u32)
 }
 
 // Stores for each of the first n tables, and behind them, how many rows stand in the tables before.
-pub fn firsts_into(job: &[u8], index: &mut [u32], n: u32)
+pub fn firsts_into(job: &[u8], index: &mut [u16], n: u32)
     requires { ⌜ n ≤ 16 ⌝ }
     ensures { λ r. ⌜ Kept 2657 2674 (now (index .entry)) (now (index .exit)) × ((t : ℕ) → t ≤ n → 2657 + t < length (now (index .entry)) → getD (now (index .exit)) (2657 + t) 0 ≡ small (rowsBy (now (job .entry)) (now (index .entry)) t)) ⌝ }
 {
@@ -80,7 +80,7 @@ pub fn firsts_into(job: &[u8], index: &mut [u32], n: u32)
 }
 
 // Fills the region.
-pub fn fill(job: &[u8], index: &mut [u32])
+pub fn fill(job: &[u8], index: &mut [u16])
     requires { ⌜ Passed (now job) ⌝ }
     ensures { λ r. ⌜ TablesFilled (now (job .entry)) (now (index .entry)) (now (index .exit)) ⌝ }
 {

@@ -21,12 +21,14 @@ use says::Told;
 // ---- numbers that are no loop's, of n loops
 
 pub fn outside_at(b: &[u8], at: usize, end: u32, n: usize) -> bool
+    requires { ⌜ end ≤ length (now b) ⌝ }
     ensures { λ r. ⌜ Says numC (now (b .entry)) end at (outside n) r ⌝ }
 {
     n <= codec::count_at(b, at, end)
 }
 
 pub fn opt_outside_at(b: &[u8], at: usize, end: u32, n: usize) -> bool
+    requires { ⌜ end ≤ length (now b) ⌝ }
     ensures { λ r. ⌜ Says (optC numC) (now (b .entry)) end at (ifSome (outside n)) r ⌝ }
 {
     if codec::tag_at(b, at, end) == 1 {
@@ -37,6 +39,7 @@ pub fn opt_outside_at(b: &[u8], at: usize, end: u32, n: usize) -> bool
 }
 
 pub fn outsides_at(b: &[u8], at: usize, end: u32, n: usize) -> bool
+    requires { ⌜ end ≤ length (now b) ⌝ }
     ensures { λ r. ⌜ Says (listC numC) (now (b .entry)) end at (anyOf (outside n)) r ⌝ }
 {
     let mut left = codec::count_at(b, at, end);
@@ -53,6 +56,7 @@ pub fn outsides_at(b: &[u8], at: usize, end: u32, n: usize) -> bool
 
 // Where the children of a loop stand.
 pub fn children_at(b: &[u8], at: usize, end: u32) -> usize
+    requires { ⌜ end ≤ length (now b) ⌝ }
     ensures { λ r. ⌜ r ≡ loopChildren (now (b .entry)) end at ⌝ }
 {
     let parent = codec::opt_num_at(b, at, end);
@@ -64,6 +68,7 @@ pub fn children_at(b: &[u8], at: usize, end: u32) -> usize
 }
 
 pub fn loop_outside(b: &[u8], at: usize, end: u32, n: usize) -> Told
+    requires { ⌜ end ≤ length (now b) ⌝ }
     ensures { λ r. ⌜ Passes loopC (now (b .entry)) end at (outsideLoop n) (r .found) (r .next) ⌝ }
 {
     let children = children_at(b, at, end);
@@ -78,6 +83,7 @@ pub fn loop_outside(b: &[u8], at: usize, end: u32, n: usize) -> Told
 }
 
 pub fn loops_outside(b: &[u8], at: usize, end: u32, n: usize) -> Told
+    requires { ⌜ end ≤ length (now b) ⌝ }
     ensures { λ r. ⌜ Passes (listC loopC) (now (b .entry)) end at (anyOf (outsideLoop n)) (r .found) (r .next) ⌝ }
 {
     let mut left = codec::count_at(b, at, end);
@@ -97,12 +103,14 @@ pub fn loops_outside(b: &[u8], at: usize, end: u32, n: usize) -> Told
 }
 
 pub fn table_outside(b: &[u8], at: usize, end: u32, n: usize) -> bool
+    requires { ⌜ end ≤ length (now b) ⌝ }
     ensures { λ r. ⌜ Says tableC (now (b .entry)) end at (outsideTable n) r ⌝ }
 {
     outsides_at(b, at, end, n)
 }
 
 pub fn tables_outside(b: &[u8], at: usize, end: u32, n: usize) -> bool
+    requires { ⌜ end ≤ length (now b) ⌝ }
     ensures { λ r. ⌜ Says (listC tableC) (now (b .entry)) end at (anyOf (outsideTable n)) r ⌝ }
 {
     let mut left = codec::count_at(b, at, end);
@@ -118,6 +126,7 @@ pub fn tables_outside(b: &[u8], at: usize, end: u32, n: usize) -> bool
 }
 
 pub fn item_outside(b: &[u8], at: usize, end: u32, n: usize) -> bool
+    requires { ⌜ end ≤ length (now b) ⌝ }
     ensures { λ r. ⌜ Says itemC (now (b .entry)) end at (onLoop (outside n)) r ⌝ }
 {
     if codec::tag_at(b, at, end) == 1 {
@@ -128,6 +137,7 @@ pub fn item_outside(b: &[u8], at: usize, end: u32, n: usize) -> bool
 }
 
 pub fn order_outside(b: &[u8], at: usize, end: u32, n: usize) -> bool
+    requires { ⌜ end ≤ length (now b) ⌝ }
     ensures { λ r. ⌜ Says (listC itemC) (now (b .entry)) end at (outsideOrder n) r ⌝ }
 {
     let mut left = codec::count_at(b, at, end);
@@ -143,6 +153,7 @@ pub fn order_outside(b: &[u8], at: usize, end: u32, n: usize) -> bool
 }
 
 pub fn orders_outside(b: &[u8], at: usize, end: u32, n: usize) -> bool
+    requires { ⌜ end ≤ length (now b) ⌝ }
     ensures { λ r. ⌜ Says (listC (listC itemC)) (now (b .entry)) end at (anyOf (outsideOrder n)) r ⌝ }
 {
     let mut left = codec::count_at(b, at, end);
@@ -158,7 +169,7 @@ pub fn orders_outside(b: &[u8], at: usize, end: u32, n: usize) -> bool
 }
 
 pub fn spec_outside(b: &[u8], at: usize, end: u32, roots: usize, tables: usize) -> bool
-    requires { ⌜ (roots ≡ specRoots (now b) end at) × (tables ≡ specTables (now b) end at) ⌝ }
+    requires { ⌜ (roots ≡ specRoots (now b) end at) × (tables ≡ specTables (now b) end at) × (end ≤ length (now b)) ⌝ }
     ensures { λ r. ⌜ Says specC (now (b .entry)) end at outsideSpec r ⌝ }
 {
     let n = codec::count_at(b, at, end);
@@ -171,6 +182,7 @@ pub fn spec_outside(b: &[u8], at: usize, end: u32, roots: usize, tables: usize) 
 // ---- a loop by its number
 
 pub fn loop_place(b: &[u8], at: usize, end: u32, i: usize) -> usize
+    requires { ⌜ end ≤ length (now b) ⌝ }
     ensures { λ r. ⌜ r ≡ steps loopC (now (b .entry)) end i (skip (leC 4) (now (b .entry)) at end) ⌝ }
 {
     let mut left = i;
@@ -184,6 +196,7 @@ pub fn loop_place(b: &[u8], at: usize, end: u32, i: usize) -> usize
 
 // Where the loops and their children stand, as far as there is room.
 pub fn fill_places(b: &[u8], at: usize, end: u32, places: &mut [usize])
+    requires { ⌜ end ≤ length (now b) ⌝ }
     ensures { λ r. ⌜ Placed (now (b .entry)) end at (now (places .exit)) ⌝ }
 {
     let n = codec::count_at(b, at, end);
@@ -203,7 +216,7 @@ pub fn fill_places(b: &[u8], at: usize, end: u32, places: &mut [usize])
 
 // Where loop i stands, by the places kept.
 pub fn place_of(b: &[u8], at: usize, end: u32, places: &[usize], i: usize) -> usize
-    requires { ⌜ Placed (now b) end at (now places) ⌝ }
+    requires { ⌜ Placed (now b) end at (now places) × (end ≤ length (now b)) ⌝ }
     ensures { λ r. ⌜ (i < countAt (now (b .entry)) at end → r ≡ steps loopC (now (b .entry)) end i (skip (leC 4) (now (b .entry)) at end)) ⌝ }
 {
     if i < 32 {
@@ -216,7 +229,7 @@ pub fn place_of(b: &[u8], at: usize, end: u32, places: &[usize], i: usize) -> us
 
 // Where the children of loop i stand.
 pub fn below(b: &[u8], at: usize, end: u32, places: &[usize], i: usize) -> usize
-    requires { ⌜ Placed (now b) end at (now places) ⌝ }
+    requires { ⌜ Placed (now b) end at (now places) × (end ≤ length (now b)) ⌝ }
     ensures { λ r. ⌜ (i < countAt (now (b .entry)) at end → r ≡ loopChildren (now (b .entry)) end (steps loopC (now (b .entry)) end i (skip (leC 4) (now (b .entry)) at end))) ⌝ }
 {
     if i < 32 {
@@ -229,12 +242,14 @@ pub fn below(b: &[u8], at: usize, end: u32, places: &[usize], i: usize) -> usize
 }
 
 pub fn same_at(b: &[u8], at: usize, end: u32, i: usize) -> bool
+    requires { ⌜ end ≤ length (now b) ⌝ }
     ensures { λ r. ⌜ Says numC (now (b .entry)) end at (eqb i) r ⌝ }
 {
     i == codec::count_at(b, at, end)
 }
 
 pub fn opt_same_at(b: &[u8], at: usize, end: u32, i: usize) -> bool
+    requires { ⌜ end ≤ length (now b) ⌝ }
     ensures { λ r. ⌜ Says (optC numC) (now (b .entry)) end at (ifSome (eqb i)) r ⌝ }
 {
     if codec::tag_at(b, at, end) == 1 {
@@ -245,6 +260,7 @@ pub fn opt_same_at(b: &[u8], at: usize, end: u32, i: usize) -> bool
 }
 
 pub fn member_at(b: &[u8], at: usize, end: u32, i: usize) -> bool
+    requires { ⌜ end ≤ length (now b) ⌝ }
     ensures { λ r. ⌜ Says (listC numC) (now (b .entry)) end at (memberOf i) r ⌝ }
 {
     let mut left = codec::count_at(b, at, end);
@@ -261,7 +277,7 @@ pub fn member_at(b: &[u8], at: usize, end: u32, i: usize) -> bool
 
 // Whether the parent of loop c is i.
 pub fn parent_is(b: &[u8], at: usize, end: u32, places: &[usize], i: usize, c: usize) -> bool
-    requires { ⌜ Placed (now b) end at (now places) ⌝ }
+    requires { ⌜ Placed (now b) end at (now places) × (end ≤ length (now b)) ⌝ }
     ensures { λ r. ⌜ Says (listC loopC) (now (b .entry)) end at (λ ls. ifSome (eqb i) (loopAt ls c .parent)) r ⌝ }
 {
     let n = codec::count_at(b, at, end);
@@ -273,7 +289,7 @@ pub fn parent_is(b: &[u8], at: usize, end: u32, places: &[usize], i: usize, c: u
 }
 
 pub fn has_parent(b: &[u8], at: usize, end: u32, places: &[usize], c: usize) -> bool
-    requires { ⌜ Placed (now b) end at (now places) ⌝ }
+    requires { ⌜ Placed (now b) end at (now places) × (end ≤ length (now b)) ⌝ }
     ensures { λ r. ⌜ Says (listC loopC) (now (b .entry)) end at (λ ls. present (loopAt ls c .parent)) r ⌝ }
 {
     let n = codec::count_at(b, at, end);
@@ -286,7 +302,7 @@ pub fn has_parent(b: &[u8], at: usize, end: u32, places: &[usize], c: usize) -> 
 
 // Whether i is a child of loop c.
 pub fn is_child(b: &[u8], at: usize, end: u32, places: &[usize], i: usize, c: usize) -> bool
-    requires { ⌜ Placed (now b) end at (now places) ⌝ }
+    requires { ⌜ Placed (now b) end at (now places) × (end ≤ length (now b)) ⌝ }
     ensures { λ r. ⌜ Says (listC loopC) (now (b .entry)) end at (λ ls. memberOf i (loopAt ls c .children)) r ⌝ }
 {
     let n = codec::count_at(b, at, end);
@@ -299,7 +315,7 @@ pub fn is_child(b: &[u8], at: usize, end: u32, places: &[usize], i: usize, c: us
 
 // The parent of loop c, where it has one.
 pub fn parent_number(b: &[u8], at: usize, end: u32, places: &[usize], c: usize) -> usize
-    requires { ⌜ Placed (now b) end at (now places) ⌝ }
+    requires { ⌜ Placed (now b) end at (now places) × (end ≤ length (now b)) ⌝ }
     ensures { λ r. ⌜ ((ls : List Loop) → Is (listC loopC) (now (b .entry)) end at ls → (x : ℕ) → loopAt ls c .parent ≡ some x → r ≡ x) ⌝ }
 {
     let p = place_of(b, at, end, places, c);
@@ -341,6 +357,7 @@ pub fn names_repeat(names: &[usize], n: usize) -> bool
 
 // The first numbers of a list, as far as there is room.
 pub fn note_numbers(b: &[u8], at: usize, end: u32, names: &mut [usize]) -> usize
+    requires { ⌜ end ≤ length (now b) ⌝ }
     ensures { λ r. ⌜ (length (now (names .exit)) ≡ length (now (names .entry))) × ((r ≤ length (now (names .exit))) × ((v : List ℕ) → Is (listC numC) (now (b .entry)) end at v → Noted v (now (names .exit)) r)) ⌝ }
 {
     let mut left = codec::count_at(b, at, end);
@@ -360,6 +377,7 @@ pub fn note_numbers(b: &[u8], at: usize, end: u32, names: &mut [usize]) -> usize
 
 // Whether x is among the left numbers that stand from a place on.
 pub fn member_behind(b: &[u8], at: usize, end: u32, rest: usize, x: usize) -> bool
+    requires { ⌜ end ≤ length (now b) ⌝ }
     ensures { λ r. ⌜ SaysRest numC (now (b .entry)) end rest at (memberOf x) r ⌝ }
 {
     let mut left = rest;
@@ -376,6 +394,7 @@ pub fn member_behind(b: &[u8], at: usize, end: u32, rest: usize, x: usize) -> bo
 
 // Whether a number stands in the list twice, by a search behind each.
 pub fn numbers_searched(b: &[u8], at: usize, end: u32) -> bool
+    requires { ⌜ end ≤ length (now b) ⌝ }
     ensures { λ r. ⌜ Says (listC numC) (now (b .entry)) end at repeats r ⌝ }
 {
     let mut left = codec::count_at(b, at, end);
@@ -394,6 +413,7 @@ pub fn numbers_searched(b: &[u8], at: usize, end: u32) -> bool
 
 // Some number stands in the list twice: numbers below 32 repeat within the first 33. The search is left for other lists.
 pub fn repeats_at(b: &[u8], at: usize, end: u32) -> bool
+    requires { ⌜ end ≤ length (now b) ⌝ }
     ensures { λ r. ⌜ Says (listC numC) (now (b .entry)) end at repeats r ⌝ }
 {
     if codec::count_at(b, at, end) < 2 {

@@ -162,7 +162,7 @@ fn application(job: &[u8], code: Text, id: Stretch) -> Stretch
 }
 
 // The sender, the receiver and the usage indicator.
-fn named(job: &[u8], index: &[u32], f: u8) -> Source
+fn named(job: &[u8], index: &[u16], f: u8) -> Source
     requires { ⌜ Ready (now job) (now index) × (f < 6) ⌝ }
     ensures { λ r. ⌜ ((d : ElementDef) → Tells (now (job .entry)) r (fielded (jobOf (now (job .entry)) .envelope) d f)) ⌝ }
 {
@@ -181,7 +181,7 @@ fn named(job: &[u8], index: &[u32], f: u8) -> Source
     applied(job, index, f)
 }
 
-fn applied(job: &[u8], index: &[u32], f: u8) -> Source
+fn applied(job: &[u8], index: &[u16], f: u8) -> Source
     requires { ⌜ Ready (now job) (now index) × (4 ≤ f) × (f < 6) ⌝ }
     ensures { λ r. ⌜ ((d : ElementDef) → Tells (now (job .entry)) r (fielded (jobOf (now (job .entry)) .envelope) d f)) ⌝ }
 {
@@ -196,7 +196,7 @@ fn applied(job: &[u8], index: &[u32], f: u8) -> Source
 }
 
 // The repetition element's own code, or else the separator where there is one.
-fn repetition_source(job: &[u8], index: &[u32], f: u8, x: Element) -> Source
+fn repetition_source(job: &[u8], index: &[u16], f: u8, x: Element) -> Source
     requires { ⌜ Ready (now job) (now index) × (f ≡ 10) ⌝ }
     ensures { λ r. ⌜ ((y : ℕ × ElementDef) → ElementSays (now (job .entry)) x y → Tells (now (job .entry)) r (fielded (jobOf (now (job .entry)) .envelope) (y .1) f)) ⌝ }
 {
@@ -220,7 +220,7 @@ fn repetition_source(job: &[u8], index: &[u32], f: u8, x: Element) -> Source
 }
 
 // The date, the time and the usage indicator.
-fn dated(job: &[u8], index: &[u32], f: u8, x: Element) -> Source
+fn dated(job: &[u8], index: &[u16], f: u8, x: Element) -> Source
     requires { ⌜ Ready (now job) (now index) × (6 ≤ f) × (f < 9) ⌝ }
     ensures { λ r. ⌜ ((y : ℕ × ElementDef) → ElementSays (now (job .entry)) x y → Tells (now (job .entry)) r (fielded (jobOf (now (job .entry)) .envelope) (y .1) f)) ⌝ }
 {
@@ -243,7 +243,7 @@ fn dated(job: &[u8], index: &[u32], f: u8, x: Element) -> Source
 }
 
 // What a field gives an element.
-fn field_source(job: &[u8], index: &[u32], f: u8, x: Element) -> Source
+fn field_source(job: &[u8], index: &[u16], f: u8, x: Element) -> Source
     requires { ⌜ Ready (now job) (now index) ⌝ }
     ensures { λ r. ⌜ ((y : ℕ × ElementDef) → ElementSays (now (job .entry)) x y → Tells (now (job .entry)) r (fielded (jobOf (now (job .entry)) .envelope) (y .1) f)) ⌝ }
 {
@@ -291,7 +291,7 @@ fn code_source(x: Element) -> Source
 }
 
 // The version where it names this element, or else the first code.
-fn spec_source(job: &[u8], index: &[u32], id: Stretch, x: Element) -> Source
+fn spec_source(job: &[u8], index: &[u16], id: Stretch, x: Element) -> Source
     requires { ⌜ Ready (now job) (now index) × (id .start + id .len ≤ length (now job)) ⌝ }
     ensures { λ r. ⌜ ((y : ℕ × ElementDef) → ElementSays (now (job .entry)) x y
         → Tells (now (job .entry)) r (some (on (versionAt (jobOf (now (job .entry))) (stretchOf (now (job .entry)) id) (y .0)) versioned (unsourced (y .1))))) ⌝ }
@@ -317,7 +317,7 @@ fn spec_source(job: &[u8], index: &[u32], id: Stretch, x: Element) -> Source
 }
 
 // What an element of a trigger takes that is not the control number's.
-pub fn source_of(job: &[u8], index: &[u32], id: Stretch, depth: u32, x: Element) -> Source
+pub fn source_of(job: &[u8], index: &[u16], id: Stretch, depth: u32, x: Element) -> Source
     requires { ⌜ Ready (now job) (now index) × (id .start + id .len ≤ length (now job)) ⌝ }
     ensures { λ r. ⌜ ((y : ℕ × ElementDef) → ElementSays (now (job .entry)) x y
         → Tells (now (job .entry)) r (otherwise (jobOf (now (job .entry))) (stretchOf (now (job .entry)) id) depth (y .0) (y .1))) ⌝ }

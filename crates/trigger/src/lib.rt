@@ -35,7 +35,7 @@ pub mod opener;
 // ---- the opener
 
 // The trigger of loop l, whose control number stands at the opener's element.
-fn frame_of(job: &[u8], index: &[u32], l: LoopId, opener: u32, number: u64) -> Frame
+fn frame_of(job: &[u8], index: &[u16], l: LoopId, opener: u32, number: u64) -> Frame
     requires { ⌜ Ready (now job) (now index) × (l .0 < 32) ⌝ }
     ensures { λ w. ⌜ ((k : Control) → k .opener ≡ opener → Framed (now (job .entry)) (l .0) k number w) ⌝ }
 {
@@ -58,7 +58,7 @@ fn frame_of(job: &[u8], index: &[u32], l: LoopId, opener: u32, number: u64) -> F
 
 fn open_loop(
     job: &[u8],
-    index: &[u32],
+    index: &[u16],
     doc: &mut [u8],
     segments: &mut [u64],
     findings: &mut [u64],
@@ -92,7 +92,7 @@ pub struct Numbered {
 // The trigger of loop l, with the loop's next control number.
 pub fn write_opener(
     job: &[u8],
-    index: &[u32],
+    index: &[u16],
     doc: &mut [u8],
     segments: &mut [u64],
     findings: &mut [u64],
@@ -132,7 +132,7 @@ fn counted(kids: bool, children: usize, count: usize) -> u64
 }
 
 // The control number that a closer repeats, where `number` is the loop's next; empty where no opener was written.
-fn repeated(job: &[u8], index: &[u32], number: u64, l: LoopId, opener: u32, opened: bool) -> Value
+fn repeated(job: &[u8], index: &[u16], number: u64, l: LoopId, opener: u32, opened: bool) -> Value
     requires { ⌜ Ready (now job) (now index) × (l .0 < 32) ⌝ }
     ensures { λ v. ⌜ ((k : Control) → k .opener ≡ opener → valueText (now (job .entry)) v ≡ pick opened (controlIn (jobOf (now (job .entry))) (l .0) k (previous number)) []) ⌝ }
 {
@@ -145,7 +145,7 @@ fn repeated(job: &[u8], index: &[u32], number: u64, l: LoopId, opener: u32, open
 
 fn close_loop(
     job: &[u8],
-    index: &[u32],
+    index: &[u16],
     doc: &mut [u8],
     segments: &mut [u64],
     s: Counts,
@@ -188,7 +188,7 @@ fn close_loop(
 // The closer of loop l: its count, and the control number of its instance.
 pub fn write_close(
     job: &[u8],
-    index: &[u32],
+    index: &[u16],
     doc: &mut [u8],
     segments: &mut [u64],
     s: Counts,

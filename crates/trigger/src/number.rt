@@ -21,7 +21,7 @@ pub fn min_by(n: Number) -> Min
 }
 
 // A control number in the trigger of loop l, at the opener's element.
-pub fn control_in(job: &[u8], index: &[u32], l: LoopId, opener: u32, number: u64) -> Value
+pub fn control_in(job: &[u8], index: &[u16], l: LoopId, opener: u32, number: u64) -> Value
     requires { ⌜ Ready (now job) (now index) ⌝ }
     ensures { λ v. ⌜ ((k : Control) → k .opener ≡ opener → valueText (now (job .entry)) v ≡ controlIn (jobOf (now (job .entry))) (l .0) k number) ⌝ }
 {

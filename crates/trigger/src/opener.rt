@@ -297,7 +297,7 @@ fn put_source(
 
 fn put_element(
     job: &[u8],
-    index: &[u32],
+    index: &[u16],
     doc: &mut [u8],
     findings: &mut [u64],
     w: Frame,
@@ -333,7 +333,7 @@ fn put_element(
 
 fn put_elements(
     job: &[u8],
-    index: &[u32],
+    index: &[u16],
     doc: &mut [u8],
     findings: &mut [u64],
     w: Frame,
@@ -363,7 +363,7 @@ fn put_elements(
 }
 
 // The elements that the definition of a segment has.
-fn elements_in(job: &[u8], index: &[u32], id: Stretch) -> Elements
+fn elements_in(job: &[u8], index: &[u16], id: Stretch) -> Elements
     requires { ⌜ Ready (now job) (now index) × (id .start + id .len ≤ length (now job)) ⌝ }
     ensures { λ c. ⌜ Entries (now (job .entry)) c (on (segmentDef (jobOf (now (job .entry))) (stretchOf (now (job .entry)) id)) (λ d. d) [])
         × (risesFrom 0 (on (segmentDef (jobOf (now (job .entry))) (stretchOf (now (job .entry)) id)) (λ d. d) []) ≡ true) ⌝ }
@@ -389,7 +389,7 @@ pub struct Put {
 // A trigger's bytes from `at` on, and its findings from `noted` on.
 pub fn put_opener(
     job: &[u8],
-    index: &[u32],
+    index: &[u16],
     doc: &mut [u8],
     findings: &mut [u64],
     w: Frame,

@@ -7,14 +7,15 @@ use mathlib.Core.Option.{Option, none, some, Option·none-ne-some}
 use native.Mathlib.Omega.{arith}
 use lib.ListN.{length, getD}
 use lib.Dec.{eqb}
+use Rattle.format.specs.Sections.{jobOf}
 use Rattle.nest.specs.Lists.{is}
 use Rattle.nest.specs.Outline.{Outline, tableParent, rowCount, repeated}
 use Rattle.nest.specs.Nest.{referred, hook, hooked, nestRecord, nestArray}
 use Rattle.nest.specs.Found.{nestAt, heldAt, hookedAt, ArrayIs}
 use Rattle.nest.specs.Ready.{Ready, outlineAt}
-use Rattle.nest.specs.Rising.{aboveOf, Climbs}
+use Rattle.nest.specs.Rising.{aboveOf, Climbs, rises}
 use Rattle.nest.proofs.NestLaws.{rowsBefore}
-use Rattle.nest.proofs.Stored.{place-in, number-in}
+use Rattle.nest.proofs.Stored.{place-in, number-in, array-rows}
 use Rattle.nest.proofs.RisingRows.{never-falls}
 use Rattle.nest.proofs.ArrayLaws.{held-in-array, hooked-in-array}
 use Rattle.walk.specs.Nested.{Nested, Sound}
@@ -25,14 +26,14 @@ module _ {b idx n : List ℕ} (N : Nested b idx n) where
   o = outlineAt b
 
   pub array-held : ArrayIs o n
-  array-held = record { room = N .room; numbers = N .numbers }
+  array-held = record { room = omega (arith, array-rows (jobOf b), N .room); numbers = N .numbers }
 
   -- number i of row r
   pub lent-number : (t r i : ℕ) → r < rowCount o t → i < 3 → nestAt n (rowsBefore o t) r i ≡ getD (nestRecord o t r) i 0
   lent-number = number-in o n array-held
 
   -- where a table is flagged, its rows climb
-  pub lent-climbs : (t rows : ℕ) → getD n (12288 + t) 0 ≡ 1 → rows ≤ rowCount o t → Climbs n (rowsBefore o t) rows
+  pub lent-climbs : (t rows : ℕ) → rises n t ≡ true → rows ≤ rowCount o t → Climbs n (rowsBefore o t) rows
   unfolding aboveOf
   lent-climbs t rows e h = record {
     climb = λ i k p q. rw (lent-number t i 0 (omega arith) (omega arith), lent-number t k 0 (omega arith) (omega arith)) (never-falls o t (N .rising t e) i k p (omega arith));

@@ -1,16 +1,20 @@
 // The writer: a job's document, segments, findings and stops, in lists that the caller lends. Of the findings it fills a window, a list that holds those from one number on.
 ghost use mathlib.Core.Path.{_≡_};
 ghost use mathlib.Core.Bool.{_||_};
-ghost use Prim.Native.Nat.{_-_, _≤_, _<_, _/_};
+ghost use Prim.Native.Nat.{_+_, _-_, _*_, _≤_, _<_, _/_};
 ghost use mathlib.Core.List.{[], _∷_};
-ghost use lib.ListN.{getD};
+ghost use lib.ListN.{length, getD};
 ghost use lib.Dec.{ltb};
+ghost use lib.Seq.{sets};
 ghost use Rattle.codec.specs.Codec.{pick};
 ghost use Rattle.lent.specs.Fit.{Noted};
 ghost use Rattle.format.specs.Passed.{Passed};
+ghost use Rattle.format.specs.Refusal.{rowsOfAll};
 ghost use Rattle.format.specs.Sections.{jobOf};
+ghost use Rattle.nest.specs.Nest.{nestArray};
 ghost use Rattle.nest.specs.NestFindings.{nestFindings};
-ghost use Rattle.nest.specs.Ready.{outlineAt, words};
+ghost use Rattle.nest.specs.Rising.{risingFlags};
+ghost use Rattle.nest.specs.Ready.{Ready, outlineAt, words};
 ghost use Rattle.walk.specs.Nested.{Nested};
 ghost use Rattle.walk.specs.Tour.{census};
 ghost use Rattle.writer.specs.Answer.{numberOf, valuesOf};
@@ -30,6 +34,7 @@ use nest::rows::nest_rows;
 use refusal::Checked;
 use run::run;
 use spec::envelope::control_number;
+use spec::ids::TableId;
 
 // Done and Room: how many bytes, segments, findings and stops there are; in Room a list is shorter than its count. The others refuse the job.
 pub enum Answer {
@@ -44,7 +49,7 @@ pub enum Answer {
 }
 
 // What nest finds: duplicate keys first, then row by row.
-fn nest_findings(job: &[u8], index: &[u32], nest: &[u32], window: &mut [u64], start: usize) -> usize
+fn nest_findings(job: &[u8], index: &[u16], nest: &[u32], window: &mut [u64], start: usize) -> usize
     requires { ⌜ Nested (now job) (now index) (now nest) ⌝ }
     ensures { λ n. ⌜ Noted (now (window .entry)) start (words (nestFindings (outlineAt (now (job .entry))))) n (now (window .exit)) ⌝ }
 {
@@ -86,7 +91,7 @@ fn first_state(control: u64, findings: usize) -> State
 // The whole result, as far as it fits: nest's findings, then the walk.
 fn written(
     job: &[u8],
-    index: &[u32],
+    index: &[u16],
     nest: &[u32],
     document: &mut [u8],
     segments: &mut [u64],
@@ -129,7 +134,7 @@ fn answer_of(s: State, start: usize, d: usize, g: usize, f: usize, p: usize) -> 
 // A job that passes 1 to 6. Only whole places of a list are written to.
 fn walked(
     job: &[u8],
-    index: &[u32],
+    index: &[u16],
     nest: &[u32],
     document: &mut [u8],
     segments: &mut [u64],
@@ -165,7 +170,7 @@ fn walked(
 // A job with its index and nest's array: whether it has too many instances is known before anything is stored.
 fn nested(
     job: &[u8],
-    index: &[u32],
+    index: &[u16],
     nest: &[u32],
     document: &mut [u8],
     segments: &mut [u64],
@@ -194,6 +199,72 @@ fn nested(
     )
 }
 
+// Nest's numbers and flags, in a list that has room for both.
+fn hang_rows(job: &[u8], index: &[u16], nest: &mut [u32])
+    requires { ⌜ Ready (now job) (now index) × (rowsOfAll (jobOf (now job) .tables) * 3 + 16 ≤ length (now nest)) ⌝ }
+    ensures { λ _. ⌜ now (nest .exit) ≡ sets (sets (now (nest .entry)) 0 (nestArray (outlineAt (now (job .entry))))) (length (now (nest .entry)) - 16) (risingFlags (outlineAt (now (job .entry)))) ⌝ }
+{
+    nest_rows(job, index, nest);
+    mark_rising(job, index, nest);
+}
+
+// A job of at most 240 rows: its array is short, since each call sets it to zero.
+fn few_rows(
+    job: &[u8],
+    index: &[u16],
+    document: &mut [u8],
+    segments: &mut [u64],
+    window: &mut [u64],
+    stops: &mut [u64],
+    from: usize,
+    room: usize,
+) -> Answer
+    requires { ⌜ Ready (now job) (now index) × (rowsOfAll (jobOf (now job) .tables) ≤ 240) ⌝ }
+    ensures { λ a. ⌜ WroteFrom (now (job .entry)) (now (document .entry)) (now (document .exit)) (now (segments .entry)) (now (segments .exit)) (now (window .entry)) (now (window .exit)) (now (stops .entry)) (now (stops .exit)) from room a ⌝ }
+{
+    let mut nest = [0u32; 736];
+    hang_rows(job, index, &mut nest);
+    nested(
+        job,
+        index,
+        &nest,
+        document,
+        segments,
+        window,
+        stops,
+        from,
+        room,
+    )
+}
+
+fn many_rows(
+    job: &[u8],
+    index: &[u16],
+    document: &mut [u8],
+    segments: &mut [u64],
+    window: &mut [u64],
+    stops: &mut [u64],
+    from: usize,
+    room: usize,
+) -> Answer
+    requires { ⌜ Ready (now job) (now index) ⌝ }
+    ensures { λ a. ⌜ WroteFrom (now (job .entry)) (now (document .entry)) (now (document .exit)) (now (segments .entry)) (now (segments .exit)) (now (window .entry)) (now (window .exit)) (now (stops .entry)) (now (stops .exit)) from room a ⌝ }
+{
+    let mut nest = [0u32; 12304];
+    hang_rows(job, index, &mut nest);
+    nested(
+        job,
+        index,
+        &nest,
+        document,
+        segments,
+        window,
+        stops,
+        from,
+        room,
+    )
+}
+
 // A job that passes 1 to 5.
 fn passed(
     job: &[u8],
@@ -207,22 +278,14 @@ fn passed(
     requires { ⌜ Passed (now job) ⌝ }
     ensures { λ a. ⌜ WroteFrom (now (job .entry)) (now (document .entry)) (now (document .exit)) (now (segments .entry)) (now (segments .exit)) (now (window .entry)) (now (window .exit)) (now (stops .entry)) (now (stops .exit)) from room a ⌝ }
 {
-    let mut index = [0u32; 10752];
+    let mut index = [0u16; 10752];
     fill_index(job, &mut index);
-    let mut nest = [0u32; 12304];
-    nest_rows(job, &index, &mut nest);
-    mark_rising(job, &index, &mut nest);
-    nested(
-        job,
-        &index,
-        &nest,
-        document,
-        segments,
-        window,
-        stops,
-        from,
-        room,
-    )
+    let tables = tables::data::data_count(job, &index);
+    let rows = tables::data::first_row(job, &index, TableId(tables));
+    if rows <= 240 {
+        return few_rows(job, &index, document, segments, window, stops, from, room);
+    }
+    many_rows(job, &index, document, segments, window, stops, from, room)
 }
 
 // The whole call: the answer, and what the lent lists then hold. The list of findings has `room` places; the window is to begin with number `from`.

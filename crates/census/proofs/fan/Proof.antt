@@ -1,5 +1,5 @@
 -- `census::fan` meets its contract.
-use native.Mathlib.Omega.{arith}
+use mathlib.Core.Path.{sym, _∙_}
 use Rattle.census.proofs.Widths.{rows-room-for, rows-small, rows-climb, fan-all, fan-hung}
 use borrow.Author.Needs.{needs}
 use Rattle.census.proofs.fan.Statement.{statement}
@@ -14,17 +14,8 @@ table-parent-requires c κs = search needs
 enum-told : tie.Need-enum-told
 enum-told c = search needs
 
-cast-i : tie.Need-cast-i
-cast-i c = search needs
-
-add-i : tie.Need-add-i
-add-i c = search needs
-
-mul-if2 : tie.Need-mul-if2
-mul-if2 c = search needs
-
-shared-slice-read-if2 : tie.Need-shared-slice-read-if2
-shared-slice-read-if2 c = search needs
+rises-requires : tie.Need-rises-requires
+rises-requires c κs = search needs
 
 first-row-requires : tie.Need-first-row-requires
 first-row-requires c κs = search needs
@@ -36,22 +27,19 @@ cast-longest : tie.Need-cast-longest
 cast-longest c = search needs
 
 longest-requires : tie.Need-longest-requires
-longest-requires c κs = (rows-room-for (c .before .before .before .before .before .before .before .before .before .before .before .before .pre) _ _ (c .before .before .before .before .before .before .before .before .row-count .ensures) _ (c .first-row .ensures), rows-small (c .before .before .before .before .before .before .before .before .before .before .before .before .pre) _ _ (c .before .before .before .before .before .before .before .before .row-count .ensures), rows-climb (c .before .before .before .before .before .before .before .before .before .before .before .before .pre) _ _ (c .before .before .before .before .before .before .before .before .row-count .ensures) _ (c .first-row .ensures) (c .before .if2 .taken))
+longest-requires c κs = (rows-room-for (c .before .before .before .before .before .before .before .before .before .before .pre) _ _ (c .before .before .before .before .before .before .row-count .ensures) _ (c .first-row .ensures), rows-small (c .before .before .before .before .before .before .before .before .before .before .pre) _ _ (c .before .before .before .before .before .before .row-count .ensures), rows-climb (c .before .before .before .before .before .before .before .before .before .before .pre) _ _ (c .before .before .before .before .before .before .row-count .ensures) _ (c .first-row .ensures) (sym (c .before .before .rises .ensures) ∙ c .before .if1 .taken))
 
 returns : tie.Need-returns
-returns c = fan-hung (c .before .before .before .before .before .before .before .before .before .before .before .before .before .pre) _ _ (c .before .before .before .before .before .before .before .before .before .row-count .ensures) _ (c .before .first-row .ensures) _ _ _ (c .before .before .before .before .before .before .before .before .table-parent .ensures) (c .before .before .before .before .before .before .enum-told .given .1) (c .longest .ensures)
+returns c = fan-hung (c .before .before .before .before .before .before .before .before .before .before .before .pre) _ _ (c .before .before .before .before .before .before .before .row-count .ensures) _ (c .before .first-row .ensures) _ _ _ (c .before .before .before .before .before .before .table-parent .ensures) (c .before .before .before .before .enum-told .given .1) (c .longest .ensures)
 
 returns-2 : tie.Need-returns-2
-returns-2 c = fan-all (c .before .before .before .before .before .before .before .before .before .before .before .pre) _ _ (c .before .before .before .before .before .before .before .row-count .ensures)
-
-returns-3 : tie.Need-returns-3
-returns-3 c = fan-all (c .before .before .before .before .before .before .before .before .before .pre) _ _ (c .before .before .before .before .before .row-count .ensures)
+returns-2 c = fan-all (c .before .before .before .before .before .before .before .before .before .pre) _ _ (c .before .before .before .before .before .row-count .ensures)
 
 enum-told-2 : tie.Need-enum-told-2
 enum-told-2 c = search needs
 
-returns-4 : tie.Need-returns-4
-returns-4 c = fan-all (c .before .before .before .before .before .before .before .pre) _ _ (c .before .before .before .row-count .ensures)
+returns-3 : tie.Need-returns-3
+returns-3 c = fan-all (c .before .before .before .before .before .before .before .pre) _ _ (c .before .before .before .row-count .ensures)
 
 pub fan-spec : {M : Type 1} → statement M
 fan-spec =
@@ -60,16 +48,12 @@ fan-spec =
     row-count-requires
     table-parent-requires
     enum-told
-    cast-i
-    add-i
-    mul-if2
-    shared-slice-read-if2
+    rises-requires
     first-row-requires
     cast-base
     cast-longest
     longest-requires
     returns
     returns-2
-    returns-3
     enum-told-2
-    returns-4)
+    returns-3)

@@ -1,13 +1,26 @@
 -- `limits::over_at` meets its contract. Assumes nothing.
 use mathlib.Core.Path.{refl, sym, _∙_}
 use Rattle.codec.specs.Limits.{none-of}
-use Rattle.format.specs.Decoding.{read-job}
+use native.Mathlib.Omega.{arith}
+use Rattle.format.specs.Decoding.{read-job, sound-of}
 use Rattle.format.specs.Refusal.{over}
 use Rattle.says.proofs.Walk.{both, only, section-says}
 use Rattle.says.proofs.Pass.{section-is}
 use borrow.Author.Needs.{needs}
 use Rattle.limits.proofs.over_at.Statement.{statement}
 use Rattle.limits.proofs.over_at.Tie as tie
+
+spec-over-requires : tie.Need-spec-over-requires
+spec-over-requires c κs = omega (arith, sound-of _ (c .before .before .before .before .before .before .pre .0))
+
+plan-over-requires : tie.Need-plan-over-requires
+plan-over-requires c κs = omega (arith, sound-of _ (c .before .before .before .before .before .before .before .pre .0))
+
+layout-over-requires : tie.Need-layout-over-requires
+layout-over-requires c κs = omega (arith, sound-of _ (c .before .before .before .before .before .before .before .before .pre .0))
+
+data-over-requires : tie.Need-data-over-requires
+data-over-requires c κs = omega (arith, sound-of _ (c .before .before .before .before .before .before .before .before .before .pre .0))
 
 returns : tie.Need-returns
 unfolding over
@@ -18,4 +31,4 @@ returns c =
     (h, λ z. rw (c .before .before .before .before .before .before .before .before .before .before .before .start .ensures) at (k .1 (k .0 ∙ none-of _ _ (sym h ∙ z) .0)))
 
 pub over-at-spec : {M : Type 1} → statement M
-over-at-spec = tie.close (tie.spec (λ c κs. search needs) (λ c κs. search needs) (λ c κs. search needs) (λ c κs. search needs) (λ c κs. search needs) (λ c κs. search needs) (λ c. search needs) (λ c κs. search needs) (λ c. search needs) (λ c κs. search needs) (λ c. search needs) (λ c κs. search needs) (λ c κs. search needs) (λ c κs. search needs) (λ c κs. search needs) returns)
+over-at-spec = tie.close (tie.spec (λ c κs. search needs) (λ c κs. search needs) (λ c κs. search needs) (λ c κs. search needs) (λ c κs. search needs) spec-over-requires (λ c. search needs) plan-over-requires (λ c. search needs) layout-over-requires (λ c. search needs) data-over-requires (λ c κs. search needs) (λ c κs. search needs) (λ c κs. search needs) returns)

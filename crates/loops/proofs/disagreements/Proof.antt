@@ -21,7 +21,7 @@ loop-holds : tie.Need-loop-holds Inv-loop μ-loop
 loop-holds c = λ ls q. upto-start _ _ _ _ _ (c .count-at .ensures .0)
 
 disagrees-at-requires : tie.Need-disagrees-at-requires Inv-loop μ-loop
-disagrees-at-requires c κs = (c .before .before .before .before .before .before .before .pre, below-same _ _ _ _ _ _ (c .before .before .before .before .count-at .ensures .0) (c .before .before .loop-test .taken) (c .below .ensures) _ (c .before .place-of .ensures))
+disagrees-at-requires c κs = (c .before .before .before .before .before .before .before .pre .0, below-same _ _ _ _ _ _ (c .before .before .before .before .count-at .ensures .0) (c .before .before .loop-test .taken) (c .below .ensures) _ (c .before .place-of .ensures), c .before .before .before .before .before .before .before .pre .1)
 
 returns : tie.Need-returns Inv-loop μ-loop
 returns c = λ ls q. upto-found _ _ _ _ _ (c .before .before .before .before .before .before .count-at .ensures .0) _ _ _ (c .before .before .before .before .before .loop .inv ls q) (c .before .before .before .before .loop-test .taken) (c .before .before .before .place-of .ensures) (c .before .disagrees-at .ensures ls q) (c .if1 .taken)

@@ -21,7 +21,7 @@ all-duplicates-requires : tie.Need-all-duplicates-requires
 all-duplicates-requires c κs = search needs
 
 all-findings-requires : tie.Need-all-findings-requires
-all-findings-requires c κs = (c .before .before .before .before .before .before .before .before .before .before .before .before .before .before .before .pre .0, array-in _ _ _ (c .before .before .before .before .before .before .before .before .before .before .before .before .before .before .before .pre .0 .tables .few-rows) (c .before .before .before .before .before .before .before .before .before .before .before .before .before .before .before .pre .1) (c .before .before .before .before .before .before .before .before .before .nest-rows .ensures))
+all-findings-requires c κs = (c .before .before .before .before .before .before .before .before .before .before .before .before .before .before .before .pre .0, array-in _ _ _ (c .before .before .before .before .before .before .before .before .before .before .before .before .before .before .before .pre .1) (c .before .before .before .before .before .before .before .before .before .nest-rows .ensures))
 
 same-length : tie.Need-same-length
 same-length c = search needs

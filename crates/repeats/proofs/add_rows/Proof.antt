@@ -22,7 +22,7 @@ loop-holds : tie.Need-loop-holds Inv-loop μ-loop
 loop-holds c = so-start _ _ _ _ _ _ _ _ _ (c .before .before .before .before .before .before .before .before .pre .1) (c .before .before .before .before .before .before .before .before .pre .5)
 
 next-hooked-requires : tie.Need-next-hooked-requires Inv-loop μ-loop
-next-hooked-requires c κs = (omega (arith, c .before .before .before .before .before .before .before .before .before .pre .4 .within, c .before .before .before .before .before .before .before .before .before .pre .0 .room), omega (arith, c .before .before .before .before .before .before .before .before .before .pre .4 .within), c .before .before .before .before .before .before .before .before .before .pre .3)
+next-hooked-requires c κs = (omega (arith, c .before .before .before .before .before .before .before .before .before .pre .4 .among, c .before .before .before .before .before .before .before .before .before .pre .0 .room), omega (arith, c .before .before .before .before .before .before .before .before .before .pre .4 .within), c .before .before .before .before .before .before .before .before .before .pre .3)
 
 enum-told : tie.Need-enum-told Inv-loop μ-loop
 enum-told c = search needs

@@ -11,7 +11,7 @@ part-of-requires : tie.Need-part-of-requires
 part-of-requires c κs = search needs
 
 next-hooked-requires : tie.Need-next-hooked-requires
-next-hooked-requires c κs = let v = c .before .part-of .ensures (c .before .before .before .before .before .before .before .before .before .before .args .l .0) in (omega (arith, v .is .within, c .before .before .before .before .before .before .before .before .before .before .pre .0 .room), omega (arith, v .is .within), c .before .before .before .before .before .before .before .before .before .before .pre .3)
+next-hooked-requires c κs = let v = c .before .part-of .ensures (c .before .before .before .before .before .before .before .before .before .before .args .l .0) in (omega (arith, v .is .among, c .before .before .before .before .before .before .before .before .before .before .pre .0 .room), omega (arith, v .is .within), c .before .before .before .before .before .before .before .before .before .before .pre .3)
 
 enum-told : tie.Need-enum-told
 enum-told c = search needs

@@ -5,7 +5,7 @@ use Rattle.tree.proofs.below.Statement.{statement}
 use Rattle.tree.proofs.below.Tie as tie
 
 returns : tie.Need-returns
-returns c = placed-below _ _ _ _ _ (c .before .before .before .before .before .pre) (c .before .if2 .taken)
+returns c = placed-below _ _ _ _ _ (c .before .before .before .before .before .pre .0) (c .before .if2 .taken)
 
 returns-2 : tie.Need-returns-2
 returns-2 c k = cc

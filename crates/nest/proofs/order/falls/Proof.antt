@@ -46,13 +46,13 @@ mul-if1 : tie.Need-mul-if1 Inv-loop μ-loop
 mul-if1 c = search needs
 
 shared-slice-read-if1 : tie.Need-shared-slice-read-if1 Inv-loop μ-loop
-shared-slice-read-if1 c = omega (arith, place-within _ _ (c .before .before .before .before .before .before .before .before .pre .1) _ _ _ _ (c .before .before .before .before .first-row .ensures) (c .before .before .before .row-count .ensures) (c .before .loop-test .taken) (c .before .before .before .before .before .before .before .before .pre .0 .tables .few-rows))
+shared-slice-read-if1 c = omega (arith, place-within _ _ (c .before .before .before .before .before .before .before .before .pre .1) _ _ _ _ (c .before .before .before .before .first-row .ensures) (c .before .before .before .row-count .ensures) (c .before .loop-test .taken))
 
 mul-if1-2 : tie.Need-mul-if1-2 Inv-loop μ-loop
 mul-if1-2 c = search needs
 
 shared-slice-read-if1-2 : tie.Need-shared-slice-read-if1-2 Inv-loop μ-loop
-shared-slice-read-if1-2 c = omega (arith, place-within _ _ (c .before .before .before .before .before .before .before .before .before .pre .1) _ _ _ _ (c .before .before .before .before .before .first-row .ensures) (c .before .before .before .before .row-count .ensures) (c .before .before .loop-test .taken) (c .before .before .before .before .before .before .before .before .before .pre .0 .tables .few-rows))
+shared-slice-read-if1-2 c = omega (arith, place-within _ _ (c .before .before .before .before .before .before .before .before .before .pre .1) _ _ _ _ (c .before .before .before .before .before .first-row .ensures) (c .before .before .before .before .row-count .ensures) (c .before .before .loop-test .taken))
 
 returns : tie.Need-returns Inv-loop μ-loop
 returns c = falls-yes _ _ (c .before .before .before .before .before .before .before .before .before .before .pre .1) _ _ _ _ (c .before .before .before .before .before .before .first-row .ensures) (c .before .before .before .before .before .row-count .ensures) (c .before .before .before .loop-test .taken) _ _ refl refl (c .before .before .before .before .loop .inv .1) (c .before .before .before .before .loop .inv .0 _ (c .before .before .before .before .before .before .first-row .ensures) (c .before .before .before .before .before .row-count .ensures)) (c .if1 .taken)

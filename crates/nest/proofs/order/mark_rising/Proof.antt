@@ -15,13 +15,16 @@ use Rattle.nest.proofs.order.mark_rising.Statement.{statement}
 use Rattle.nest.proofs.order.mark_rising.Tie as tie
 
 abbrev Inv-loop : tie.InvT-loop
-Inv-loop job index nest₀ count t₀ nest t = Storing (risingFlag (outlineOf (jobOf job))) (length (outlineOf (jobOf job) .rowCounts)) nest₀ 12288 nest (12288 + t) t × ArrayIs (outlineOf (jobOf job)) nest × (t ≤ count)
+Inv-loop job index nest₀ count flags t₀ nest t = Storing (risingFlag (outlineOf (jobOf job))) (length (outlineOf (jobOf job) .rowCounts)) nest₀ flags nest (flags + t) t × ArrayIs (outlineOf (jobOf job)) nest × (t ≤ count)
 
 abbrev μ-loop : tie.MeasureT-loop
-μ-loop job index nest₀ count t₀ nest t = count - t
+μ-loop job index nest₀ count flags t₀ nest t = count - t
 
 data-count-requires : tie.Need-data-count-requires Inv-loop μ-loop
 data-count-requires c κs = search needs
+
+sub-flags : tie.Need-sub-flags Inv-loop μ-loop
+sub-flags c = omega (arith, c .before .before .before .before .pre .2)
 
 loop-holds : tie.Need-loop-holds Inv-loop μ-loop
 loop-holds c = (storing-none _ _ _ _ _ (omega arith), c .before .before .before .before .pre .1, omega arith)
@@ -45,7 +48,7 @@ loop-less : tie.Need-loop-less Inv-loop μ-loop
 loop-less c = search needs
 
 loop-again : tie.Need-loop-again Inv-loop μ-loop
-loop-again c = (storing-next _ _ _ _ _ _ _ _ _ _ (c .before .before .before .before .before .before .before .loop .inv .0) (c .before .before .before .before .before .before .before .before .data-count .ensures ∙ sym (data-count-is _)) (c .before .before .before .before .before .before .loop-test .taken) (flagged _ _ (c .before .before .before .before .before .before .before .loop .nest) _ (12288 + c .before .before .before .before .before .before .before .loop .t) _ (c .before .before .before .before .falls .ensures) (c .before .before .put-flag .ensures)) (omega arith), array-kept _ (c .before .before .before .before .before .before .before .loop .nest) _ (c .before .before .before .before .before .before .before .loop .t) _ (c .before .before .before .before .before .before .before .before .before .before .before .before .pre .0 .tables .few-rows) (c .before .before .before .before .before .before .before .loop .inv .1) (c .before .before .put-flag .ensures), omega arith)
+loop-again c = (storing-next _ _ _ _ _ _ _ _ _ _ (c .before .before .before .before .before .before .before .loop .inv .0) (c .before .before .before .before .before .before .before .before .data-count .ensures ∙ sym (data-count-is _)) (c .before .before .before .before .before .before .loop-test .taken) (flagged _ _ (c .before .before .before .before .before .before .before .loop .nest) _ _ _ (c .before .before .before .before .falls .ensures) (c .before .before .put-flag .ensures)) (omega arith), array-kept _ (c .before .before .before .before .before .before .before .loop .nest) _ _ _ (omega (arith, c .before .before .before .before .before .before .before .before .before .before .before .before .pre .2)) (c .before .before .before .before .before .before .before .loop .inv .1) (c .before .before .put-flag .ensures), omega arith)
 
 same-length : tie.Need-same-length Inv-loop μ-loop
 same-length c = c .before .loop .inv .0 .long
@@ -60,6 +63,7 @@ mark-rising-spec =
     Inv-loop
     μ-loop
     data-count-requires
+    sub-flags
     loop-holds
     falls-requires
     cast-put-flag

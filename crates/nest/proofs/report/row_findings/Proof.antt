@@ -13,13 +13,13 @@ use Rattle.nest.proofs.row_above.Reads as row-above-reads
 use Rattle.nest.proofs.table_above.Reads as table-above-reads
 
 row-above-requires : tie.Need-row-above-requires
-row-above-requires c κs = omega (arith, numbers-within _ _ (c .before .before .before .before .pre .1) _ _ _ (c .before .before .before .before .pre .3) (c .before .before .before .before .pre .4) (c .before .before .before .before .pre .0 .tables .few-rows))
+row-above-requires c κs = omega (arith, numbers-within _ _ (c .before .before .before .before .pre .1) _ _ _ (c .before .before .before .before .pre .3) (c .before .before .before .before .pre .4))
 
 enum-known-above : tie.Need-enum-known-above
 enum-known-above c = search needs
 
 table-above-requires : tie.Need-table-above-requires
-table-above-requires c κs = numbers-within _ _ (c .before .before .before .before .before .before .before .before .pre .1) _ _ _ (c .before .before .before .before .before .before .before .before .pre .3) (c .before .before .before .before .before .before .before .before .pre .4) (c .before .before .before .before .before .before .before .before .pre .0 .tables .few-rows)
+table-above-requires c κs = numbers-within _ _ (c .before .before .before .before .before .before .before .before .pre .1) _ _ _ (c .before .before .before .before .before .before .before .before .pre .3) (c .before .before .before .before .before .before .before .before .pre .4)
 
 contradictions-requires : tie.Need-contradictions-requires
 contradictions-requires c κs = search needs

@@ -50,10 +50,10 @@ cast-put-record-2 : tie.Need-cast-put-record-2 Inv-loop μ-loop
 cast-put-record-2 c = search needs
 
 add-put-record : tie.Need-add-put-record Inv-loop μ-loop
-add-put-record c = omega (arith, room-for _ _ _ _ _ (c .before .before .before .before .before .before .before .before .before .before .before .before .pre .0 .tables .few-rows) (c .before .before .before .before .before .before .before .before .first-row .ensures) (c .before .before .before .before .before .before .before .row-count .ensures) (c .before .before .before .before .loop-test .taken))
+add-put-record c = omega (arith, c .before .before .before .before .before .before .before .before .before .before .before .before .pre .0 .tables .few-rows, room-for _ _ _ _ _ (c .before .before .before .before .before .before .before .before .first-row .ensures) (c .before .before .before .before .before .before .before .row-count .ensures) (c .before .before .before .before .loop-test .taken))
 
 put-record-requires : tie.Need-put-record-requires Inv-loop μ-loop
-put-record-requires c κs = omega (arith, c .before .before .before .before .before .loop .inv .0 .long, c .before .before .before .before .before .before .before .before .before .before .before .before .pre .3, room-for _ _ _ _ _ (c .before .before .before .before .before .before .before .before .before .before .before .before .pre .0 .tables .few-rows) (c .before .before .before .before .before .before .before .before .first-row .ensures) (c .before .before .before .before .before .before .before .row-count .ensures) (c .before .before .before .before .loop-test .taken))
+put-record-requires c κs = omega (arith, c .before .before .before .before .before .loop .inv .0 .long, c .before .before .before .before .before .before .before .before .before .before .before .before .pre .3, room-for _ _ _ _ _ (c .before .before .before .before .before .before .before .before .first-row .ensures) (c .before .before .before .before .before .before .before .row-count .ensures) (c .before .before .before .before .loop-test .taken))
 
 add-r : tie.Need-add-r Inv-loop μ-loop
 add-r c = search needs

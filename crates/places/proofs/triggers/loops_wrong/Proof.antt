@@ -19,7 +19,7 @@ loop-holds : tie.Need-loop-holds Inv-loop μ-loop
 loop-holds c = (omega (arith, c .before .count-at .ensures .0, c .before .before .before .before .pre .1), from-start _ _ _ _ _ _ _ (c .before .count-at .ensures .0) (c .le-at .ensures))
 
 loop-wrong-requires : tie.Need-loop-wrong-requires Inv-loop μ-loop
-loop-wrong-requires c κs = (c .before .before .before .before .before .before .pre .0, omega (arith, c .before .loop .inv .0, c .loop-test .taken))
+loop-wrong-requires c κs = (c .before .before .before .before .before .before .pre .0, omega (arith, c .before .loop .inv .0, c .loop-test .taken), c .before .before .before .before .before .before .pre .2)
 
 returns : tie.Need-returns Inv-loop μ-loop
 returns c = from-found _ _ _ _ _ _ _ _ _ (c .before .before .before .loop .inv .1) (c .before .before .loop-test .taken) (c .before .loop-wrong .ensures) (c .if1 .taken)

@@ -6,10 +6,10 @@ use Rattle.tables.proofs.fill.fill.Statement.{statement}
 use Rattle.tables.proofs.fill.fill.Tie as tie
 
 tables-into-requires : tie.Need-tables-into-requires
-tables-into-requires c κs = (few-counted _ _ _ _ (c .before .before .before .before .before .pre) (c .before .before .num .ensures .0) (omega arith) (c .before .count-at .ensures .0), c .before .count-at .ensures .0)
+tables-into-requires c κs = (few-counted _ _ _ _ (c .before .before .before .before .before .pre) (c .before .before .num .ensures .0) (omega arith) (c .before .count-at .ensures .0), c .before .count-at .ensures .0, omega arith)
 
 refs-into-requires : tie.Need-refs-into-requires
-refs-into-requires c κs = few-counted _ _ _ _ (c .before .before .before .before .before .before .before .before .before .pre) (c .before .before .before .before .before .before .num .ensures .0) (omega arith) (c .before .before .before .before .before .count-at .ensures .0)
+refs-into-requires c κs = (few-counted _ _ _ _ (c .before .before .before .before .before .before .before .before .before .pre) (c .before .before .before .before .before .before .num .ensures .0) (omega arith) (c .before .before .before .before .before .count-at .ensures .0), omega arith)
 
 firsts-into-requires : tie.Need-firsts-into-requires
 firsts-into-requires c κs = few-counted _ _ _ _ (c .before .before .before .before .before .before .before .before .before .before .before .before .before .pre) (c .before .before .before .before .before .before .before .before .before .before .num .ensures .0) (omega arith) (c .before .before .before .before .before .before .before .before .before .count-at .ensures .0)

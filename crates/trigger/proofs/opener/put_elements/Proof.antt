@@ -38,7 +38,7 @@ put-element-requires : tie.Need-put-element-requires Inv-loop μ-loop
 put-element-requires c κs = (c .before .before .before .before .before .before .before .before .before .before .before .pre .0, c .before .before .before .before .before .before .before .before .before .before .before .pre .1, still-known (c .before .before .before .before .before .loop .inv .2 (c .before .before .before .before .before .before .before .before .before .before .before .pre .2)) (c .before .before .before .if1 .taken) (c .before .before .element .ensures))
 
 next-element-requires : tie.Need-next-element-requires Inv-loop μ-loop
-next-element-requires c κs = let r = c .before .before .before .before .before .before .before .before .before .before .before .before .before .before .before .before .pre .0 .segments in (r .trailed, r .short, c .before .before .before .before .before .before .before .before .if1 .taken)
+next-element-requires c κs = let r = c .before .before .before .before .before .before .before .before .before .before .before .before .before .before .before .before .pre .0 .segments in (r .trailed, r .short, c .before .before .before .before .before .before .before .before .if1 .taken, r .within)
 
 loop-less : tie.Need-loop-less Inv-loop μ-loop
 loop-less c = one-less (c .before .before .before .before .before .before .before .before .before .before .before .loop .inv .2 (c .before .before .before .before .before .before .before .before .before .before .before .before .before .before .before .before .before .pre .2)) (c .before .before .before .before .before .before .before .before .before .if1 .taken) (c .next-element .ensures)
