@@ -28,14 +28,14 @@ pub struct Parts {
 
 // ---- spec
 
-pub fn large_at(b: &[u8], at: usize, end: u32) -> bool
+fn large_at(b: &[u8], at: usize, end: u32) -> bool
     requires { ⌜ end ≤ length (now b) ⌝ }
     ensures { λ r. ⌜ Says numC (now (b .entry)) end at large r ⌝ }
 {
     255 < codec::count_at(b, at, end)
 }
 
-pub fn opt_large_at(b: &[u8], at: usize, end: u32) -> bool
+fn opt_large_at(b: &[u8], at: usize, end: u32) -> bool
     requires { ⌜ end ≤ length (now b) ⌝ }
     ensures { λ r. ⌜ Says (optC numC) (now (b .entry)) end at (ifSome large) r ⌝ }
 {
@@ -46,7 +46,7 @@ pub fn opt_large_at(b: &[u8], at: usize, end: u32) -> bool
     false
 }
 
-pub fn larges_at(b: &[u8], at: usize, end: u32) -> bool
+fn larges_at(b: &[u8], at: usize, end: u32) -> bool
     requires { ⌜ end ≤ length (now b) ⌝ }
     ensures { λ r. ⌜ Says (listC numC) (now (b .entry)) end at (anyOf large) r ⌝ }
 {
@@ -62,7 +62,7 @@ pub fn larges_at(b: &[u8], at: usize, end: u32) -> bool
     false
 }
 
-pub fn control_over(b: &[u8], at: usize, end: u32) -> bool
+fn control_over(b: &[u8], at: usize, end: u32) -> bool
     requires { ⌜ end ≤ length (now b) ⌝ }
     ensures { λ r. ⌜ Says controlC (now (b .entry)) end at overControl r ⌝ }
 {
@@ -74,7 +74,7 @@ pub fn control_over(b: &[u8], at: usize, end: u32) -> bool
     codec::either(x, codec::either(y, z))
 }
 
-pub fn opt_control_over(b: &[u8], at: usize, end: u32) -> bool
+fn opt_control_over(b: &[u8], at: usize, end: u32) -> bool
     requires { ⌜ end ≤ length (now b) ⌝ }
     ensures { λ r. ⌜ Says (optC controlC) (now (b .entry)) end at (ifSome overControl) r ⌝ }
 {
@@ -85,7 +85,7 @@ pub fn opt_control_over(b: &[u8], at: usize, end: u32) -> bool
     false
 }
 
-pub fn loop_over(b: &[u8], at: usize, end: u32) -> Told
+fn loop_over(b: &[u8], at: usize, end: u32) -> Told
     requires { ⌜ end ≤ length (now b) ⌝ }
     ensures { λ r. ⌜ Passes loopC (now (b .entry)) end at overLoop (r .found) (r .next) ⌝ }
 {
@@ -105,7 +105,7 @@ pub fn loop_over(b: &[u8], at: usize, end: u32) -> Told
     }
 }
 
-pub fn loops_over(b: &[u8], at: usize, end: u32) -> Told
+fn loops_over(b: &[u8], at: usize, end: u32) -> Told
     requires { ⌜ end ≤ length (now b) ⌝ }
     ensures { λ r. ⌜ Passes (listC loopC) (now (b .entry)) end at (anyOf overLoop) (r .found) (r .next) ⌝ }
 {
@@ -126,7 +126,7 @@ pub fn loops_over(b: &[u8], at: usize, end: u32) -> Told
 }
 
 // A component and its number.
-pub fn component_over(b: &[u8], at: usize, end: u32) -> Told
+fn component_over(b: &[u8], at: usize, end: u32) -> Told
     requires { ⌜ end ≤ length (now b) ⌝ }
     ensures { λ r. ⌜ Passes (numC ⊗ componentC) (now (b .entry)) end at overComponent (r .found) (r .next) ⌝ }
 {
@@ -144,7 +144,7 @@ pub fn component_over(b: &[u8], at: usize, end: u32) -> Told
     }
 }
 
-pub fn components_over(b: &[u8], at: usize, end: u32) -> Told
+fn components_over(b: &[u8], at: usize, end: u32) -> Told
     requires { ⌜ end ≤ length (now b) ⌝ }
     ensures { λ r. ⌜ Passes (listC (numC ⊗ componentC)) (now (b .entry)) end at (anyOf overComponent) (r .found) (r .next) ⌝ }
 {
@@ -165,7 +165,7 @@ pub fn components_over(b: &[u8], at: usize, end: u32) -> Told
 }
 
 // An element and its number.
-pub fn element_over(b: &[u8], at: usize, end: u32) -> Told
+fn element_over(b: &[u8], at: usize, end: u32) -> Told
     requires { ⌜ end ≤ length (now b) ⌝ }
     ensures { λ r. ⌜ Passes (numC ⊗ elementC) (now (b .entry)) end at overElement (r .found) (r .next) ⌝ }
 {
@@ -184,7 +184,7 @@ pub fn element_over(b: &[u8], at: usize, end: u32) -> Told
     }
 }
 
-pub fn elements_over(b: &[u8], at: usize, end: u32) -> Told
+fn elements_over(b: &[u8], at: usize, end: u32) -> Told
     requires { ⌜ end ≤ length (now b) ⌝ }
     ensures { λ r. ⌜ Passes (listC (numC ⊗ elementC)) (now (b .entry)) end at (anyOf overElement) (r .found) (r .next) ⌝ }
 {
@@ -205,7 +205,7 @@ pub fn elements_over(b: &[u8], at: usize, end: u32) -> Told
 }
 
 // A segment and its identifier.
-pub fn segment_over(b: &[u8], at: usize, end: u32) -> Told
+fn segment_over(b: &[u8], at: usize, end: u32) -> Told
     requires { ⌜ end ≤ length (now b) ⌝ }
     ensures { λ r. ⌜ Passes (bytesC ⊗ segmentC) (now (b .entry)) end at overSegment (r .found) (r .next) ⌝ }
 {
@@ -213,7 +213,7 @@ pub fn segment_over(b: &[u8], at: usize, end: u32) -> Told
     elements_over(b, value, end)
 }
 
-pub fn segments_over(b: &[u8], at: usize, end: u32) -> Told
+fn segments_over(b: &[u8], at: usize, end: u32) -> Told
     requires { ⌜ end ≤ length (now b) ⌝ }
     ensures { λ r. ⌜ Passes (listC (bytesC ⊗ segmentC)) (now (b .entry)) end at (anyOf overSegment) (r .found) (r .next) ⌝ }
 {
@@ -233,7 +233,7 @@ pub fn segments_over(b: &[u8], at: usize, end: u32) -> Told
     }
 }
 
-pub fn step_over(b: &[u8], at: usize, end: u32) -> bool
+fn step_over(b: &[u8], at: usize, end: u32) -> bool
     requires { ⌜ end ≤ length (now b) ⌝ }
     ensures { λ r. ⌜ Says repeatC (now (b .entry)) end at overStep r ⌝ }
 {
@@ -241,7 +241,7 @@ pub fn step_over(b: &[u8], at: usize, end: u32) -> bool
     large_at(b, step, end)
 }
 
-pub fn opt_step_over(b: &[u8], at: usize, end: u32) -> bool
+fn opt_step_over(b: &[u8], at: usize, end: u32) -> bool
     requires { ⌜ end ≤ length (now b) ⌝ }
     ensures { λ r. ⌜ Says (optC repeatC) (now (b .entry)) end at (ifSome overStep) r ⌝ }
 {
@@ -252,7 +252,7 @@ pub fn opt_step_over(b: &[u8], at: usize, end: u32) -> bool
     false
 }
 
-pub fn table_over(b: &[u8], at: usize, end: u32) -> Told
+fn table_over(b: &[u8], at: usize, end: u32) -> Told
     requires { ⌜ end ≤ length (now b) ⌝ }
     ensures { λ r. ⌜ Passes tableC (now (b .entry)) end at overTable (r .found) (r .next) ⌝ }
 {
@@ -271,7 +271,7 @@ pub fn table_over(b: &[u8], at: usize, end: u32) -> Told
     }
 }
 
-pub fn tables_over(b: &[u8], at: usize, end: u32) -> Told
+fn tables_over(b: &[u8], at: usize, end: u32) -> Told
     requires { ⌜ end ≤ length (now b) ⌝ }
     ensures { λ r. ⌜ Passes (listC tableC) (now (b .entry)) end at (anyOf overTable) (r .found) (r .next) ⌝ }
 {
@@ -291,7 +291,7 @@ pub fn tables_over(b: &[u8], at: usize, end: u32) -> Told
     }
 }
 
-pub fn version_over(b: &[u8], at: usize, end: u32) -> bool
+fn version_over(b: &[u8], at: usize, end: u32) -> bool
     requires { ⌜ end ≤ length (now b) ⌝ }
     ensures { λ r. ⌜ Says versionC (now (b .entry)) end at overVersion r ⌝ }
 {
@@ -299,7 +299,7 @@ pub fn version_over(b: &[u8], at: usize, end: u32) -> bool
     large_at(b, segment, end)
 }
 
-pub fn opt_version_over(b: &[u8], at: usize, end: u32) -> bool
+fn opt_version_over(b: &[u8], at: usize, end: u32) -> bool
     requires { ⌜ end ≤ length (now b) ⌝ }
     ensures { λ r. ⌜ Says (optC versionC) (now (b .entry)) end at (ifSome overVersion) r ⌝ }
 {
@@ -310,7 +310,7 @@ pub fn opt_version_over(b: &[u8], at: usize, end: u32) -> bool
     false
 }
 
-pub fn spec_over(b: &[u8], at: usize, end: u32) -> Parts
+fn spec_over(b: &[u8], at: usize, end: u32) -> Parts
     requires { ⌜ end ≤ length (now b) ⌝ }
     ensures { λ r. ⌜ ((v : Spec) → Is specC (now (b .entry)) end at v → (r .found ≡ overSpec v) × (r .found ≡ false → (r .roots ≡ specRoots (now (b .entry)) end at) × (r .tables ≡ specTables (now (b .entry)) end at))) ⌝ }
 {
@@ -335,7 +335,7 @@ pub fn spec_over(b: &[u8], at: usize, end: u32) -> Parts
 
 // ---- plan and layout
 
-pub fn element_plan_over(b: &[u8], at: usize, end: u32) -> Told
+fn element_plan_over(b: &[u8], at: usize, end: u32) -> Told
     requires { ⌜ end ≤ length (now b) ⌝ }
     ensures { λ r. ⌜ Passes elementPlanC (now (b .entry)) end at overElementPlan (r .found) (r .next) ⌝ }
 {
@@ -351,7 +351,7 @@ pub fn element_plan_over(b: &[u8], at: usize, end: u32) -> Told
     }
 }
 
-pub fn element_plans_over(b: &[u8], at: usize, end: u32) -> Told
+fn element_plans_over(b: &[u8], at: usize, end: u32) -> Told
     requires { ⌜ end ≤ length (now b) ⌝ }
     ensures { λ r. ⌜ Passes (listC elementPlanC) (now (b .entry)) end at (anyOf overElementPlan) (r .found) (r .next) ⌝ }
 {
@@ -371,7 +371,7 @@ pub fn element_plans_over(b: &[u8], at: usize, end: u32) -> Told
     }
 }
 
-pub fn segment_plan_over(b: &[u8], at: usize, end: u32) -> Told
+fn segment_plan_over(b: &[u8], at: usize, end: u32) -> Told
     requires { ⌜ end ≤ length (now b) ⌝ }
     ensures { λ r. ⌜ Passes segmentPlanC (now (b .entry)) end at overSegmentPlan (r .found) (r .next) ⌝ }
 {
@@ -380,7 +380,7 @@ pub fn segment_plan_over(b: &[u8], at: usize, end: u32) -> Told
     element_plans_over(b, source, end)
 }
 
-pub fn segment_plans_over(b: &[u8], at: usize, end: u32) -> Told
+fn segment_plans_over(b: &[u8], at: usize, end: u32) -> Told
     requires { ⌜ end ≤ length (now b) ⌝ }
     ensures { λ r. ⌜ Passes (listC segmentPlanC) (now (b .entry)) end at (anyOf overSegmentPlan) (r .found) (r .next) ⌝ }
 {
@@ -400,7 +400,7 @@ pub fn segment_plans_over(b: &[u8], at: usize, end: u32) -> Told
     }
 }
 
-pub fn loop_plan_over(b: &[u8], at: usize, end: u32) -> Told
+fn loop_plan_over(b: &[u8], at: usize, end: u32) -> Told
     requires { ⌜ end ≤ length (now b) ⌝ }
     ensures { λ r. ⌜ Passes loopPlanC (now (b .entry)) end at overLoopPlan (r .found) (r .next) ⌝ }
 {
@@ -414,7 +414,7 @@ pub fn loop_plan_over(b: &[u8], at: usize, end: u32) -> Told
     }
 }
 
-pub fn plan_over(b: &[u8], at: usize, end: u32) -> Told
+fn plan_over(b: &[u8], at: usize, end: u32) -> Told
     requires { ⌜ end ≤ length (now b) ⌝ }
     ensures { λ r. ⌜ Passes (listC loopPlanC) (now (b .entry)) end at (anyOf overLoopPlan) (r .found) (r .next) ⌝ }
 {
@@ -435,7 +435,7 @@ pub fn plan_over(b: &[u8], at: usize, end: u32) -> Told
 }
 
 // The capacities.
-pub fn layout_over(b: &[u8], at: usize, end: u32) -> bool
+fn layout_over(b: &[u8], at: usize, end: u32) -> bool
     requires { ⌜ end ≤ length (now b) ⌝ }
     ensures { λ r. ⌜ Says layoutC (now (b .entry)) end at overLayout r ⌝ }
 {
@@ -448,7 +448,7 @@ pub fn layout_over(b: &[u8], at: usize, end: u32) -> bool
 
 // ---- data
 
-pub fn table_data_over(b: &[u8], at: usize, end: u32) -> Told
+fn table_data_over(b: &[u8], at: usize, end: u32) -> Told
     requires { ⌜ end ≤ length (now b) ⌝ }
     ensures { λ r. ⌜ Passes tableDataC (now (b .entry)) end at overTableData (r .found) (r .next) ⌝ }
 {
@@ -465,7 +465,7 @@ pub fn table_data_over(b: &[u8], at: usize, end: u32) -> Told
 }
 
 // Each table, and the rows of all together.
-pub fn table_datas_over(b: &[u8], at: usize, end: u32) -> bool
+fn table_datas_over(b: &[u8], at: usize, end: u32) -> bool
     requires { ⌜ end ≤ length (now b) ⌝ }
     ensures { λ r. ⌜ Says (listC tableDataC) (now (b .entry)) end at overTables r ⌝ }
 {
@@ -487,7 +487,7 @@ pub fn table_datas_over(b: &[u8], at: usize, end: u32) -> bool
     false
 }
 
-pub fn data_over(b: &[u8], at: usize, end: u32) -> bool
+fn data_over(b: &[u8], at: usize, end: u32) -> bool
     requires { ⌜ end ≤ length (now b) ⌝ }
     ensures { λ r. ⌜ Says (listC tableDataC) (now (b .entry)) end at overData r ⌝ }
 {

@@ -22,7 +22,7 @@ ghost use Rattle.loops.specs.Parts.{hit, memberIn, repeatsIn, againIn, m
 // ---- parents and children
 
 // A child whose parent is not i.
-pub fn stranger_at(b: &[u8], at: usize, end: u32, loops: usize, places: &[usize], i: usize) -> bool
+fn stranger_at(b: &[u8], at: usize, end: u32, loops: usize, places: &[usize], i: usize) -> bool
     requires { ⌜ Placed (now b) end loops (now places) × (end ≤ length (now b)) ⌝ }
     ensures { λ r. ⌜ ((ls : List Loop) → Is (listC loopC) (now (b .entry)) end loops ls → Says numC (now (b .entry)) end at (notParent ls i) r) ⌝ }
 {
@@ -30,7 +30,7 @@ pub fn stranger_at(b: &[u8], at: usize, end: u32, loops: usize, places: &[usize]
     !tree::parent_is(b, loops, end, places, i, c)
 }
 
-pub fn strangers_at(b: &[u8], at: usize, end: u32, loops: usize, places: &[usize], i: usize) -> bool
+fn strangers_at(b: &[u8], at: usize, end: u32, loops: usize, places: &[usize], i: usize) -> bool
     requires { ⌜ Placed (now b) end loops (now places) × (end ≤ length (now b)) ⌝ }
     ensures { λ r. ⌜ ((ls : List Loop) → Is (listC loopC) (now (b .entry)) end loops ls → Says (listC numC) (now (b .entry)) end at (anyOf (notParent ls i)) r) ⌝ }
 {
@@ -47,7 +47,7 @@ pub fn strangers_at(b: &[u8], at: usize, end: u32, loops: usize, places: &[usize
 }
 
 // A parent that has no child i.
-pub fn unlisted_at(b: &[u8], at: usize, end: u32, loops: usize, places: &[usize], i: usize) -> bool
+fn unlisted_at(b: &[u8], at: usize, end: u32, loops: usize, places: &[usize], i: usize) -> bool
     requires { ⌜ Placed (now b) end loops (now places) × (end ≤ length (now b)) ⌝ }
     ensures { λ r. ⌜ ((ls : List Loop) → Is (listC loopC) (now (b .entry)) end loops ls → Says numC (now (b .entry)) end at (notChild ls i) r) ⌝ }
 {
@@ -55,14 +55,7 @@ pub fn unlisted_at(b: &[u8], at: usize, end: u32, loops: usize, places: &[usize]
     !tree::is_child(b, loops, end, places, i, p)
 }
 
-pub fn opt_unlisted_at(
-    b: &[u8],
-    at: usize,
-    end: u32,
-    loops: usize,
-    places: &[usize],
-    i: usize,
-) -> bool
+fn opt_unlisted_at(b: &[u8], at: usize, end: u32, loops: usize, places: &[usize], i: usize) -> bool
     requires { ⌜ Placed (now b) end loops (now places) × (end ≤ length (now b)) ⌝ }
     ensures { λ r. ⌜ ((ls : List Loop) → Is (listC loopC) (now (b .entry)) end loops ls → Says (optC numC) (now (b .entry)) end at (ifSome (notChild ls i)) r) ⌝ }
 {
@@ -74,7 +67,7 @@ pub fn opt_unlisted_at(
 }
 
 // A loop's children repeat. Asked of all loops first, so that no list of children that is looked through is long.
-pub fn loops_repeat(b: &[u8], at: usize, end: u32, places: &[usize]) -> bool
+fn loops_repeat(b: &[u8], at: usize, end: u32, places: &[usize]) -> bool
     requires { ⌜ Placed (now b) end at (now places) × (end ≤ length (now b)) ⌝ }
     ensures { λ r. ⌜ Says (listC loopC) (now (b .entry)) end at (anyOf repeatsBelow) r ⌝ }
 {
@@ -91,7 +84,7 @@ pub fn loops_repeat(b: &[u8], at: usize, end: u32, places: &[usize]) -> bool
 }
 
 // The loop i, whose children are known to stand at a place.
-pub fn disagrees_at(
+fn disagrees_at(
     b: &[u8],
     at: usize,
     children: usize,
@@ -111,7 +104,7 @@ pub fn disagrees_at(
     codec::either(x, y)
 }
 
-pub fn disagreements(b: &[u8], at: usize, end: u32, places: &[usize]) -> bool
+fn disagreements(b: &[u8], at: usize, end: u32, places: &[usize]) -> bool
     requires { ⌜ Placed (now b) end at (now places) × (end ≤ length (now b)) ⌝ }
     ensures { λ r. ⌜ ((ls : List Loop) → Is (listC loopC) (now (b .entry)) end at ls → Says (listC loopC) (now (b .entry)) end at (anyFrom (disagrees ls) 0) r) ⌝ }
 {
@@ -130,7 +123,7 @@ pub fn disagreements(b: &[u8], at: usize, end: u32, places: &[usize]) -> bool
 
 // ---- rings and roots
 
-pub fn ringed_at(b: &[u8], at: usize, end: u32, places: &[usize], i: usize) -> bool
+fn ringed_at(b: &[u8], at: usize, end: u32, places: &[usize], i: usize) -> bool
     requires { ⌜ Placed (now b) end at (now places) × (end ≤ length (now b)) ⌝ }
     ensures { λ r. ⌜ ((ls : List Loop) → Is (listC loopC) (now (b .entry)) end at ls → (v : Loop) → r ≡ ringed ls i v) ⌝ }
 {
@@ -147,7 +140,7 @@ pub fn ringed_at(b: &[u8], at: usize, end: u32, places: &[usize], i: usize) -> b
     true
 }
 
-pub fn rings(b: &[u8], at: usize, end: u32, places: &[usize]) -> bool
+fn rings(b: &[u8], at: usize, end: u32, places: &[usize]) -> bool
     requires { ⌜ Placed (now b) end at (now places) × (end ≤ length (now b)) ⌝ }
     ensures { λ r. ⌜ ((ls : List Loop) → Is (listC loopC) (now (b .entry)) end at ls → Says (listC loopC) (now (b .entry)) end at (anyFrom (ringed ls) 0) r) ⌝ }
 {
@@ -162,7 +155,7 @@ pub fn rings(b: &[u8], at: usize, end: u32, places: &[usize]) -> bool
     false
 }
 
-pub fn hit_at(b: &[u8], at: usize, end: u32, x: usize) -> usize
+fn hit_at(b: &[u8], at: usize, end: u32, x: usize) -> usize
     requires { ⌜ end ≤ length (now b) ⌝ }
     ensures { λ r. ⌜ Says numC (now (b .entry)) end at (hit x) r × (r < 2) ⌝ }
 {
@@ -173,7 +166,7 @@ pub fn hit_at(b: &[u8], at: usize, end: u32, x: usize) -> usize
 }
 
 // How often x is in a list of numbers.
-pub fn times_at(b: &[u8], at: usize, end: u32, x: usize) -> usize
+fn times_at(b: &[u8], at: usize, end: u32, x: usize) -> usize
     requires { ⌜ end ≤ length (now b) ⌝ }
     ensures { λ r. ⌜ Says (listC numC) (now (b .entry)) end at (timesIn x) r ⌝ }
 {
@@ -188,7 +181,7 @@ pub fn times_at(b: &[u8], at: usize, end: u32, x: usize) -> usize
     t
 }
 
-pub fn misrooted_at(b: &[u8], at: usize, end: u32, roots: usize, i: usize) -> bool
+fn misrooted_at(b: &[u8], at: usize, end: u32, roots: usize, i: usize) -> bool
     requires { ⌜ end ≤ length (now b) ⌝ }
     ensures { λ r. ⌜ ((rs : List ℕ) → Is (listC numC) (now (b .entry)) end roots rs → Says loopC (now (b .entry)) end at (misrooted rs i) r) ⌝ }
 {
@@ -199,7 +192,7 @@ pub fn misrooted_at(b: &[u8], at: usize, end: u32, roots: usize, i: usize) -> bo
     t != 1
 }
 
-pub fn misroots(b: &[u8], at: usize, end: u32, roots: usize, places: &[usize]) -> bool
+fn misroots(b: &[u8], at: usize, end: u32, roots: usize, places: &[usize]) -> bool
     requires { ⌜ Placed (now b) end at (now places) × (end ≤ length (now b)) ⌝ }
     ensures { λ r. ⌜ ((rs : List ℕ) → Is (listC numC) (now (b .entry)) end roots rs → Says (listC loopC) (now (b .entry)) end at (anyFrom (misrooted rs) 0) r) ⌝ }
 {
@@ -218,7 +211,7 @@ pub fn misroots(b: &[u8], at: usize, end: u32, roots: usize, places: &[usize]) -
 // ---- orders; the loops stand in another section, which ends at bound
 
 // A loop that is no child of k.
-pub fn misplaced_at(
+fn misplaced_at(
     b: &[u8],
     at: usize,
     end: u32,
@@ -234,7 +227,7 @@ pub fn misplaced_at(
     !tree::is_child(b, loops, bound, places, l, k)
 }
 
-pub fn item_misplaced(
+fn item_misplaced(
     b: &[u8],
     at: usize,
     end: u32,
@@ -253,7 +246,7 @@ pub fn item_misplaced(
     false
 }
 
-pub fn items_misplaced(
+fn items_misplaced(
     b: &[u8],
     at: usize,
     end: u32,
@@ -277,7 +270,7 @@ pub fn items_misplaced(
     false
 }
 
-pub fn item_same_at(b: &[u8], at: usize, end: u32, x: usize) -> bool
+fn item_same_at(b: &[u8], at: usize, end: u32, x: usize) -> bool
     requires { ⌜ end ≤ length (now b) ⌝ }
     ensures { λ r. ⌜ Says itemC (now (b .entry)) end at (onLoop (eqb x)) r ⌝ }
 {
@@ -288,7 +281,7 @@ pub fn item_same_at(b: &[u8], at: usize, end: u32, x: usize) -> bool
     false
 }
 
-pub fn item_member_behind(b: &[u8], at: usize, end: u32, rest: usize, x: usize) -> bool
+fn item_member_behind(b: &[u8], at: usize, end: u32, rest: usize, x: usize) -> bool
     requires { ⌜ end ≤ length (now b) ⌝ }
     ensures { λ r. ⌜ SaysRest itemC (now (b .entry)) end rest at (memberIn x) r ⌝ }
 {
@@ -305,7 +298,7 @@ pub fn item_member_behind(b: &[u8], at: usize, end: u32, rest: usize, x: usize) 
 }
 
 // Whether the item at a place names a loop that one of the rest behind it, from next on, names too.
-pub fn item_again(b: &[u8], at: usize, end: u32, rest: usize, next: usize) -> bool
+fn item_again(b: &[u8], at: usize, end: u32, rest: usize, next: usize) -> bool
     requires { ⌜ end ≤ length (now b) ⌝ }
     ensures { λ r. ⌜ SaysBefore itemC (now (b .entry)) end at rest next againIn r ⌝ }
 {
@@ -318,7 +311,7 @@ pub fn item_again(b: &[u8], at: usize, end: u32, rest: usize, next: usize) -> bo
 }
 
 // Whether an order names a loop twice, by a search behind each item.
-pub fn order_searched(b: &[u8], at: usize, end: u32) -> bool
+fn order_searched(b: &[u8], at: usize, end: u32) -> bool
     requires { ⌜ end ≤ length (now b) ⌝ }
     ensures { λ r. ⌜ Says (listC itemC) (now (b .entry)) end at repeatsIn r ⌝ }
 {
@@ -336,7 +329,7 @@ pub fn order_searched(b: &[u8], at: usize, end: u32) -> bool
 }
 
 // Notes the loop that the item at a place names, behind k others.
-pub fn note_name(b: &[u8], at: usize, end: u32, names: &mut [usize], k: usize) -> usize
+fn note_name(b: &[u8], at: usize, end: u32, names: &mut [usize], k: usize) -> usize
     requires { ⌜ (k < length (now names)) × (end ≤ length (now b)) ⌝ }
     ensures { λ r. ⌜ (length (now (names .exit)) ≡ length (now (names .entry))) × ((r ≤ k + 1) × ((y : Item) → Is itemC (now (b .entry)) end at y → take r (now (names .exit)) ≡ take k (now (names .entry)) ++ loopsIn (y ∷ []))) ⌝ }
 {
@@ -349,7 +342,7 @@ pub fn note_name(b: &[u8], at: usize, end: u32, names: &mut [usize], k: usize) -
 }
 
 // The loops that an order names, as far as there is room.
-pub fn note_names(b: &[u8], at: usize, end: u32, names: &mut [usize]) -> usize
+fn note_names(b: &[u8], at: usize, end: u32, names: &mut [usize]) -> usize
     requires { ⌜ end ≤ length (now b) ⌝ }
     ensures { λ r. ⌜ (length (now (names .exit)) ≡ length (now (names .entry))) × ((r ≤ length (now (names .exit))) × ((o : List Item) → Is (listC itemC) (now (b .entry)) end at o → Noted (loopsIn o) (now (names .exit)) r)) ⌝ }
 {
@@ -368,7 +361,7 @@ pub fn note_names(b: &[u8], at: usize, end: u32, names: &mut [usize]) -> usize
 }
 
 // The same from the first 33 loops that it names, as `tree::repeats_at`.
-pub fn order_repeats(b: &[u8], at: usize, end: u32) -> bool
+fn order_repeats(b: &[u8], at: usize, end: u32) -> bool
     requires { ⌜ end ≤ length (now b) ⌝ }
     ensures { λ r. ⌜ Says (listC itemC) (now (b .entry)) end at repeatsIn r ⌝ }
 {
@@ -386,7 +379,7 @@ pub fn order_repeats(b: &[u8], at: usize, end: u32) -> bool
     order_searched(b, at, end)
 }
 
-pub fn misordered_at(
+fn misordered_at(
     b: &[u8],
     at: usize,
     end: u32,
@@ -404,7 +397,7 @@ pub fn misordered_at(
     items_misplaced(b, at, end, loops, bound, places, k)
 }
 
-pub fn misorders(b: &[u8], at: usize, end: u32, loops: usize, bound: u32, places: &[usize]) -> bool
+fn misorders(b: &[u8], at: usize, end: u32, loops: usize, bound: u32, places: &[usize]) -> bool
     requires { ⌜ Placed (now b) bound loops (now places) × (end ≤ length (now b)) × (bound ≤ length (now b)) ⌝ }
     ensures { λ r. ⌜ ((ls : List Loop) → Is (listC loopC) (now (b .entry)) bound loops ls → Says (listC (listC itemC)) (now (b .entry)) end at (anyFrom (misordered ls) 0) r) ⌝ }
 {
@@ -424,7 +417,7 @@ pub fn misorders(b: &[u8], at: usize, end: u32, loops: usize, bound: u32, places
 
 // ---- the whole
 
-pub fn spec_tangled(b: &[u8], at: usize, end: u32, roots: usize, places: &[usize]) -> bool
+fn spec_tangled(b: &[u8], at: usize, end: u32, roots: usize, places: &[usize]) -> bool
     requires { ⌜ Placed (now b) end at (now places) × (roots ≡ specRoots (now b) end at) × (end ≤ length (now b)) ⌝ }
     ensures { λ r. ⌜ Says specC (now (b .entry)) end at tangledSpec r ⌝ }
 {

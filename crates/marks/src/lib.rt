@@ -21,7 +21,7 @@ use says::Told;
 // ---- bytes and byte strings
 
 // From low to high, both included.
-pub fn within(low: usize, high: usize, c: usize) -> bool
+fn within(low: usize, high: usize, c: usize) -> bool
     ensures { λ r. ⌜ r ≡ between low high c ⌝ }
 {
     if c < low {
@@ -31,7 +31,7 @@ pub fn within(low: usize, high: usize, c: usize) -> bool
 }
 
 // A letter, a digit, space, minus or point.
-pub fn is_textual(c: usize) -> bool
+fn is_textual(c: usize) -> bool
     ensures { λ r. ⌜ r ≡ textual c ⌝ }
 {
     let x = within(65, 90, c);
@@ -47,7 +47,7 @@ pub fn is_textual(c: usize) -> bool
 }
 
 // A byte that no identifier has.
-pub fn stray_at(b: &[u8], at: usize, end: u32) -> bool
+fn stray_at(b: &[u8], at: usize, end: u32) -> bool
     requires { ⌜ end ≤ length (now b) ⌝ }
     ensures { λ r. ⌜ Says byteC (now (b .entry)) end at stray r ⌝ }
 {
@@ -57,7 +57,7 @@ pub fn stray_at(b: &[u8], at: usize, end: u32) -> bool
     !codec::either(x, y)
 }
 
-pub fn strays_at(b: &[u8], at: usize, end: u32) -> bool
+fn strays_at(b: &[u8], at: usize, end: u32) -> bool
     requires { ⌜ end ≤ length (now b) ⌝ }
     ensures { λ r. ⌜ Says (listC byteC) (now (b .entry)) end at (anyOf stray) r ⌝ }
 {
@@ -74,7 +74,7 @@ pub fn strays_at(b: &[u8], at: usize, end: u32) -> bool
 }
 
 // Not 2 or 3 bytes of A to Z, 0 to 9.
-pub fn unnamed_at(b: &[u8], at: usize, end: u32) -> bool
+fn unnamed_at(b: &[u8], at: usize, end: u32) -> bool
     requires { ⌜ end ≤ length (now b) ⌝ }
     ensures { λ r. ⌜ Says bytesC (now (b .entry)) end at unnamed r ⌝ }
 {
@@ -85,7 +85,7 @@ pub fn unnamed_at(b: &[u8], at: usize, end: u32) -> bool
     true
 }
 
-pub fn names_unfit(b: &[u8], at: usize, end: u32) -> Told
+fn names_unfit(b: &[u8], at: usize, end: u32) -> Told
     requires { ⌜ end ≤ length (now b) ⌝ }
     ensures { λ r. ⌜ Passes (listC bytesC) (now (b .entry)) end at (anyOf unnamed) (r .found) (r .next) ⌝ }
 {
@@ -107,7 +107,7 @@ pub fn names_unfit(b: &[u8], at: usize, end: u32) -> Told
     }
 }
 
-pub fn opt_unnamed_at(b: &[u8], at: usize, end: u32) -> bool
+fn opt_unnamed_at(b: &[u8], at: usize, end: u32) -> bool
     requires { ⌜ end ≤ length (now b) ⌝ }
     ensures { λ r. ⌜ Says (optC bytesC) (now (b .entry)) end at (ifSome unnamed) r ⌝ }
 {
@@ -118,7 +118,7 @@ pub fn opt_unnamed_at(b: &[u8], at: usize, end: u32) -> bool
     false
 }
 
-pub fn high_at(b: &[u8], at: usize, end: u32) -> bool
+fn high_at(b: &[u8], at: usize, end: u32) -> bool
     requires { ⌜ end ≤ length (now b) ⌝ }
     ensures { λ r. ⌜ Says byteC (now (b .entry)) end at high r ⌝ }
 {
@@ -126,7 +126,7 @@ pub fn high_at(b: &[u8], at: usize, end: u32) -> bool
 }
 
 // Not ASCII.
-pub fn foreign_at(b: &[u8], at: usize, end: u32) -> bool
+fn foreign_at(b: &[u8], at: usize, end: u32) -> bool
     requires { ⌜ end ≤ length (now b) ⌝ }
     ensures { λ r. ⌜ Says bytesC (now (b .entry)) end at foreign r ⌝ }
 {
@@ -142,7 +142,7 @@ pub fn foreign_at(b: &[u8], at: usize, end: u32) -> bool
     false
 }
 
-pub fn opt_foreign_at(b: &[u8], at: usize, end: u32) -> bool
+fn opt_foreign_at(b: &[u8], at: usize, end: u32) -> bool
     requires { ⌜ end ≤ length (now b) ⌝ }
     ensures { λ r. ⌜ Says (optC bytesC) (now (b .entry)) end at (ifSome foreign) r ⌝ }
 {
@@ -153,7 +153,7 @@ pub fn opt_foreign_at(b: &[u8], at: usize, end: u32) -> bool
     false
 }
 
-pub fn codes_unfit(b: &[u8], at: usize, end: u32) -> Told
+fn codes_unfit(b: &[u8], at: usize, end: u32) -> Told
     requires { ⌜ end ≤ length (now b) ⌝ }
     ensures { λ r. ⌜ Passes (listC bytesC) (now (b .entry)) end at (anyOf foreign) (r .found) (r .next) ⌝ }
 {
@@ -177,7 +177,7 @@ pub fn codes_unfit(b: &[u8], at: usize, end: u32) -> Told
 
 // ---- spec
 
-pub fn loop_unfit(b: &[u8], at: usize, end: u32) -> Told
+fn loop_unfit(b: &[u8], at: usize, end: u32) -> Told
     requires { ⌜ end ≤ length (now b) ⌝ }
     ensures { λ r. ⌜ Passes loopC (now (b .entry)) end at unfitLoop (r .found) (r .next) ⌝ }
 {
@@ -197,7 +197,7 @@ pub fn loop_unfit(b: &[u8], at: usize, end: u32) -> Told
     }
 }
 
-pub fn loops_unfit(b: &[u8], at: usize, end: u32) -> Told
+fn loops_unfit(b: &[u8], at: usize, end: u32) -> Told
     requires { ⌜ end ≤ length (now b) ⌝ }
     ensures { λ r. ⌜ Passes (listC loopC) (now (b .entry)) end at (anyOf unfitLoop) (r .found) (r .next) ⌝ }
 {
@@ -217,7 +217,7 @@ pub fn loops_unfit(b: &[u8], at: usize, end: u32) -> Told
     }
 }
 
-pub fn component_unfit(b: &[u8], at: usize, end: u32) -> Told
+fn component_unfit(b: &[u8], at: usize, end: u32) -> Told
     requires { ⌜ end ≤ length (now b) ⌝ }
     ensures { λ r. ⌜ Passes (numC ⊗ componentC) (now (b .entry)) end at unfitComponent (r .found) (r .next) ⌝ }
 {
@@ -228,7 +228,7 @@ pub fn component_unfit(b: &[u8], at: usize, end: u32) -> Told
     codes_unfit(b, max, end)
 }
 
-pub fn components_unfit(b: &[u8], at: usize, end: u32) -> Told
+fn components_unfit(b: &[u8], at: usize, end: u32) -> Told
     requires { ⌜ end ≤ length (now b) ⌝ }
     ensures { λ r. ⌜ Passes (listC (numC ⊗ componentC)) (now (b .entry)) end at (anyOf unfitComponent) (r .found) (r .next) ⌝ }
 {
@@ -248,7 +248,7 @@ pub fn components_unfit(b: &[u8], at: usize, end: u32) -> Told
     }
 }
 
-pub fn element_unfit(b: &[u8], at: usize, end: u32) -> Told
+fn element_unfit(b: &[u8], at: usize, end: u32) -> Told
     requires { ⌜ end ≤ length (now b) ⌝ }
     ensures { λ r. ⌜ Passes (numC ⊗ elementC) (now (b .entry)) end at unfitElement (r .found) (r .next) ⌝ }
 {
@@ -265,7 +265,7 @@ pub fn element_unfit(b: &[u8], at: usize, end: u32) -> Told
     }
 }
 
-pub fn elements_unfit(b: &[u8], at: usize, end: u32) -> Told
+fn elements_unfit(b: &[u8], at: usize, end: u32) -> Told
     requires { ⌜ end ≤ length (now b) ⌝ }
     ensures { λ r. ⌜ Passes (listC (numC ⊗ elementC)) (now (b .entry)) end at (anyOf unfitElement) (r .found) (r .next) ⌝ }
 {
@@ -285,7 +285,7 @@ pub fn elements_unfit(b: &[u8], at: usize, end: u32) -> Told
     }
 }
 
-pub fn segment_unfit(b: &[u8], at: usize, end: u32) -> Told
+fn segment_unfit(b: &[u8], at: usize, end: u32) -> Told
     requires { ⌜ end ≤ length (now b) ⌝ }
     ensures { λ r. ⌜ Passes (bytesC ⊗ segmentC) (now (b .entry)) end at unfitSegment (r .found) (r .next) ⌝ }
 {
@@ -299,7 +299,7 @@ pub fn segment_unfit(b: &[u8], at: usize, end: u32) -> Told
     }
 }
 
-pub fn segments_unfit(b: &[u8], at: usize, end: u32) -> Told
+fn segments_unfit(b: &[u8], at: usize, end: u32) -> Told
     requires { ⌜ end ≤ length (now b) ⌝ }
     ensures { λ r. ⌜ Passes (listC (bytesC ⊗ segmentC)) (now (b .entry)) end at (anyOf unfitSegment) (r .found) (r .next) ⌝ }
 {
@@ -319,7 +319,7 @@ pub fn segments_unfit(b: &[u8], at: usize, end: u32) -> Told
     }
 }
 
-pub fn version_unfit(b: &[u8], at: usize, end: u32) -> bool
+fn version_unfit(b: &[u8], at: usize, end: u32) -> bool
     requires { ⌜ end ≤ length (now b) ⌝ }
     ensures { λ r. ⌜ Says versionC (now (b .entry)) end at unfitVersion r ⌝ }
 {
@@ -330,7 +330,7 @@ pub fn version_unfit(b: &[u8], at: usize, end: u32) -> bool
     codec::either(x, y)
 }
 
-pub fn opt_version_unfit(b: &[u8], at: usize, end: u32) -> bool
+fn opt_version_unfit(b: &[u8], at: usize, end: u32) -> bool
     requires { ⌜ end ≤ length (now b) ⌝ }
     ensures { λ r. ⌜ Says (optC versionC) (now (b .entry)) end at (ifSome unfitVersion) r ⌝ }
 {
@@ -341,7 +341,7 @@ pub fn opt_version_unfit(b: &[u8], at: usize, end: u32) -> bool
     false
 }
 
-pub fn spec_unfit(b: &[u8], at: usize, end: u32) -> bool
+fn spec_unfit(b: &[u8], at: usize, end: u32) -> bool
     requires { ⌜ end ≤ length (now b) ⌝ }
     ensures { λ r. ⌜ Says specC (now (b .entry)) end at unfitSpec r ⌝ }
 {
@@ -356,7 +356,7 @@ pub fn spec_unfit(b: &[u8], at: usize, end: u32) -> bool
 // ---- envelope
 
 // Of three separators, two are equal or one is textual.
-pub fn three_marked(x: usize, y: usize, z: usize) -> bool
+fn three_marked(x: usize, y: usize, z: usize) -> bool
     ensures { λ r. ⌜ r ≡ marked (x ∷ y ∷ z ∷ []) ⌝ }
 {
     let s = is_textual(x);
@@ -371,7 +371,7 @@ pub fn three_marked(x: usize, y: usize, z: usize) -> bool
     )
 }
 
-pub fn four_marked(x: usize, y: usize, z: usize, w: usize) -> bool
+fn four_marked(x: usize, y: usize, z: usize, w: usize) -> bool
     ensures { λ r. ⌜ r ≡ marked (x ∷ y ∷ z ∷ w ∷ []) ⌝ }
 {
     let s = is_textual(x);
@@ -384,7 +384,7 @@ pub fn four_marked(x: usize, y: usize, z: usize, w: usize) -> bool
 }
 
 // The separators, the element's first.
-pub fn marks_unfit(b: &[u8], at: usize, end: u32) -> bool
+fn marks_unfit(b: &[u8], at: usize, end: u32) -> bool
     requires { ⌜ end ≤ length (now b) ⌝ }
     ensures { λ r. ⌜ ((v : Envelope)
         → Is byteC (now (b .entry)) end at (v .element)
@@ -407,7 +407,7 @@ pub fn marks_unfit(b: &[u8], at: usize, end: u32) -> bool
     three_marked(x, y, z)
 }
 
-pub fn separators_unfit(b: &[u8], at: usize, end: u32) -> bool
+fn separators_unfit(b: &[u8], at: usize, end: u32) -> bool
     requires { ⌜ end ≤ length (now b) ⌝ }
     ensures { λ r. ⌜ Says envelopeC (now (b .entry)) end at markedEnvelope r ⌝ }
 {
@@ -425,7 +425,7 @@ pub fn separators_unfit(b: &[u8], at: usize, end: u32) -> bool
 }
 
 // The envelope's strings.
-pub fn strings_unfit(b: &[u8], at: usize, end: u32) -> bool
+fn strings_unfit(b: &[u8], at: usize, end: u32) -> bool
     requires { ⌜ end ≤ length (now b) ⌝ }
     ensures { λ r. ⌜ Says envelopeC (now (b .entry)) end at foreignEnvelope r ⌝ }
 {
@@ -453,7 +453,7 @@ pub fn strings_unfit(b: &[u8], at: usize, end: u32) -> bool
     )
 }
 
-pub fn envelope_unfit(b: &[u8], at: usize, end: u32) -> bool
+fn envelope_unfit(b: &[u8], at: usize, end: u32) -> bool
     requires { ⌜ end ≤ length (now b) ⌝ }
     ensures { λ r. ⌜ Says envelopeC (now (b .entry)) end at unfitEnvelope r ⌝ }
 {
@@ -465,7 +465,7 @@ pub fn envelope_unfit(b: &[u8], at: usize, end: u32) -> bool
 // ---- data
 
 // A scale above 38.
-pub fn column_unfit(b: &[u8], at: usize, end: u32) -> bool
+fn column_unfit(b: &[u8], at: usize, end: u32) -> bool
     requires { ⌜ end ≤ length (now b) ⌝ }
     ensures { λ r. ⌜ Says columnC (now (b .entry)) end at unfitColumn r ⌝ }
 {
@@ -482,7 +482,7 @@ pub fn column_unfit(b: &[u8], at: usize, end: u32) -> bool
     false
 }
 
-pub fn opt_column_unfit(b: &[u8], at: usize, end: u32) -> bool
+fn opt_column_unfit(b: &[u8], at: usize, end: u32) -> bool
     requires { ⌜ end ≤ length (now b) ⌝ }
     ensures { λ r. ⌜ Says (optC columnC) (now (b .entry)) end at (ifSome unfitColumn) r ⌝ }
 {
@@ -493,7 +493,7 @@ pub fn opt_column_unfit(b: &[u8], at: usize, end: u32) -> bool
     false
 }
 
-pub fn columns_unfit(b: &[u8], at: usize, end: u32) -> Told
+fn columns_unfit(b: &[u8], at: usize, end: u32) -> Told
     requires { ⌜ end ≤ length (now b) ⌝ }
     ensures { λ r. ⌜ Passes (listC (optC columnC)) (now (b .entry)) end at (anyOf (ifSome unfitColumn)) (r .found) (r .next) ⌝ }
 {
@@ -515,7 +515,7 @@ pub fn columns_unfit(b: &[u8], at: usize, end: u32) -> Told
     }
 }
 
-pub fn reference_unfit(b: &[u8], at: usize, end: u32) -> bool
+fn reference_unfit(b: &[u8], at: usize, end: u32) -> bool
     requires { ⌜ end ≤ length (now b) ⌝ }
     ensures { λ r. ⌜ Says (numC ⊗ optC columnC) (now (b .entry)) end at unfitReference r ⌝ }
 {
@@ -523,7 +523,7 @@ pub fn reference_unfit(b: &[u8], at: usize, end: u32) -> bool
     opt_column_unfit(b, table, end)
 }
 
-pub fn references_unfit(b: &[u8], at: usize, end: u32) -> Told
+fn references_unfit(b: &[u8], at: usize, end: u32) -> Told
     requires { ⌜ end ≤ length (now b) ⌝ }
     ensures { λ r. ⌜ Passes (listC (numC ⊗ optC columnC)) (now (b .entry)) end at (anyOf unfitReference) (r .found) (r .next) ⌝ }
 {
@@ -545,7 +545,7 @@ pub fn references_unfit(b: &[u8], at: usize, end: u32) -> Told
     }
 }
 
-pub fn table_data_unfit(b: &[u8], at: usize, end: u32) -> Told
+fn table_data_unfit(b: &[u8], at: usize, end: u32) -> Told
     requires { ⌜ end ≤ length (now b) ⌝ }
     ensures { λ r. ⌜ Passes tableDataC (now (b .entry)) end at unfitTableData (r .found) (r .next) ⌝ }
 {
@@ -563,7 +563,7 @@ pub fn table_data_unfit(b: &[u8], at: usize, end: u32) -> Told
     }
 }
 
-pub fn data_unfit(b: &[u8], at: usize, end: u32) -> Told
+fn data_unfit(b: &[u8], at: usize, end: u32) -> Told
     requires { ⌜ end ≤ length (now b) ⌝ }
     ensures { λ r. ⌜ Passes (listC tableDataC) (now (b .entry)) end at (anyOf unfitTableData) (r .found) (r .next) ⌝ }
 {

@@ -20,14 +20,14 @@ use says::Told;
 
 // ---- numbers that are no loop's, of n loops
 
-pub fn outside_at(b: &[u8], at: usize, end: u32, n: usize) -> bool
+fn outside_at(b: &[u8], at: usize, end: u32, n: usize) -> bool
     requires { ⌜ end ≤ length (now b) ⌝ }
     ensures { λ r. ⌜ Says numC (now (b .entry)) end at (outside n) r ⌝ }
 {
     n <= codec::count_at(b, at, end)
 }
 
-pub fn opt_outside_at(b: &[u8], at: usize, end: u32, n: usize) -> bool
+fn opt_outside_at(b: &[u8], at: usize, end: u32, n: usize) -> bool
     requires { ⌜ end ≤ length (now b) ⌝ }
     ensures { λ r. ⌜ Says (optC numC) (now (b .entry)) end at (ifSome (outside n)) r ⌝ }
 {
@@ -38,7 +38,7 @@ pub fn opt_outside_at(b: &[u8], at: usize, end: u32, n: usize) -> bool
     false
 }
 
-pub fn outsides_at(b: &[u8], at: usize, end: u32, n: usize) -> bool
+fn outsides_at(b: &[u8], at: usize, end: u32, n: usize) -> bool
     requires { ⌜ end ≤ length (now b) ⌝ }
     ensures { λ r. ⌜ Says (listC numC) (now (b .entry)) end at (anyOf (outside n)) r ⌝ }
 {
@@ -55,7 +55,7 @@ pub fn outsides_at(b: &[u8], at: usize, end: u32, n: usize) -> bool
 }
 
 // Where the children of a loop stand.
-pub fn children_at(b: &[u8], at: usize, end: u32) -> usize
+fn children_at(b: &[u8], at: usize, end: u32) -> usize
     requires { ⌜ end ≤ length (now b) ⌝ }
     ensures { λ r. ⌜ r ≡ loopChildren (now (b .entry)) end at ⌝ }
 {
@@ -67,7 +67,7 @@ pub fn children_at(b: &[u8], at: usize, end: u32) -> usize
     format::opt_control_at(b, last, end)
 }
 
-pub fn loop_outside(b: &[u8], at: usize, end: u32, n: usize) -> Told
+fn loop_outside(b: &[u8], at: usize, end: u32, n: usize) -> Told
     requires { ⌜ end ≤ length (now b) ⌝ }
     ensures { λ r. ⌜ Passes loopC (now (b .entry)) end at (outsideLoop n) (r .found) (r .next) ⌝ }
 {
@@ -82,7 +82,7 @@ pub fn loop_outside(b: &[u8], at: usize, end: u32, n: usize) -> Told
     }
 }
 
-pub fn loops_outside(b: &[u8], at: usize, end: u32, n: usize) -> Told
+fn loops_outside(b: &[u8], at: usize, end: u32, n: usize) -> Told
     requires { ⌜ end ≤ length (now b) ⌝ }
     ensures { λ r. ⌜ Passes (listC loopC) (now (b .entry)) end at (anyOf (outsideLoop n)) (r .found) (r .next) ⌝ }
 {
@@ -102,14 +102,14 @@ pub fn loops_outside(b: &[u8], at: usize, end: u32, n: usize) -> Told
     }
 }
 
-pub fn table_outside(b: &[u8], at: usize, end: u32, n: usize) -> bool
+fn table_outside(b: &[u8], at: usize, end: u32, n: usize) -> bool
     requires { ⌜ end ≤ length (now b) ⌝ }
     ensures { λ r. ⌜ Says tableC (now (b .entry)) end at (outsideTable n) r ⌝ }
 {
     outsides_at(b, at, end, n)
 }
 
-pub fn tables_outside(b: &[u8], at: usize, end: u32, n: usize) -> bool
+fn tables_outside(b: &[u8], at: usize, end: u32, n: usize) -> bool
     requires { ⌜ end ≤ length (now b) ⌝ }
     ensures { λ r. ⌜ Says (listC tableC) (now (b .entry)) end at (anyOf (outsideTable n)) r ⌝ }
 {
@@ -125,7 +125,7 @@ pub fn tables_outside(b: &[u8], at: usize, end: u32, n: usize) -> bool
     false
 }
 
-pub fn item_outside(b: &[u8], at: usize, end: u32, n: usize) -> bool
+fn item_outside(b: &[u8], at: usize, end: u32, n: usize) -> bool
     requires { ⌜ end ≤ length (now b) ⌝ }
     ensures { λ r. ⌜ Says itemC (now (b .entry)) end at (onLoop (outside n)) r ⌝ }
 {
@@ -136,7 +136,7 @@ pub fn item_outside(b: &[u8], at: usize, end: u32, n: usize) -> bool
     false
 }
 
-pub fn order_outside(b: &[u8], at: usize, end: u32, n: usize) -> bool
+fn order_outside(b: &[u8], at: usize, end: u32, n: usize) -> bool
     requires { ⌜ end ≤ length (now b) ⌝ }
     ensures { λ r. ⌜ Says (listC itemC) (now (b .entry)) end at (outsideOrder n) r ⌝ }
 {
@@ -181,7 +181,7 @@ pub fn spec_outside(b: &[u8], at: usize, end: u32, roots: usize, tables: usize) 
 
 // ---- a loop by its number
 
-pub fn loop_place(b: &[u8], at: usize, end: u32, i: usize) -> usize
+fn loop_place(b: &[u8], at: usize, end: u32, i: usize) -> usize
     requires { ⌜ end ≤ length (now b) ⌝ }
     ensures { λ r. ⌜ r ≡ steps loopC (now (b .entry)) end i (skip (leC 4) (now (b .entry)) at end) ⌝ }
 {
@@ -248,7 +248,7 @@ pub fn same_at(b: &[u8], at: usize, end: u32, i: usize) -> bool
     i == codec::count_at(b, at, end)
 }
 
-pub fn opt_same_at(b: &[u8], at: usize, end: u32, i: usize) -> bool
+fn opt_same_at(b: &[u8], at: usize, end: u32, i: usize) -> bool
     requires { ⌜ end ≤ length (now b) ⌝ }
     ensures { λ r. ⌜ Says (optC numC) (now (b .entry)) end at (ifSome (eqb i)) r ⌝ }
 {
@@ -259,7 +259,7 @@ pub fn opt_same_at(b: &[u8], at: usize, end: u32, i: usize) -> bool
     false
 }
 
-pub fn member_at(b: &[u8], at: usize, end: u32, i: usize) -> bool
+fn member_at(b: &[u8], at: usize, end: u32, i: usize) -> bool
     requires { ⌜ end ≤ length (now b) ⌝ }
     ensures { λ r. ⌜ Says (listC numC) (now (b .entry)) end at (memberOf i) r ⌝ }
 {
@@ -326,7 +326,7 @@ pub fn parent_number(b: &[u8], at: usize, end: u32, places: &[usize], c: usize) 
 // ---- numbers that repeat
 
 // Whether x is among the first n names, from i on.
-pub fn name_behind(names: &[usize], n: usize, i: usize, x: usize) -> bool
+fn name_behind(names: &[usize], n: usize, i: usize, x: usize) -> bool
     requires { ⌜ n ≤ length (now names) ⌝ }
     ensures { λ r. ⌜ r ≡ memberOf x (drop i (take n (now (names .entry)))) ⌝ }
 {
@@ -356,7 +356,7 @@ pub fn names_repeat(names: &[usize], n: usize) -> bool
 }
 
 // The first numbers of a list, as far as there is room.
-pub fn note_numbers(b: &[u8], at: usize, end: u32, names: &mut [usize]) -> usize
+fn note_numbers(b: &[u8], at: usize, end: u32, names: &mut [usize]) -> usize
     requires { ⌜ end ≤ length (now b) ⌝ }
     ensures { λ r. ⌜ (length (now (names .exit)) ≡ length (now (names .entry))) × ((r ≤ length (now (names .exit))) × ((v : List ℕ) → Is (listC numC) (now (b .entry)) end at v → Noted v (now (names .exit)) r)) ⌝ }
 {
@@ -376,7 +376,7 @@ pub fn note_numbers(b: &[u8], at: usize, end: u32, names: &mut [usize]) -> usize
 }
 
 // Whether x is among the left numbers that stand from a place on.
-pub fn member_behind(b: &[u8], at: usize, end: u32, rest: usize, x: usize) -> bool
+fn member_behind(b: &[u8], at: usize, end: u32, rest: usize, x: usize) -> bool
     requires { ⌜ end ≤ length (now b) ⌝ }
     ensures { λ r. ⌜ SaysRest numC (now (b .entry)) end rest at (memberOf x) r ⌝ }
 {
@@ -393,7 +393,7 @@ pub fn member_behind(b: &[u8], at: usize, end: u32, rest: usize, x: usize) -> bo
 }
 
 // Whether a number stands in the list twice, by a search behind each.
-pub fn numbers_searched(b: &[u8], at: usize, end: u32) -> bool
+fn numbers_searched(b: &[u8], at: usize, end: u32) -> bool
     requires { ⌜ end ≤ length (now b) ⌝ }
     ensures { λ r. ⌜ Says (listC numC) (now (b .entry)) end at repeats r ⌝ }
 {
