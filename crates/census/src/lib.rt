@@ -18,7 +18,7 @@ use spec::ids::{LoopId, Number, TableId};
 use walk::Context;
 
 // A count, and whether the loop is a leaf: its order names no loop.
-#[derive(Drop)]
+#[derive(Clone, Copy)]
 struct Count {
     n: u32,
     leaf: bool,

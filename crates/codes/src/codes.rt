@@ -10,7 +10,7 @@ ghost use Rattle.says.specs.Says.{Says};
 ghost use Rattle.codes.specs.Codes.{mark, marked, marked_component, marked_element, marked_element_plan, marked_loop_plan, marked_segment, marked_segment_plan, marked_value, marked_version};
 
 // The separators of elements, components and segments.
-#[derive(Drop)]
+#[derive(Clone, Copy)]
 pub struct Marks {
     pub element: usize,
     pub component: usize,

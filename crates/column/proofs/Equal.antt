@@ -3,20 +3,16 @@ use Prim.Native.Nat.{ℕ, zero, suc, ◌+◌, ◌*◌, ◌-◌, ◌≤◌, ◌<�
 use mathlib.Core.Path.{◌≡◌, refl, sym, ap, subst, ◌∙◌}
 use mathlib.Core.List.{List, [], ◌∷◌}
 use mathlib.Core.Option.{Option, none, some}
-use mathlib.Core.Bool.{Bool, true, false, not}
+use mathlib.Core.Bool.{Bool, true, false}
 use native.Mathlib.Omega.{arith}
 use native.Mathlib.Numerals.{sub-one, add-one}
 use lib.ListN.{length, get_or, take, drop, length-drop}
 use lib.Seq.{drop-cons, length-take-le}
-use lib.Dec.{T, leb, eqb}
+use lib.Dec.{leb, eqb}
 use borrow.Author.Tests.{eq-eqb, ne_eqb, leb-false}
-use mir.Val.{has_key}
-use types.Run.{OneOf, miss}
-use denote.Enum.Declared.{tag_of}
 use Rattle.column.specs.Cell.{Cell, both, kind_of, same_bytes, same_cell, same_answer}
 use Rattle.column.specs.Answers.{Reads, cell_at}
 use Rattle.column.specs.declared.Cell.{Cell as Read}
-use Rattle.column.specs.contracts.Cell.{the_type}
 use Rattle.column.specs.declared.Cell.TheVariants.{None, Null, Bytes, Int, Wide, Days, Seconds}
 
 -- ---- answers of two kinds
@@ -24,15 +20,25 @@ abbrev answer_kind : Option Cell → ℕ
 answer_kind none = 0
 answer_kind (some c) = suc (kind_of c)
 
-tag_is : (l : List ℕ) (b : Read) → answer_kind (cell_at l b) ≡ tag_of the_type b
+-- b is no answer of the kind k
+abbrev Not : ℕ → Read → Type 0
+Not zero b = b ≡ None → ⊥
+Not (suc zero) b = b ≡ Null → ⊥
+Not (suc (suc zero)) b = (s n : ℕ) → b ≡ Bytes s n → ⊥
+Not (suc (suc (suc zero))) b = (x : ℕ) → b ≡ Int x → ⊥
+Not (suc (suc (suc (suc zero)))) b = (x y z : ℕ) → b ≡ Wide x y z → ⊥
+Not (suc (suc (suc (suc (suc zero))))) b = (x : ℕ) → b ≡ Days x → ⊥
+Not (suc (suc (suc (suc (suc (suc k)))))) b = (x : ℕ) → b ≡ Seconds x → ⊥
+
+of_its_kind : (l : List ℕ) (b : Read) → Not (answer_kind (cell_at l b)) b → ⊥
 unfolding cell_at
-tag_is l None = refl
-tag_is l Null = refl
-tag_is l (Bytes s n) = refl
-tag_is l (Int x) = refl
-tag_is l (Wide low high scale) = refl
-tag_is l (Days x) = refl
-tag_is l (Seconds x) = refl
+of_its_kind l None h = h refl
+of_its_kind l Null h = h refl
+of_its_kind l (Bytes s n) h = h s n refl
+of_its_kind l (Int x) h = h x refl
+of_its_kind l (Wide low high scale) h = h low high scale refl
+of_its_kind l (Days x) h = h x refl
+of_its_kind l (Seconds x) h = h x refl
 
 kinds_differ : (x y : Option Cell) → (answer_kind x ≡ answer_kind y → ⊥) → false ≡ same_answer x y
 unfolding same_answer same_cell
@@ -41,9 +47,9 @@ kinds_differ none (some b) h = refl
 kinds_differ (some a) none h = refl
 kinds_differ (some a) (some b) h = let q : kind_of a ≡ kind_of b → ⊥ = λ k. h (ap suc k) in sym (simp (ne_eqb _ _ q))
 
--- x is of kind k, and the answer b of none of the kinds ks
-pub other_kind : (ks : List ℕ) (k : ℕ) → T (not (has_key ks k)) → (x : Option Cell) → answer_kind x ≡ k → (b : Read) → OneOf ks (tag_of the_type b) → (l : List ℕ) → false ≡ same_answer x (cell_at l b)
-other_kind ks k t x q b o l = kinds_differ x (cell_at l b) (λ h. miss ks k t (subst (λ (j : ℕ). OneOf ks j) (sym (tag_is l b) ∙ sym h ∙ q) o))
+-- the answer b is not of the kind of x
+pub other_kind : (x : Option Cell) (b : Read) → Not (answer_kind x) b → (l : List ℕ) → false ≡ same_answer x (cell_at l b)
+other_kind x b n l = kinds_differ x (cell_at l b) (λ h. of_its_kind l b (subst (λ (k : ℕ). Not k b) h n))
 
 -- ---- one number
 both_true : (t : Bool) → t ≡ both t true

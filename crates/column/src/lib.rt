@@ -8,7 +8,7 @@ pub mod same;
 
 // A cell: None where there is no answer; bytes as a stretch of the job (start, length); a number by its bits;
 // a number of 128 bits (low half, high half, scale); days since 1970; seconds since midnight.
-#[derive(Drop)]
+#[derive(Clone, Copy)]
 pub enum Cell {
     None,
     Null,
@@ -20,7 +20,7 @@ pub enum Cell {
 }
 
 // The validity of a row; Missing past the bits and past their bytes.
-#[derive(Drop)]
+#[derive(Clone, Copy)]
 pub enum Bit {
     Missing,
     Unset,
@@ -28,7 +28,7 @@ pub enum Bit {
 }
 
 // The number of an Int64 cell, if it is one.
-#[derive(Drop)]
+#[derive(Clone, Copy)]
 pub enum OptInt {
     Number(u64),
     NoNumber,

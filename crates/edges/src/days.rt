@@ -2,6 +2,7 @@
 ghost use Rattle.std.specs.Prelude.{◌<◌};
 
 use crate::shown::{at_most, said, signed};
+use std::io;
 
 // The day and the element's max, 99 for none.
 const ROWS: [[i32; 2]; 46] = [
@@ -67,19 +68,20 @@ fn at(i: usize) -> [i32; 2]
     ROWS[i]
 }
 
-fn row(r: [i32; 2]) {
+fn row(rt: &impl Print, r: [i32; 2]) -> io::Result<()> {
     let days = r[0];
     let max = r[1];
-    signed(b"date ", days, max);
-    said(texts::render::date_text(days, at_most(max)));
-    signed(b"envelope ", days, max);
-    said(texts::render::envelope_date(days, at_most(max)));
+    signed(rt, b"date ", days, max)?;
+    said(rt, texts::render::date_text(days, at_most(max)))?;
+    signed(rt, b"envelope ", days, max)?;
+    said(rt, texts::render::envelope_date(days, at_most(max)))
 }
 
-pub(crate) fn all() {
+pub(crate) fn all(rt: &impl Print) -> io::Result<()> {
     let mut i: usize = 0;
     while i < 46 {
-        row(at(i));
+        row(rt, at(i))?;
         i += 1;
     }
+    Ok(())
 }

@@ -2,6 +2,7 @@
 ghost use Rattle.std.specs.Prelude.{◌<◌};
 
 use crate::shown::{label, named, show};
+use std::io;
 use texts::number::Wide;
 
 // The high half, the low half and the scale.
@@ -62,21 +63,25 @@ fn at(i: usize) -> [u64; 3]
     ROWS[i]
 }
 
-fn row(r: [u64; 3]) {
+fn row(rt: &impl Print, r: [u64; 3]) -> io::Result<()> {
     let hi = r[0];
     let lo = r[1];
     let scale = r[2];
-    named(b"decimal ");
-    label(hi);
-    label(lo);
-    io::print_decimal(1, scale);
-    show(texts::number::decimal_text(Wide { lo, hi }, (scale % 256) as u8));
+    named(rt, b"decimal ")?;
+    label(rt, hi)?;
+    label(rt, lo)?;
+    print!(rt; "{scale}")?;
+    show(
+        rt,
+        texts::number::decimal_text(Wide { lo, hi }, (scale % 256) as u8),
+    )
 }
 
-pub(crate) fn all() {
+pub(crate) fn all(rt: &impl Print) -> io::Result<()> {
     let mut i: usize = 0;
     while i < 42 {
-        row(at(i));
+        row(rt, at(i))?;
         i += 1;
     }
+    Ok(())
 }

@@ -2,6 +2,7 @@
 ghost use Rattle.std.specs.Prelude.{◌<◌};
 
 use crate::shown::{at_most, said, signed};
+use std::io;
 
 // The second and the element's max, 99 for none.
 const ROWS: [[i32; 2]; 26] = [
@@ -44,19 +45,20 @@ fn at(i: usize) -> [i32; 2]
     ROWS[i]
 }
 
-fn row(r: [i32; 2]) {
+fn row(rt: &impl Print, r: [i32; 2]) -> io::Result<()> {
     let seconds = r[0];
     let max = r[1];
-    signed(b"time ", seconds, max);
-    said(texts::render::time_text(seconds, at_most(max)));
-    signed(b"envelope ", seconds, max);
-    said(texts::render::envelope_time(seconds, at_most(max)));
+    signed(rt, b"time ", seconds, max)?;
+    said(rt, texts::render::time_text(seconds, at_most(max)))?;
+    signed(rt, b"envelope ", seconds, max)?;
+    said(rt, texts::render::envelope_time(seconds, at_most(max)))
 }
 
-pub(crate) fn all() {
+pub(crate) fn all(rt: &impl Print) -> io::Result<()> {
     let mut i: usize = 0;
     while i < 26 {
-        row(at(i));
+        row(rt, at(i))?;
         i += 1;
     }
+    Ok(())
 }

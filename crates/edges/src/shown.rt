@@ -1,55 +1,55 @@
 // What a line is made of, on standard output.
+use std::io;
 use texts::Text;
 use texts::render::{Max, Refused, Said};
 
-pub(crate) fn named(text: &[u8]) {
-    io::write_all(1, text);
+pub(crate) fn named(rt: &impl Print, text: &[u8]) -> io::Result<()> {
+    rt.write_all(text)
 }
 
 // The bits of a number, and a space.
-pub(crate) fn label(bits: u64) {
-    io::print_hex(1, bits, 16);
-    io::write_all(1, b" ");
+pub(crate) fn label(rt: &impl Print, bits: u64) -> io::Result<()> {
+    print!(rt; "{bits:016x} ")
 }
 
-pub(crate) fn spaced(n: usize) {
-    io::print_decimal(1, n as u64);
-    io::write_all(1, b" ");
+pub(crate) fn spaced(rt: &impl Print, n: usize) -> io::Result<()> {
+    print!(rt; "{n} ")
 }
 
 // The first n bytes of a text.
-pub(crate) fn head(text: &[u8], n: usize) {
+pub(crate) fn head(rt: &impl Print, text: &[u8], n: usize) -> io::Result<()> {
     if n <= text.len() {
-        io::write_all(1, &text[..n]);
+        rt.write_all(&text[..n])?;
     }
+    Ok(())
 }
 
 // A byte n times, up to 48.
-pub(crate) fn run(byte: u8, n: usize) {
+pub(crate) fn run(rt: &impl Print, byte: u8, n: usize) -> io::Result<()> {
     let bytes = [byte; 48];
-    head(&bytes, n);
+    head(rt, &bytes, n)
 }
 
 // A text, to the end of its line.
-pub(crate) fn show(t: Text) {
+pub(crate) fn show(rt: &impl Print, t: Text) -> io::Result<()> {
     let bytes = t.bytes;
-    named(b": ");
-    head(&bytes, t.len);
-    named(b"\n");
+    named(rt, b": ")?;
+    head(rt, &bytes, t.len)?;
+    named(rt, b"\n")
 }
 
 // A name, a number and a max.
-pub(crate) fn signed(name: &[u8], value: i32, max: i32) {
-    named(name);
-    whole(value);
-    named(b" ");
-    whole(max);
+pub(crate) fn signed(rt: &impl Print, name: &[u8], value: i32, max: i32) -> io::Result<()> {
+    named(rt, name)?;
+    whole(rt, value)?;
+    named(rt, b" ")?;
+    whole(rt, max)
 }
 
-fn whole(value: i32) {
+fn whole(rt: &impl Print, value: i32) -> io::Result<()> {
     let t = texts::number::int_text(value as i64);
     let bytes = t.bytes;
-    head(&bytes, t.len);
+    head(rt, &bytes, t.len)
 }
 
 pub(crate) fn at_most(max: i32) -> Max {
@@ -62,21 +62,21 @@ pub(crate) fn at_most(max: i32) -> Max {
     }
 }
 
-fn reason(digit: &[u8]) {
-    named(b": reason ");
-    named(digit);
-    named(b"\n");
+fn reason(rt: &impl Print, digit: &[u8]) -> io::Result<()> {
+    named(rt, b": reason ")?;
+    named(rt, digit)?;
+    named(rt, b"\n")
 }
 
 // A text, or the reason why there is none.
-pub(crate) fn said(s: Said) {
+pub(crate) fn said(rt: &impl Print, s: Said) -> io::Result<()> {
     let refused = s.refused;
     let text = s.text;
     match refused {
-        Refused::Nothing => show(text),
-        Refused::Year => reason(b"1"),
-        Refused::Window => reason(b"2"),
-        Refused::Day => reason(b"3"),
-        Refused::Seconds => reason(b"4"),
+        Refused::Nothing => show(rt, text),
+        Refused::Year => reason(rt, b"1"),
+        Refused::Window => reason(rt, b"2"),
+        Refused::Day => reason(rt, b"3"),
+        Refused::Seconds => reason(rt, b"4"),
     }
 }

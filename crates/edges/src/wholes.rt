@@ -2,6 +2,7 @@
 ghost use Rattle.std.specs.Prelude.{◌<◌};
 
 use crate::shown::{label, named, show};
+use std::io;
 
 const VALUES: [u64; 15] = [
     0x0,
@@ -27,19 +28,23 @@ fn at(i: usize) -> u64
     VALUES[i]
 }
 
-fn row(bits: u64) {
-    named(b"signed ");
-    label(bits);
-    show(texts::number::int_text(texts::number::from_bits64(bits)));
-    named(b"count ");
-    label(bits);
-    show(texts::number::count_text(bits));
+fn row(rt: &impl Print, bits: u64) -> io::Result<()> {
+    named(rt, b"signed ")?;
+    label(rt, bits)?;
+    show(
+        rt,
+        texts::number::int_text(texts::number::from_bits64(bits)),
+    )?;
+    named(rt, b"count ")?;
+    label(rt, bits)?;
+    show(rt, texts::number::count_text(bits))
 }
 
-pub(crate) fn all() {
+pub(crate) fn all(rt: &impl Print) -> io::Result<()> {
     let mut i: usize = 0;
     while i < 15 {
-        row(at(i));
+        row(rt, at(i))?;
         i += 1;
     }
+    Ok(())
 }

@@ -2,6 +2,7 @@
 ghost use Rattle.std.specs.Prelude.{◌<◌};
 
 use crate::shown::{head, named, run, spaced};
+use std::io;
 use texts::envelope::Min;
 use texts::render::Max;
 
@@ -41,42 +42,37 @@ fn at(i: usize) -> [usize; 4]
     ROWS[i]
 }
 
-fn value(len: usize, numeric: usize, min: usize, max: usize) {
+fn value(rt: &impl Print, len: usize, numeric: usize, min: usize, max: usize) -> io::Result<()> {
     let p = texts::envelope::pad(len, numeric == 1, least(min), most(max));
-    run(48, p.zeros);
-    head(b"123456789012345", len);
-    run(32, p.spaces);
-    named(
-        b"|
-",
-    );
+    run(rt, 48, p.zeros)?;
+    head(rt, b"123456789012345", len)?;
+    run(rt, 32, p.spaces)?;
+    named(rt, b"|\n")
 }
 
-fn control(len: usize, min: usize) {
-    named(b"control: ");
-    run(48, texts::envelope::control_padding(len, least(min)));
-    head(b"123456789012345", len);
-    named(
-        b"|
-",
-    );
+fn control(rt: &impl Print, len: usize, min: usize) -> io::Result<()> {
+    named(rt, b"control: ")?;
+    run(rt, 48, texts::envelope::control_padding(len, least(min)))?;
+    head(rt, b"123456789012345", len)?;
+    named(rt, b"|\n")
 }
 
-fn row(r: [usize; 4]) {
-    named(b"pad ");
-    spaced(r[0]);
-    spaced(r[1]);
-    spaced(r[2]);
-    spaced(r[3]);
-    named(b": ");
-    value(r[0], r[1], r[2], r[3]);
-    control(r[0], r[2]);
+fn row(rt: &impl Print, r: [usize; 4]) -> io::Result<()> {
+    named(rt, b"pad ")?;
+    spaced(rt, r[0])?;
+    spaced(rt, r[1])?;
+    spaced(rt, r[2])?;
+    spaced(rt, r[3])?;
+    named(rt, b": ")?;
+    value(rt, r[0], r[1], r[2], r[3])?;
+    control(rt, r[0], r[2])
 }
 
-pub(crate) fn all() {
+pub(crate) fn all(rt: &impl Print) -> io::Result<()> {
     let mut i: usize = 0;
     while i < 16 {
-        row(at(i));
+        row(rt, at(i))?;
         i += 1;
     }
+    Ok(())
 }

@@ -26,7 +26,7 @@ use texts::render::{Max, Refused, Said};
 use texts::{Text, number, parse, render};
 
 // A text, and the reason why there is none, or 0.
-#[derive(Drop)]
+#[derive(Clone, Copy)]
 pub struct Written {
     pub value: Value,
     pub reason: u64,
@@ -172,7 +172,7 @@ pub fn own_text(
 }
 
 // Whether a cell's text is a stretch of the job, and which.
-#[derive(Drop)]
+#[derive(Clone, Copy)]
 pub struct Held {
     pub is: bool,
     pub start: usize,

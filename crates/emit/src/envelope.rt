@@ -66,7 +66,7 @@ pub fn padded_value(
 }
 
 // The field that an element of a trigger holds, by its case in the Rust's `Field`.
-#[derive(Drop)]
+#[derive(Clone, Copy)]
 pub enum Held {
     Nothing,
     Field(u8),

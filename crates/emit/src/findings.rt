@@ -11,7 +11,7 @@ use segment::Value;
 
 // Where a text comes from and where it goes: its origin (0 a cell, 1 a field), table or field, row, column; its segment's identifier
 // as a number, element, component plus one or 0.
-#[derive(Drop)]
+#[derive(Clone, Copy)]
 pub struct Spot {
     pub origin: u64,
     pub table: u64,
@@ -22,14 +22,14 @@ pub struct Spot {
     pub component: u64,
 }
 
-#[derive(Drop)]
+#[derive(Clone, Copy)]
 pub enum Repetition {
     Absent,
     Byte(u8),
 }
 
 // The separators that a text is tried for.
-#[derive(Drop)]
+#[derive(Clone, Copy)]
 pub struct Delimiters {
     pub element: u8,
     pub component: u8,

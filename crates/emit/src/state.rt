@@ -9,7 +9,7 @@ ghost use Rattle.emit.specs.Did.{mark_of, row_in, traced_word, Finished};
 use spec::ids::{RowId, TableId};
 
 // A table's highest row entered, if one was.
-#[derive(Drop)]
+#[derive(Clone, Copy)]
 pub struct Mark {
     pub seen: bool,
     pub row: u32,
@@ -17,7 +17,7 @@ pub struct Mark {
 
 // The trace entries so far and those before the segment that is not finished yet; then how many bytes of the document and numbers of the
 // other lists there are, stored or not.
-#[derive(Drop)]
+#[derive(Clone, Copy)]
 pub struct Counts {
     pub entries: usize,
     pub begun: usize,
@@ -28,7 +28,7 @@ pub struct Counts {
 }
 
 // The highest row of each table, the next control number of each loop, and the counts.
-#[derive(Drop)]
+#[derive(Clone, Copy)]
 pub struct State {
     pub high: [Mark; 16],
     pub counter: [u64; 32],
@@ -36,14 +36,14 @@ pub struct State {
 }
 
 // The state behind some steps, and how many segments they wrote.
-#[derive(Drop)]
+#[derive(Clone, Copy)]
 pub struct Taken {
     pub state: State,
     pub written: usize,
 }
 
 // What a segment comes from: the envelope, or a row of a table.
-#[derive(Drop)]
+#[derive(Clone, Copy)]
 pub enum From {
     Envelope,
     Row(TableId, RowId),

@@ -105,7 +105,7 @@ fn note_order(
 }
 
 // The highest row of a table when one of its rows is entered, and the counts.
-#[derive(Drop)]
+#[derive(Clone, Copy)]
 pub struct Entered {
     pub mark: Mark,
     pub counts: Counts,

@@ -5,7 +5,7 @@ ghost use Rattle.finding.specs.Findings.{finding_at, findings_in};
 
 // The kind, then the values of the listing's line; a signed value stands as its 64 bits.
 #[repr(C)]
-#[derive(Drop)]
+#[derive(Clone, Copy)]
 pub struct Finding {
     pub kind: u64,
     pub values: [u64; 9],

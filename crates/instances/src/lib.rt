@@ -21,7 +21,7 @@ mod stretch;
 // The instances still to come of loop l in a context. Kind 0: none; 1: one, in the context itself; 2: one in each row that is left of the table;
 // 3: one in each run of those. Left are the rows from `next` on, below `rows`, that hang on the row `above` less one, or all where it is 0, as far as
 // the context's run has them; `seen` of them stood before. The numbers of the table's rows start at `base` in nest's array.
-#[derive(Drop)]
+#[derive(Clone, Copy)]
 pub struct Cursor {
     pub context: Context,
     pub base: usize,
@@ -36,7 +36,7 @@ pub struct Cursor {
 
 // The next instance, if there is one: its row, or the first row of its run, and how many of the parent's list stand before the run. Behind it the cursor is
 // of this kind, and stands at `seen` and `next`.
-#[derive(Drop)]
+#[derive(Clone, Copy)]
 pub struct Next {
     pub more: bool,
     pub kind: u32,

@@ -7,7 +7,7 @@ use crate::{Cursor, Next};
 use spec::ids::RowId;
 
 // The next row, if there is one; how many were seen with it, and where to look on.
-#[derive(Drop)]
+#[derive(Clone, Copy)]
 pub struct RowAhead {
     pub more: bool,
     pub row: RowId,

@@ -13,7 +13,7 @@ use places::places_fit;
 use refusal::Checked;
 
 // Yes, no, or the refusal of a job that has none to judge.
-#[derive(Drop)]
+#[derive(Clone, Copy)]
 pub enum Plan {
     Complete,
     Incomplete,

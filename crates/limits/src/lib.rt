@@ -18,7 +18,7 @@ ghost use Rattle.limits.specs.Parts.{over_layout, over_tables};
 use says::Told;
 
 // Whether a limit is passed, and where roots and tables of the spec stand, which is right where none is.
-#[derive(Drop)]
+#[derive(Clone, Copy)]
 pub struct Parts {
     pub found: bool,
     pub roots: usize,

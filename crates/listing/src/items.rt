@@ -1,7 +1,7 @@
 // The stops and segments of a finished job, a line for each item.
 use crate::words::{end, number, text, word};
 
-#[derive(Drop)]
+#[derive(Clone, Copy)]
 pub enum List {
     Stops,
     Segments,

@@ -17,7 +17,7 @@ use plan::answers::Instances;
 use spec::ids::{LoopId, Number, RowId, TableId};
 
 // An anchor loop, its table, and a row's reference to it.
-#[derive(Drop)]
+#[derive(Clone, Copy)]
 pub struct Claimed {
     pub l: LoopId,
     pub table: TableId,
@@ -25,21 +25,21 @@ pub struct Claimed {
 }
 
 // What a repeat row goes by; or the table of the last anchor that was tried.
-#[derive(Drop)]
+#[derive(Clone, Copy)]
 pub enum Anchored {
     Is(Claimed),
     Nothing(TableId),
 }
 
 // An anchor loop, and the table whose rows it enters.
-#[derive(Drop)]
+#[derive(Clone, Copy)]
 pub struct AnchorLoop {
     pub l: LoopId,
     pub table: TableId,
 }
 
 // The anchors of a repeat table, n of them in the order in which they are tried, if they are whole.
-#[derive(Drop)]
+#[derive(Clone, Copy)]
 pub struct Line {
     pub anchors: [AnchorLoop; 8],
     pub n: u32,
@@ -47,7 +47,7 @@ pub struct Line {
 }
 
 // Where a row hangs: the row above plus one, or 0; the anchor loop; the table of the row above.
-#[derive(Drop)]
+#[derive(Clone, Copy)]
 pub struct Place {
     pub above: u32,
     pub l: LoopId,

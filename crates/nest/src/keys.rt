@@ -12,7 +12,7 @@ use column::OptInt;
 use spec::ids::{RowId, TableId};
 
 // What is known of a table's keys: no row is found by one; or its rows are gone through; or its keys rise, and halving finds a row.
-#[derive(Drop)]
+#[derive(Clone, Copy)]
 pub enum Keys {
     None,
     Any,

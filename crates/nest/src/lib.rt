@@ -24,7 +24,7 @@ pub mod report;
 pub mod rows;
 
 // A row, if there is one.
-#[derive(Drop)]
+#[derive(Clone, Copy)]
 pub enum Found {
     Row(RowId),
     Nothing,

@@ -14,7 +14,7 @@ use plan::answers::Instances;
 use spec::ids::{LoopId, Number, TableId};
 
 // What a step upwards gives: an end, or the loop above and the table whose row loop came last.
-#[derive(Drop)]
+#[derive(Clone, Copy)]
 pub enum Up {
     No,
     Top,

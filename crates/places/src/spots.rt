@@ -16,7 +16,7 @@ use crate::both;
 use spec::ids::TableId;
 
 // The place of a planned element: rank is 0 for no component, else one more than it; reach is how many rows fill it.
-#[derive(Drop)]
+#[derive(Clone, Copy)]
 pub struct Spot {
     pub element: usize,
     pub rank: usize,

@@ -18,7 +18,7 @@ use emit::envelope::Held;
 use spec::ids::{Controls, LoopId, Number, Place};
 
 // What an element of a trigger is judged by: the element of the control number, the depth, and whether there is a repetition separator.
-#[derive(Drop)]
+#[derive(Clone, Copy)]
 pub struct Trigger {
     pub opener: usize,
     pub depth: usize,

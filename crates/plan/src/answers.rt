@@ -2,7 +2,7 @@
 use spec::ids::{LoopId, Number, Stretch, TableId};
 
 // Where the instances of a loop come from.
-#[derive(Drop)]
+#[derive(Clone, Copy)]
 pub enum Instances {
     Absent,
     Envelope,
@@ -13,7 +13,7 @@ pub enum Instances {
 }
 
 // What fills a planned segment.
-#[derive(Drop)]
+#[derive(Clone, Copy)]
 pub enum Source {
     Envelope,
     Row(TableId),
@@ -21,7 +21,7 @@ pub enum Source {
 }
 
 // A planned segment: whether the plan has it, what fills it, which occurrence of its loop it is, how many elements it has and from where on they stand.
-#[derive(Drop)]
+#[derive(Clone, Copy)]
 pub struct Planned {
     pub there: bool,
     pub source: Source,
@@ -31,7 +31,7 @@ pub struct Planned {
 }
 
 // What gives the text of a place.
-#[derive(Drop)]
+#[derive(Clone, Copy)]
 pub enum ValueSource {
     Column(u32),
     Group(u32),
@@ -39,7 +39,7 @@ pub enum ValueSource {
 }
 
 // A planned element, and the place behind it.
-#[derive(Drop)]
+#[derive(Clone, Copy)]
 pub struct ElementPlan {
     pub element: u32,
     pub component: Number,
@@ -48,14 +48,14 @@ pub struct ElementPlan {
 }
 
 // The order of a loop: how many items it has, and where the first stands.
-#[derive(Drop)]
+#[derive(Clone, Copy)]
 pub struct Order {
     pub count: u32,
     pub first: usize,
 }
 
 // An item of an order: a planned segment of the loop, or a child loop.
-#[derive(Drop)]
+#[derive(Clone, Copy)]
 pub enum Item {
     Segment(u32),
     Loop(LoopId),

@@ -4,7 +4,7 @@ ghost use Rattle.format.specs.Refusal.{refusal_of};
 ghost use Rattle.refusal.specs.Answer.{number_of};
 
 // Job where there is no refusal from 1 to 5, else what was found.
-#[derive(Drop)]
+#[derive(Clone, Copy)]
 pub enum Checked {
     Job,
     Size,

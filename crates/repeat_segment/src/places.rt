@@ -80,7 +80,7 @@ pub fn row_at(e: ElementPlan, step: u32, p: u32) -> u32
 // ---- texts
 
 // What gives a planned element its text: a column's cell, or a code.
-#[derive(Drop)]
+#[derive(Clone, Copy)]
 pub enum Source {
     Cell(u32),
     Code(Stretch),

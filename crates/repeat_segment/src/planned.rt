@@ -8,7 +8,7 @@ use spec::ids::{LoopId, Stretch, TableId};
 use spec::loops;
 
 // A planned segment: its loop and its number there, its table and that table's step, its identifier, where its elements stand and how many.
-#[derive(Drop)]
+#[derive(Clone, Copy)]
 pub struct Planned {
     pub l: LoopId,
     pub i: u32,

@@ -15,7 +15,7 @@ use segment::Value;
 use spec::ids::{Number, RowId};
 
 // A planned element and the number of the row for which it stands at a place.
-#[derive(Drop)]
+#[derive(Clone, Copy)]
 pub struct First {
     pub row: u32,
     pub plan: ElementPlan,

@@ -23,7 +23,7 @@ use repeat_segment::{fill_row, write_chunk};
 use spec::ids::{LoopId, RowId, TableId};
 
 // A repeat table: where its rows stand among all, up to which of them they are gone through, and how many go into a segment.
-#[derive(Drop)]
+#[derive(Clone, Copy)]
 pub struct Table {
     pub t: TableId,
     pub base: usize,
@@ -32,14 +32,14 @@ pub struct Table {
 }
 
 // A table with fewer rows, and the first of them to be looked at.
-#[derive(Drop)]
+#[derive(Clone, Copy)]
 pub struct Part {
     pub table: Table,
     pub from: usize,
 }
 
 // The highest row of a table behind some of its repeat segments, the counts, and how many segments were written.
-#[derive(Drop)]
+#[derive(Clone, Copy)]
 pub struct Repeated {
     pub mark: Mark,
     pub counts: Counts,
@@ -47,7 +47,7 @@ pub struct Repeated {
 }
 
 // A chunk that rows are still added to: the table's highest row, the counts, how many segments stand before it, its first row, and how many rows it has.
-#[derive(Drop)]
+#[derive(Clone, Copy)]
 pub struct Chunk {
     pub mark: Mark,
     pub counts: Counts,

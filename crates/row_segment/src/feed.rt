@@ -22,7 +22,7 @@ use emit::{cells, findings, signs};
 use segment::{Pen, Separators};
 
 // The pen behind a part, how many numbers of findings there are then, and how many trace entries.
-#[derive(Drop)]
+#[derive(Clone, Copy)]
 pub struct Behind {
     pub pen: Pen,
     pub findings: usize,

@@ -17,7 +17,7 @@ use emit::signs;
 use segment::{Pen, Separators, Value};
 
 // The last filled component of an element, the look behind its parts, and the tally with them.
-#[derive(Drop)]
+#[derive(Clone, Copy)]
 pub struct Scanned {
     pub last: usize,
     pub after: Look,
@@ -118,7 +118,7 @@ fn wide(n: u32) -> usize
 }
 
 // The pen behind some elements, the look behind their parts, and the tally with them.
-#[derive(Drop)]
+#[derive(Clone, Copy)]
 pub struct Step {
     pub pen: Pen,
     pub after: Look,
@@ -200,7 +200,7 @@ fn put_groups(
 }
 
 // The end of a segment, and the tally of all its parts.
-#[derive(Drop)]
+#[derive(Clone, Copy)]
 pub struct Joined {
     pub bytes: usize,
     pub tally: Tally,

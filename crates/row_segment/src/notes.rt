@@ -21,7 +21,7 @@ use spec::ids::Number;
 use texts::render::Refused;
 
 // How many numbers of findings there are, how many trace entries, and the last filled element.
-#[derive(Drop)]
+#[derive(Clone, Copy)]
 pub struct Tally {
     pub findings: usize,
     pub entries: usize,
@@ -29,7 +29,7 @@ pub struct Tally {
 }
 
 // The end of a segment, how many numbers of findings there are then, and its trace entries.
-#[derive(Drop)]
+#[derive(Clone, Copy)]
 pub struct Ended {
     pub bytes: usize,
     pub findings: usize,
@@ -37,7 +37,7 @@ pub struct Ended {
 }
 
 // The identifier as a number, and the separators that texts are tried for.
-#[derive(Drop)]
+#[derive(Clone, Copy)]
 pub struct Tried {
     pub name: u64,
     pub delimiters: Delimiters,

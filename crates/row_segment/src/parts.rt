@@ -15,7 +15,7 @@ use segment::Value;
 use spec::ids::{LoopId, Number, RowId, Stretch, TableId};
 
 // A planned segment of a loop, with its identifier, how many elements it has and from where on they stand, and the row that fills it.
-#[derive(Drop)]
+#[derive(Clone, Copy)]
 pub struct Line {
     pub l: LoopId,
     pub i: u32,
@@ -27,13 +27,13 @@ pub struct Line {
 }
 
 // What gives a part its text.
-#[derive(Drop)]
+#[derive(Clone, Copy)]
 pub enum Source {
     Cell(u32),
     Code(Stretch),
 }
 
-#[derive(Drop)]
+#[derive(Clone, Copy)]
 pub struct Planned {
     pub element: u32,
     pub component: Number,
@@ -41,7 +41,7 @@ pub struct Planned {
 }
 
 // The next part, if there is one; the number and the place of the planned element behind it.
-#[derive(Drop)]
+#[derive(Clone, Copy)]
 pub struct Look {
     pub more: bool,
     pub part: Planned,

@@ -37,7 +37,7 @@ fn closes(job: &[u8], index: &[u16], l: LoopId) -> bool
 }
 
 // The counts behind a closer, and how many segments it is.
-#[derive(Drop)]
+#[derive(Clone, Copy)]
 pub struct Closed {
     pub counts: Counts,
     pub written: usize,

@@ -30,7 +30,7 @@ mod own;
 mod segments;
 
 // What some steps came to, and how many instances of the loops directly below there were.
-#[derive(Drop)]
+#[derive(Clone, Copy)]
 struct Visited {
     pub taken: Taken,
     pub instances: usize,

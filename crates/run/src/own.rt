@@ -19,7 +19,7 @@ use nest::Found;
 use spec::ids::{LoopId, Number, RowId, TableId};
 use walk::Context;
 
-#[derive(Drop)]
+#[derive(Clone, Copy)]
 pub enum Owner {
     Row(TableId, RowId),
     Nothing,

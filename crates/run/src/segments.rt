@@ -16,7 +16,7 @@ use spec::ids::{Controls, LoopId, RowId, TableId};
 use walk::Context;
 
 // Nothing, the trigger of the loop, the segment of a table's row, or the repeat segments of a table below a row.
-#[derive(Drop)]
+#[derive(Clone, Copy)]
 pub enum Due {
     Nothing,
     Opener,

@@ -4,7 +4,7 @@ ghost use Rattle.codec.specs.Codec.{le};
 ghost use Rattle.format.specs.Sections.{broken};
 
 // What a test found, and the place behind what it was asked of, which is right where it found nothing.
-#[derive(Drop)]
+#[derive(Clone, Copy)]
 pub struct Told {
     pub found: bool,
     pub next: usize,

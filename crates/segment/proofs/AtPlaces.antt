@@ -174,7 +174,7 @@ unfolding written place component
 as_planned s p =
     record {
       id = refl;
-      text_at = elements_at_lem p.text p.last;
+      element_at = elements_at_lem p.text p.last;
       past = elements_past p.text p.last;
       component_at = λ i h k cs w e c.
           ap (λ t. text_at (components_of s t) c) (elements_at_lem p.text p.last i h k ∙ e) ∙ component_at s cs w c;
@@ -187,7 +187,7 @@ pub planned_everywhere : {s : Separators} {p : Planned} {x : Segment} → AsPlan
 planned_everywhere {s} {p} {x} a e i h = go (leb i p.last) refl
   where
     go : (b : Bool) → leb i p.last ≡ b → place x i ≡ p.text i
-    go true q = a.text_at i h (leb-true i p.last q)
+    go true q = a.element_at i h (leb-true i p.last q)
     go false q = a.past i (leb-false i p.last q) ∙ sym (e i (leb-false i p.last q))
 
 -- an element of the components g 1 to g m, trailing empty ones dropped

@@ -187,7 +187,7 @@ fed_row (suc n) q c last l done h i j z = close refl z
 fed_row {s} {t = t} (suc n) q c last l (part {x = x} {xs = xs} {pen = pen} {r = r} {d = d} {d₁ = d₁} w f) h i j z =
     let v = split x.element 1 (part {x = x} {xs = xs} w f) ((omega arith, h.0.1, λ y. omega (arith, h.0.1)), h.1) in
     group {p = q} {x = x} {xs = xs} h.0.0 (element_group x.element v.first v.inside i j)
-    (fed_row n (x.element + 1) 1 last shorter v.second v.rises (fed_small v.first i) (rw (fed_length v.first) j) z)
+    (fed_row {parts = after x.element (x ∷ xs)} n (x.element + 1) 1 last shorter v.second v.rises (fed_small v.first i) (rw (fed_length v.first) j) z)
   where
     shorter : length (after x.element (x ∷ xs)) ≤ n
     shorter = rw (eq-eqb x.element x.element refl) (omega (arith, after_length x.element xs))

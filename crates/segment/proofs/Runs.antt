@@ -66,15 +66,15 @@ run_stored s id parts {at} {e} {pen} {d} {d₁} {d₂} h w q =
 
 -- ---- a repeat segment
 
-repeat_stored : {s : Separators} {last p e : ℕ} {parts : List Part} {pen : Pen} {d d₂ : List ℕ} → Repeat s last parts p pen d e d₂
+repeat_stored : {s : Separators} {parts : List Part} {last p e : ℕ} {pen : Pen} {d d₂ : List ℕ} → Repeat s last parts p pen d e d₂
     → pen.elements < p → pen.elements ≤ last → length d ≤ cap → Stored d pen.at (repeat_rest s last pen.elements p parts) e d₂
-repeat_stored {s} {last} {p} {e} {parts} (position {pen = pen} {r = r} h g q) u v i =
+repeat_stored {s} {parts} {last} {p} {e} (position {pen = pen} {r = r} h g q) u v i =
     let l = group_left last (texts (repeat_element s parts) (last + 1 - (p + 1)) (p + 1)) g (among_start last (last_component_at p parts) pen p u v (λ _. h)) i in
     rw (repeat_group s last pen p parts u h, l.adds_up)
     (stored_append l.bytes _ i l.stored (repeat_stored q l.before l.within (rw (stored_length _ l.stored) i)))
-repeat_stored {s} {last} {p} {e} {parts} (pass {pen = pen} h f q) u v i =
+repeat_stored {s} {parts} {last} {p} {e} (pass {pen = pen} h f q) u v i =
     rw (repeat_skip s last pen.elements p parts u h f) (repeat_stored q (omega arith) v i)
-repeat_stored {s} {last} {p} {e} {parts} (ended {pen = pen} h w) u v i = rw (repeat_close s last pen p parts u v h) w
+repeat_stored {s} {parts} {last} {p} {e} (ended {pen = pen} h w) u v i = rw (repeat_close s last pen p parts u v h) w
 
 -- the composed theorem, for parts none of which is at element 0
 pub repeat_run_stored : (s : Separators) (id : List ℕ) (parts : List Part) {at e : ℕ} {pen : Pen} {d d₁ d₂ : List ℕ} → length d ≤ cap → zero_free parts ≡ true

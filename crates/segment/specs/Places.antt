@@ -52,7 +52,7 @@ pub record Clear (s : Separators) (p : Planned) : Type 0 where
 -- the segment that was read has the planned texts at their places, and nothing at any other
 pub record AsPlanned (s : Separators) (p : Planned) (x : Segment) : Type 0 where
   pub id : x.id ≡ p.id
-  pub text_at_lem : (i : ℕ) → 0 < i → i ≤ p.last → place x i ≡ p.text i
+  pub element_at : (i : ℕ) → 0 < i → i ≤ p.last → place x i ≡ p.text i
   pub past : (i : ℕ) → p.last < i → place x i ≡ []
   pub component_at : (i : ℕ) → 0 < i → i ≤ p.last → (cs : List (List ℕ)) → All (Without s.component) cs → p.text i ≡ component_bytes s cs
       → (c : ℕ) → component s x i c ≡ text_at cs c

@@ -7,7 +7,7 @@ ghost use Rattle.segment.specs.Parts.{is_empty};
 ghost use Rattle.segment.specs.Pen.{value_text, holds, holds_any, one_of, components_in, reached, placed, finished, opened, ending, closing, Penned};
 
 // The bytes that part a document, and whether a line feed follows each terminator.
-#[derive(Drop)]
+#[derive(Clone, Copy)]
 pub struct Separators {
     pub element: u8,
     pub component: u8,
@@ -16,7 +16,7 @@ pub struct Separators {
 }
 
 // A text: zeros, the first `count` of `bytes`, `len` bytes of the job from `start` on, spaces.
-#[derive(Drop)]
+#[derive(Clone, Copy)]
 pub struct Value {
     pub zeros: usize,
     pub bytes: [u8; 48],
@@ -27,7 +27,7 @@ pub struct Value {
 }
 
 // How far a segment is written: bytes of the document, element separators, component separators in the last element.
-#[derive(Drop)]
+#[derive(Clone, Copy)]
 pub struct Pen {
     pub at: usize,
     pub elements: usize,

@@ -6,7 +6,7 @@ ghost use Rattle.segment.specs.ByPlace.{starts_feed, named, segment_at};
 use super::Separators;
 
 // What starts at a place of a document.
-#[derive(Drop)]
+#[derive(Clone, Copy)]
 pub enum SegmentAt {
     // A segment: the place of its terminator, and the place behind it.
     Whole { end: usize, next: usize },

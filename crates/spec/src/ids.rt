@@ -1,35 +1,35 @@
 // The numbers of loops, tables and rows, and the answers that stand for parts of a job.
 
-#[derive(Drop)]
+#[derive(Clone, Copy)]
 pub struct LoopId(pub u32);
 
-#[derive(Drop)]
+#[derive(Clone, Copy)]
 pub struct TableId(pub u32);
 
-#[derive(Drop)]
+#[derive(Clone, Copy)]
 pub struct RowId(pub u32);
 
 // A byte string, where it stands in the job.
-#[derive(Drop)]
+#[derive(Clone, Copy)]
 pub struct Stretch {
     pub start: usize,
     pub len: usize,
 }
 
-#[derive(Drop)]
+#[derive(Clone, Copy)]
 pub enum Number {
     None,
     Is(u32),
 }
 
-#[derive(Drop)]
+#[derive(Clone, Copy)]
 pub enum Text {
     None,
     Is(Stretch),
 }
 
 // The elements of the control number in opener and closer, that of the count, and whether it counts child loops or segments.
-#[derive(Drop)]
+#[derive(Clone, Copy)]
 pub struct ControlRule {
     pub opener: u32,
     pub closer: u32,
@@ -37,42 +37,42 @@ pub struct ControlRule {
     pub children: bool,
 }
 
-#[derive(Drop)]
+#[derive(Clone, Copy)]
 pub enum Controls {
     None,
     Is(ControlRule),
 }
 
 // Where something stands in the job.
-#[derive(Drop)]
+#[derive(Clone, Copy)]
 pub enum Place {
     Nowhere,
     At(usize),
 }
 
 // The segment and the element of the version, and the value that comes first.
-#[derive(Drop)]
+#[derive(Clone, Copy)]
 pub struct VersionRule {
     pub segment: Stretch,
     pub element: u32,
     pub first: Stretch,
 }
 
-#[derive(Drop)]
+#[derive(Clone, Copy)]
 pub enum Version {
     None,
     Is(VersionRule),
 }
 
 // What is left of the elements of a segment.
-#[derive(Drop)]
+#[derive(Clone, Copy)]
 pub struct Elements {
     pub left: u32,
     pub at: usize,
 }
 
 // An element of a segment: its number, whether it is of kind N, its least and most, and its first code.
-#[derive(Drop)]
+#[derive(Clone, Copy)]
 pub struct Element {
     pub number: u32,
     pub numeric: bool,

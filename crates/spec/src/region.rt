@@ -7,7 +7,7 @@ ghost use Rattle.spec.specs.Parts.{part_c};
 ghost use Rattle.spec.specs.Region.{put_item, Stored};
 
 // The lists whose places are stored, by what their items are.
-#[derive(Drop)]
+#[derive(Clone, Copy)]
 pub enum Part {
     SegmentPlan,
     Order,

@@ -5,14 +5,14 @@ ghost use Rattle.texts.specs.Pad.{padded, zero_padded, is_at};
 use crate::render::Max;
 
 // The shortest text that an element takes.
-#[derive(Drop)]
+#[derive(Clone, Copy)]
 pub enum Min {
     Free,
     At(usize),
 }
 
 // The zeros to the left of a text and the spaces to its right.
-#[derive(Drop)]
+#[derive(Clone, Copy)]
 pub struct Padding {
     pub zeros: usize,
     pub spaces: usize,

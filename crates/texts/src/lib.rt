@@ -6,7 +6,7 @@ pub mod render;
 mod signed;
 
 // A text of at most 48 bytes: the first `len` of `bytes`, the others 0.
-#[derive(Drop)]
+#[derive(Clone, Copy)]
 pub struct Text {
     pub bytes: [u8; 48],
     pub len: usize,

@@ -8,7 +8,7 @@ ghost use Rattle.texts.specs.Digits.{Tenths, Written, FirstFilled, Shortens, dow
 use crate::{Text, signed};
 
 // A 128-bit two's complement number in two halves.
-#[derive(Drop)]
+#[derive(Clone, Copy)]
 pub struct Wide {
     pub lo: u64,
     pub hi: u64,
@@ -41,7 +41,7 @@ pub fn from_bits64(n: u64) -> i64
 }
 
 // A number divided by ten, and the digit left, as a byte of text.
-#[derive(Drop)]
+#[derive(Clone, Copy)]
 struct Divided {
     lo: u64,
     hi: u64,
@@ -78,7 +78,7 @@ fn positive(w: Wide) -> bool
 }
 
 // The digits of a number as bytes of text, the lowest first, and how many there are; zeros stand behind them.
-#[derive(Drop)]
+#[derive(Clone, Copy)]
 struct Places {
     bytes: [u8; 48],
     count: usize,
@@ -178,7 +178,7 @@ fn placed_text(negative: bool, w: Wide, scale: usize) -> Text
 }
 
 // A number less trailing zeros of its fraction, and how many places of that are left.
-#[derive(Drop)]
+#[derive(Clone, Copy)]
 struct Shortened {
     rest: u64,
     scale: usize,

@@ -7,14 +7,14 @@ ghost use Rattle.texts.specs.Calendar.{civil_from, day_of, from_march};
 use crate::signed;
 
 // A date: its year, month and day. Beyond: a day count that overflows where the calendar's start is added.
-#[derive(Drop)]
+#[derive(Clone, Copy)]
 pub enum Civil {
     Date(i32, u8, u8),
     Beyond,
 }
 
 // A day of the 400 years from a first of March: the year of those, the month and the day.
-#[derive(Drop)]
+#[derive(Clone, Copy)]
 struct EraDay {
     year: u32,
     month: u8,

@@ -11,7 +11,7 @@ use crate::signed::Ranged;
 use crate::{Text, parse, signed};
 
 // The longest text that an element takes.
-#[derive(Drop)]
+#[derive(Clone, Copy)]
 pub enum Max {
     Free,
     At(usize),
@@ -19,7 +19,7 @@ pub enum Max {
 
 // Why a value has no text: its year is none of four digits, its year is outside the window of two digits, its time is outside
 // one day, its seconds find no room.
-#[derive(Drop)]
+#[derive(Clone, Copy)]
 pub enum Refused {
     Nothing,
     Year,
@@ -29,7 +29,7 @@ pub enum Refused {
 }
 
 // A text, empty where it is refused.
-#[derive(Drop)]
+#[derive(Clone, Copy)]
 pub struct Said {
     pub text: Text,
     pub refused: Refused,

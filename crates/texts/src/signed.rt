@@ -85,7 +85,7 @@ pub fn floor_rem(d: i32, k: u32) -> u32
 }
 
 // A number from low to high, or none of those.
-#[derive(Drop)]
+#[derive(Clone, Copy)]
 pub enum Ranged {
     Is(u32),
     Out,

@@ -90,6 +90,7 @@ module _ (g : ℕ × ElementDef → Put) (shape : (y : ℕ × ElementDef) → Sh
           → (here n (ps ++ (put_all g ys).parts) ≡ []) × (after n (ps ++ (put_all g ys).parts) ≡ ps ++ (put_all g ys).parts)
       go ih [] empty = let m = q.0 in ih (y.0 + 1) (omega arith) q.1
       go ih (x ∷ []) (single e) = let m = q.0 in let o : x.element ≡ n → ⊥ = λ z. omega arith in (here_other n x (put_all g ys).parts o, after_other n x (put_all g ys).parts o)
+      go ih (x ∷ (_ ∷ _)) x8 = elim x8 [ ]
 
 -- ---- calls that are still to come
 
@@ -116,10 +117,10 @@ stepped {s} {pen = pen} {pen' = pen'} {d = d} {d₁ = d₁} n low p rest (one {x
     same = eq-eqb x.element x.element refl
 
     these : here x.element (x ∷ rest) ≡ x ∷ []
-    these = rw (same, z, a)
+    these = let w : here x.element rest ≡ [] = rw z a in rw (same, w)
 
     those : after x.element (x ∷ rest) ≡ rest
-    those = rw (same, z) b
+    those = let w : after x.element rest ≡ rest = rw z b in rw same w
 
     joins : (last e : ℕ) (d₂ : List ℕ) → Row s last (n + 1) rest pen' d₁ e d₂ → Row s last p (x ∷ rest) pen d e d₂
     joins last e d₂ y =

@@ -24,7 +24,7 @@ use texts::{parse, render};
 
 // Whether there is a text; its field; its bytes: the first `count` of `bytes`, then `len` bytes of the job from `start` on; why there is
 // none, or 0; whether it is tried for separators.
-#[derive(Drop)]
+#[derive(Clone, Copy)]
 pub struct Source {
     pub there: bool,
     pub field: Held,

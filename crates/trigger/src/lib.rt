@@ -76,7 +76,7 @@ fn open_loop(
 }
 
 // The counts, and the loop's next control number.
-#[derive(Drop)]
+#[derive(Clone, Copy)]
 pub struct Numbered {
     pub counts: Counts,
     pub number: u64,

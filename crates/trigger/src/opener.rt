@@ -34,7 +34,7 @@ use spec::elements;
 use spec::ids::{Element, Elements, Place, Stretch};
 
 // A trigger: the separators, its identifier, that as a number, its depth, the element of its control number and that number's text.
-#[derive(Drop)]
+#[derive(Clone, Copy)]
 pub struct Frame {
     pub sep: Separators,
     pub tried: Delimiters,
@@ -47,7 +47,7 @@ pub struct Frame {
 
 // What is drawn of a trigger: the pen, whether a part at element 0 stays, how many numbers of findings there are, the trace entries and
 // the last filled element.
-#[derive(Drop)]
+#[derive(Clone, Copy)]
 pub struct Drawn {
     pub pen: Pen,
     pub stuck: bool,
@@ -369,7 +369,7 @@ fn elements_in(job: &[u8], index: &[u16], id: Stretch) -> Elements
 }
 
 // What a trigger came to: the bytes of the document, the numbers of findings, the trace entries.
-#[derive(Drop)]
+#[derive(Clone, Copy)]
 pub struct Put {
     pub bytes: usize,
     pub findings: usize,

@@ -4,7 +4,7 @@ use crate::cursor::{byte, copy, fill, number, plus};
 use crate::sweeps::State;
 
 // The next piece's place, and the length of what is made so far.
-#[derive(Drop)]
+#[derive(Clone, Copy)]
 pub struct Made {
     pub at: usize,
     pub len: usize,

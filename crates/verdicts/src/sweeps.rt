@@ -3,7 +3,7 @@ use crate::answers::judge;
 use crate::cursor::{byte, copy, plus, put};
 
 // The job with `len` bytes, where it stands in the input, and the record's place.
-#[derive(Drop)]
+#[derive(Clone, Copy)]
 pub struct State {
     pub at: usize,
     pub job: usize,

@@ -211,7 +211,7 @@ module _ (j : Outline) where
     above_only = λ l t m u e. (three l t e).above_only m u;
     above_all = λ l t u e. (three l t e).above_all u;
     groups_end = λ l t g u e. (three l t e).groups_end g u;
-    repeat_planned_lem = repeat_planned_lem;
+    repeat_planned = repeat_planned_lem;
     no_other_repeat = no_other;
   }
     where
@@ -289,7 +289,7 @@ module _ (j : Outline) where
       repeat_planned_lem l t A = turn (many_one (S l) (λ i. is (repeat_table (segment_of j l i).source) t) (eqb-true _ _ once_planned))
         where
           listed : each_of (table_of j t).loops (λ l. if_there (row_table (kind_of j l)) (λ u. eqb (how_many (planned j l) (λ i. is (repeat_table (segment_of j l i).source) t)) 1)) ≡ true
-          listed = if_then (repeated j t) _ (below_true (length j.tables) _ t₀.1.1.1.1.1.1.1.1.1.1.0 t (repeated_in j t A.repeat_table_lem)) A.repeat_table_lem
+          listed = if_then (repeated j t) _ (below_true (length j.tables) _ t₀.1.1.1.1.1.1.1.1.1.1.0 t (repeated_in j t A.repeat_table)) A.repeat_table
 
           once_planned : eqb (how_many (S l) (λ i. is (repeat_table (segment_of j l i).source) t)) 1 ≡ true
           once_planned = there_is (row_table (kind_of j l)) (λ u. eqb (how_many (S l) (λ i. is (repeat_table (segment_of j l i).source) t)) 1) (of_true (table_of j t).loops _ listed l A.in_list) A.owner (ap row_table A.owner_rows)
@@ -302,7 +302,7 @@ module _ (j : Outline) where
           }
 
       no_other : (l t i : ℕ) → PlansRepeat j l t i → Anchors j l t
-      no_other l t i P = record { repeat_table_lem = b.0; in_list = ltb-true 0 _ c.0; owner = r.0; owner_rows = r.1 }
+      no_other l t i P = record { repeat_table = b.0; in_list = ltb-true 0 _ c.0; owner = r.0; owner_rows = r.1 }
         where
           passed : repeated j t && (ltb 0 (times l (table_of j t).loops) && on (row_table (kind_of j l)) (λ u. true) false) ≡ true
           passed = there_is (repeat_table (segment_of j l i).source) (λ t. repeated j t && (ltb 0 (times l (table_of j t).loops) && on (row_table (kind_of j l)) (λ u. true) false))
@@ -330,7 +330,7 @@ module _ (j : Outline) where
       ⨾ true_below L _ (λ l h. true_below (S l) _ (λ i q. lt-ltb _ _ (C.occurrences l i q)))
       ⨾ true_below (length j.tables) _ (λ t h. is_there_lem (table_parent j t) (plain j) (λ u e. C.parents_plain t u e))
       ⨾ true_below L _ (λ l h. is_there_lem (row_table (kind_of j l)) (fits j L l) (λ t e. three_fits j C l t (row_table_lem t (kind_of j l) e) h))
-      ⨾ true_below (length j.tables) _ (λ t h. then_if (repeated j t) _ (λ p. true_of (table_of j t).loops _ (λ l q. is_there_lem (row_table (kind_of j l)) _ (λ u e. eq-eqb _ _ (one_many (S l) (λ i. is (repeat_table (segment_of j l i).source) t) (one_repeat l t (record { repeat_table_lem = p; in_list = q; owner = u; owner_rows = row_table_lem u (kind_of j l) e })))))))
+      ⨾ true_below (length j.tables) _ (λ t h. then_if (repeated j t) _ (λ p. true_of (table_of j t).loops _ (λ l q. is_there_lem (row_table (kind_of j l)) _ (λ u e. eq-eqb _ _ (one_many (S l) (λ i. is (repeat_table (segment_of j l i).source) t) (one_repeat l t (record { repeat_table = p; in_list = q; owner = u; owner_rows = row_table_lem u (kind_of j l) e })))))))
       ⨾ true_below L _ (λ l h. true_below (S l) _ (λ i q. is_there_lem (repeat_table (segment_of j l i).source) _ (λ t e. anchored l t (C.no_other_repeat l t i (record { planned = q; of_table = repeat_table_lem t (segment_of j l i).source e })))))
       ⨾ that_is_all)
     where
@@ -350,7 +350,7 @@ module _ (j : Outline) where
 
       one_repeat : (l t : ℕ) → Anchors j l t → OneBelow (S l) (λ i. is (repeat_table (segment_of j l i).source) t)
       one_repeat l t A =
-          let E : ExactlyOne (PlansRepeat j l t) = C.repeat_planned_lem l t A in
+          let E : ExactlyOne (PlansRepeat j l t) = C.repeat_planned l t A in
           record {
             the = E.the;
             small = E.has.planned;
@@ -359,7 +359,7 @@ module _ (j : Outline) where
           }
 
       anchored : (l t : ℕ) → Anchors j l t → repeated j t && (ltb 0 (times l (table_of j t).loops) && on (row_table (kind_of j l)) (λ u. true) false) ≡ true
-      anchored l t A = and_true _ _ A.repeat_table_lem (and_true _ _ (lt-ltb 0 (times l (table_of j t).loops) A.in_list) (ap (λ k. on (row_table k) (λ u. true) false) A.owner_rows))
+      anchored l t A = and_true _ _ A.repeat_table (and_true _ _ (lt-ltb 0 (times l (table_of j t).loops) A.in_list) (ap (λ k. on (row_table k) (λ u. true) false) A.owner_rows))
 
   -- the check says yes exactly when the plan is complete
   pub check_right : (complete_ok j ≡ true) ↔ Complete j

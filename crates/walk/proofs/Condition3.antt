@@ -38,7 +38,7 @@ not_between w v k e b = false≢true (rw e at b)
 kinds_fit : (j : Outline) (h l w m : ℕ) → fits j h l w ≡ true → Above j m l → may_stand (kind_of j m) ≡ true
 unfolding fits
 kinds_fit j zero l w m f a = absurd (false≢true f)
-kinds_fit j (suc h) l w m f (Above.next e) = (past_on j _ w (kind_of j m) (up j h l w m f e)).0
+kinds_fit j (suc h) l w m f (Above.next e) = (past_on j (fits j h m) w (kind_of j m) (up j h l w m f e)).0
 kinds_fit j (suc h) l w m f (Above.higher {p = p} e a) = go (past_on j (fits j h p) w (kind_of j p) (up j h l w p f e)).1 (λ v g. kinds_fit j h p v m g a)
   where
     go : ((between w (kind_of j p) ≡ true) × (fits j h p w ≡ true)) ⊎ ((v : ℕ) × (kind_of j p ≡ rows v) × (table_parent j w ≡ some v) × (fits j h p v ≡ true))

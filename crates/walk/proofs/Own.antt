@@ -241,7 +241,7 @@ module _ (j : Outline) (C : Complete j) (t r : ℕ) (p : repeated j t ≡ true) 
       G = hook_good j t r k p e
 
       One : ExactlyOne (PlansRepeat j k.loop t)
-      One = C.repeat_planned_lem k.loop t (record { repeat_table_lem = p; in_list = G.in_list; owner = k.table; owner_rows = G.is_rows })
+      One = C.repeat_planned k.loop t (record { repeat_table = p; in_list = G.in_list; owner = k.table; owner_rows = G.is_rows })
 
       order_once : times One.the (item_segments (order_of j k.loop)) ≡ 1
       order_once = C.order_segments k.loop One.the ∙ ap once (lt-ltb One.the (length (plan_of j k.loop).segments) One.has.planned)

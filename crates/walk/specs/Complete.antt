@@ -74,7 +74,7 @@ pub record GroupEnds (j : Outline) (g u l : ℕ) : Type 0 where
 
 -- loop l anchors the repeat table t
 pub record Anchors (j : Outline) (l t : ℕ) : Type 0 where
-  pub repeat_table_lem : repeated j t ≡ true
+  pub repeat_table : repeated j t ≡ true
   pub in_list : 0 < times l (table_of j t).loops
   pub owner : ℕ
   pub owner_rows : kind_of j l ≡ rows owner
@@ -100,5 +100,5 @@ pub record Complete (j : Outline) : Type 0 where
   pub above_all : (l t u : ℕ) → kind_of j l ≡ rows t → TableAbove j u t → (m : ℕ) × (kind_of j m ≡ rows u) × Above j m l
   pub groups_end : (l t g u : ℕ) → kind_of j l ≡ rows t → Above j g l → kind_of j g ≡ groups u → GroupEnds j g u l
   -- 4: the anchors that nest tries are such loops (`anchors`)
-  pub repeat_planned_lem : (l t : ℕ) → Anchors j l t → ExactlyOne (PlansRepeat j l t)
+  pub repeat_planned : (l t : ℕ) → Anchors j l t → ExactlyOne (PlansRepeat j l t)
   pub no_other_repeat : (l t i : ℕ) → PlansRepeat j l t i → Anchors j l t

@@ -8,7 +8,7 @@ use spec::ids::{RowId, TableId};
 
 // The rows an instance sits in: for each table a row plus one, or 0; and inside an instance given by a run of grouped rows the run, by its table and its
 // bounds, counted from the start of the parent's list.
-#[derive(Drop)]
+#[derive(Clone, Copy)]
 pub struct Context {
     pub rows: [u32; 16],
     pub grouped: bool,

@@ -31,7 +31,7 @@ use spec::envelope::control_number;
 use spec::ids::TableId;
 
 // Done and Room: how many bytes, segments, findings and stops there are; in Room a list is shorter than its count. The others refuse the job.
-#[derive(Drop)]
+#[derive(Clone, Copy)]
 pub enum Answer {
     Done(usize, usize, usize, usize),
     Size,

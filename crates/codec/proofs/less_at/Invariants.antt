@@ -1,0 +1,12 @@
+use Rattle.codec.specs.Strings.{less_at, less_from, less_ends, less_short, less_yes, less_no, less_more}
+use Prim.Native.Nat.{◌+◌, ◌≤◌}
+use mathlib.Core.Path.{◌≡◌}
+use native.Mathlib.Omega.{arith}
+use borrow.Author.Rules.{rules}
+use Rattle.codec.proofs.less_at.Given as goal
+
+abbrev pub invariant-loop-m : goal.invariant-loop-m
+invariant-loop-m l = (less_at l.b l.p l.q ≡ less_from l.b l.n l.m l.i l.j) × (l.i + l.n ≤ 17179869184) × (l.j + l.m ≤ 17179869184)
+
+abbrev pub decreases-loop-m : goal.decreases-loop-m
+decreases-loop-m l = l.m

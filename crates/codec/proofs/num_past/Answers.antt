@@ -1,0 +1,7 @@
+use Rattle.codec.specs.Ways.{le_four}
+use native.Mathlib.Omega.{arith}
+use borrow.Author.Rules.{rules}
+use Rattle.codec.proofs.num_past.Goals as goal
+
+pub returns : goal.returns
+returns c = (cc (le_four _ _), omega arith)

@@ -1,0 +1,25 @@
+use Rattle.column.proofs.Columns.{column_outside, get_missing, get_unset, get_set}
+use Rattle.column.proofs.Lists.{offsets_past, offsets_are}
+use Rattle.codec.specs.Codec.{le}
+use native.Mathlib.Omega.{arith}
+use mathlib.Core.Path.{refl, ap, ◌∙◌}
+use borrow.Author.Rules.{rules}
+use Rattle.column.proofs.get.bytes_cell.Goals as goal
+
+pub returns-then-job-data : goal.returns-then-job-data
+returns-then-job-data c = let a = c.requires in λ e v l is. column_outside _ _ _ 0 _ a.3 a.2 refl (omega (arith, c.if-job-data.true)) e v l is
+
+pub returns-then-room-m : goal.returns-then-room-m
+returns-then-room-m c = let a = c.requires in λ e v l is. column_outside _ _ _ 0 _ a.3 a.2 refl (omega (arith, c.if-room-m.true, c.num-m.ensures.0, c.if-job-data.false)) e v l is
+
+pub returns-then-data-next : goal.returns-then-data-next
+returns-then-data-next c = let a = c.requires in get_set _ _ _ _ 0 _ a.3 a.2 (omega (arith, c.num-m.ensures.0)) _ c.bit_in-bit.ensures c.in-Set.is _ (offsets_past _ _ _ _ a.3 (omega (arith, c.if-data-next.true)))
+
+pub returns-in-Missing : goal.returns-in-Missing
+returns-in-Missing c = let a = c.requires in get_missing _ _ _ _ 0 _ a.3 a.2 (omega (arith, c.num-m.ensures.0)) _ c.bit_in-bit.ensures c.in-Missing.is
+
+pub returns-in-Unset : goal.returns-in-Unset
+returns-in-Unset c = let a = c.requires in get_unset _ _ _ _ 0 _ a.3 a.2 (omega (arith, c.num-m.ensures.0)) _ c.bit_in-bit.ensures c.in-Unset.is
+
+pub returns-else-data-next : goal.returns-else-data-next
+returns-else-data-next c = let a = c.requires in get_set _ _ _ _ 0 _ a.3 a.2 (omega (arith, c.num-m.ensures.0)) _ c.bit_in-bit.ensures c.in-Set.is _ (offsets_are _ _ _ _ a.3 (omega (arith, c.if-data-next.false)) _ _ (c.num-from.ensures.0 ∙ ap (le 4 _) (omega arith)) (c.num-to.ensures.0 ∙ ap (le 4 _) (omega arith)) _ (λ e bytes l is. c.stretch.ensures _ e bytes c.num-m.ensures.0 l is))

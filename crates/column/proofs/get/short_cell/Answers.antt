@@ -1,0 +1,24 @@
+use Rattle.column.proofs.Columns.{get_missing, get_unset, get_set}
+use Rattle.column.proofs.Lists.{held_past, held_is}
+use Rattle.column.proofs.Read.{reads_none, reads_days, reads_seconds}
+use Rattle.column.proofs.Values.{ends_plain, short_reader}
+use Rattle.column.specs.Cell.{Cell}
+use native.Mathlib.Omega.{arith}
+use mathlib.Core.Path.{refl}
+use borrow.Author.Rules.{rules}
+use Rattle.column.proofs.get.short_cell.Goals as goal
+
+pub returns-then-n-row : goal.returns-then-n-row
+returns-then-n-row c = let a = c.requires in get_set _ _ _ _ _ _ a.4 a.3 (ends_plain _ _ _ _ _ a.2 refl) _ c.bit_at-bit.ensures c.in-Set.is _ (short_reader _ _ _ _ _ a.2 (λ h. λ e xs is. reads_none _ (held_past Cell.date32 4 _ _ _ _ a.4 c.if-n-row.true e xs is)) (λ h. λ e xs is. reads_none _ (held_past Cell.time32 4 _ _ _ _ a.4 c.if-n-row.true e xs is)))
+
+pub returns-then-kind-eq3 : goal.returns-then-kind-eq3
+returns-then-kind-eq3 c = let a = c.requires in get_set _ _ _ _ _ _ a.4 a.3 (ends_plain _ _ _ _ _ a.2 refl) _ c.bit_at-bit.ensures c.in-Set.is _ (short_reader _ _ _ _ _ a.2 (λ h. λ e xs is. reads_days _ _ (held_is Cell.date32 4 _ _ _ _ a.4 c.if-n-row.false _ c.num-x.ensures.0 e xs is)) (λ h. absurd (omega (arith, c.if-kind-eq3.true))))
+
+pub returns-in-Missing : goal.returns-in-Missing
+returns-in-Missing c = let a = c.requires in get_missing _ _ _ _ _ _ a.4 a.3 (ends_plain _ _ _ _ _ a.2 refl) _ c.bit_at-bit.ensures c.in-Missing.is
+
+pub returns-in-Unset : goal.returns-in-Unset
+returns-in-Unset c = let a = c.requires in get_unset _ _ _ _ _ _ a.4 a.3 (ends_plain _ _ _ _ _ a.2 refl) _ c.bit_at-bit.ensures c.in-Unset.is
+
+pub returns-else-kind-eq3 : goal.returns-else-kind-eq3
+returns-else-kind-eq3 c = let a = c.requires in get_set _ _ _ _ _ _ a.4 a.3 (ends_plain _ _ _ _ _ a.2 refl) _ c.bit_at-bit.ensures c.in-Set.is _ (short_reader _ _ _ _ _ a.2 (λ h. absurd (c.if-kind-eq3.false h)) (λ h. λ e xs is. reads_seconds _ _ (held_is Cell.time32 4 _ _ _ _ a.4 c.if-n-row.false _ c.num-x.ensures.0 e xs is)))

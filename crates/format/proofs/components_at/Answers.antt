@@ -1,0 +1,21 @@
+use Rattle.format.specs.Spec.{component_c}
+use Rattle.codec.specs.Maps.{num_map_c, risen, map_start, map_again, map_fallen, map_broken, map_done}
+use Rattle.codec.specs.Skip.{skip, skip_pair}
+use mathlib.Core.Path.{◌≡◌}
+use borrow.Author.Rules.{rules}
+use Rattle.format.proofs.components_at.Goals as goal
+
+pub loop-left-init : goal.loop-left-init
+loop-left-init c = map_start _ _ _ _ _ _ c.count_at-left.ensures.0 c.le_at-p.ensures
+
+pub returns-then-end-p : goal.returns-then-end-p
+returns-then-end-p c = map_broken _ _ _ _ _ _ _ c.loop-left.invariant c.loop-left-test.true c.if-end-p.true
+
+pub returns-then-key-low : goal.returns-then-key-low
+returns-then-key-low c = map_fallen _ _ _ _ _ _ _ _ c.loop-left.invariant c.loop-left-test.true c.count_at-key.ensures.0 c.if-key-low.true
+
+pub loop-left-preserved : goal.loop-left-preserved
+loop-left-preserved c = map_again _ _ _ _ _ _ _ _ _ c.loop-left.invariant c.loop-left-test.true c.count_at-key.ensures.0 c.if-key-low.false (cc (skip_pair _ _ _ _ _))
+
+pub returns : goal.returns
+returns c = map_done _ _ _ _ _ _ _ c.loop-left.invariant c.loop-left-test.false

@@ -1,0 +1,12 @@
+use Rattle.format.specs.Spec.{component_c}
+use Rattle.codec.specs.Maps.{num_map_c, risen, map_start, map_again, map_fallen, map_broken, map_done}
+use Rattle.codec.specs.Skip.{skip, skip_pair}
+use mathlib.Core.Path.{◌≡◌}
+use borrow.Author.Rules.{rules}
+use Rattle.format.proofs.components_at.Given as goal
+
+abbrev pub invariant-loop-left : goal.invariant-loop-left
+invariant-loop-left l = skip (num_map_c component_c) l.b l.at l.end ≡ risen component_c l.b l.end l.left l.low l.p
+
+abbrev pub decreases-loop-left : goal.decreases-loop-left
+decreases-loop-left l = l.left

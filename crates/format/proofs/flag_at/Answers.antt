@@ -1,0 +1,6 @@
+use Rattle.codec.specs.Ways.{skip_flag}
+use borrow.Author.Rules.{rules}
+use Rattle.format.proofs.flag_at.Goals as goal
+
+pub returns : goal.returns
+returns c = cc (skip_flag _ _ _)

@@ -1,0 +1,12 @@
+use Rattle.codec.specs.Codec.{list_c}
+use Rattle.format.specs.Layout.{item_c}
+use Rattle.codec.specs.Skip.{skip, steps, list_start, list_again, list_broken, list_done}
+use mathlib.Core.Path.{◌≡◌}
+use borrow.Author.Rules.{rules}
+use Rattle.format.proofs.orders_at.Given as goal
+
+abbrev pub invariant-loop-left : goal.invariant-loop-left
+invariant-loop-left l = skip (list_c (list_c item_c)) l.b l.at l.end ≡ steps (list_c item_c) l.b l.end l.left l.p
+
+abbrev pub decreases-loop-left : goal.decreases-loop-left
+decreases-loop-left l = l.left

@@ -1,0 +1,14 @@
+use lib.ListN.{length-drop, length, take, drop}
+use lib.Seq.{get_or-drop, sets}
+use Rattle.lent.proofs.Laws.{sets_turn}
+use Prim.Native.Nat.{◌≤◌, ◌-◌}
+use mathlib.Core.Path.{◌≡◌, sym, ◌∙◌}
+use native.Mathlib.Omega.{arith}
+use borrow.Author.Rules.{rules}
+use Rattle.lent.proofs.copy.Given as goal
+
+abbrev pub invariant-loop-i : goal.invariant-loop-i
+invariant-loop-i l = (l.i ≤ l.n) × (length l.d ≡ length l.initial.d) × (l.d ≡ sets l.initial.d l.at (take l.i (drop l.start l.source)))
+
+abbrev pub decreases-loop-i : goal.decreases-loop-i
+decreases-loop-i l = l.n - l.i

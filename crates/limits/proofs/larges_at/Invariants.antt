@@ -1,0 +1,11 @@
+use Rattle.codec.specs.Forms.{num_c}
+use Rattle.format.specs.Refusal.{large}
+use Rattle.says.proofs.Walk.{NoneYet, some_start, some_again, some_found, some_none}
+use borrow.Author.Rules.{rules}
+use Rattle.limits.proofs.larges_at.Given as goal
+
+abbrev pub invariant-loop-left : goal.invariant-loop-left
+invariant-loop-left l = NoneYet num_c l.b l.end l.at large l.left l.p
+
+abbrev pub decreases-loop-left : goal.decreases-loop-left
+decreases-loop-left l = l.left

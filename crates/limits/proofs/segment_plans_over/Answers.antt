@@ -1,0 +1,17 @@
+use Rattle.format.specs.Plan.{segment_plan_c}
+use Rattle.format.specs.Refusal.{over_segment_plan}
+use Rattle.says.proofs.Pass.{Going, pass_start, pass_again, pass_found, pass_none}
+use borrow.Author.Rules.{rules}
+use Rattle.limits.proofs.segment_plans_over.Goals as goal
+
+pub loop-left-init : goal.loop-left-init
+loop-left-init c = pass_start _ _ _ _ _ _ _ c.count_at-left.ensures.0 c.le_at-p.ensures
+
+pub returns-then-t : goal.returns-then-t
+returns-then-t c = pass_found _ _ _ _ _ _ _ _ _ _ c.loop-left.invariant c.loop-left-test.true (λ v i. (c.segment_plan_over-t.ensures v i).0) c.if-t.true c.if-t.true
+
+pub loop-left-preserved : goal.loop-left-preserved
+loop-left-preserved c = pass_again _ _ _ _ _ _ _ _ _ c.loop-left.invariant c.loop-left-test.true c.segment_plan_over-t.ensures c.if-t.false
+
+pub returns : goal.returns
+returns c = pass_none _ _ _ _ _ _ _ c.loop-left.invariant c.loop-left-test.false

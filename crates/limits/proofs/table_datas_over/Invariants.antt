@@ -1,0 +1,11 @@
+use Rattle.limits.proofs.Rows.{Summed, sum_start, sum_again, sum_found, sum_over, sum_none}
+use Prim.Native.Nat.{◌≤◌}
+use native.Mathlib.Omega.{arith}
+use borrow.Author.Rules.{rules}
+use Rattle.limits.proofs.table_datas_over.Given as goal
+
+abbrev pub invariant-loop-left : goal.invariant-loop-left
+invariant-loop-left l = (l.rows ≤ 4096) × Summed l.b l.end l.at l.rows l.left l.p
+
+abbrev pub decreases-loop-left : goal.decreases-loop-left
+decreases-loop-left l = l.left

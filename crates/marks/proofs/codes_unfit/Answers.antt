@@ -1,0 +1,18 @@
+use mathlib.Core.Path.{refl}
+use Rattle.codec.specs.Forms.{bytes_c}
+use Rattle.format.specs.Refusal.{foreign}
+use Rattle.says.proofs.Pass.{Going, pass_start, pass_again, pass_found, pass_none}
+use borrow.Author.Rules.{rules}
+use Rattle.marks.proofs.codes_unfit.Goals as goal
+
+pub loop-left-init : goal.loop-left-init
+loop-left-init c = pass_start _ _ _ _ _ _ _ c.count_at-left.ensures.0 c.le_at-p.ensures
+
+pub returns-then-foreign_at : goal.returns-then-foreign_at
+returns-then-foreign_at c = pass_found _ _ _ _ _ _ _ _ _ _ c.loop-left.invariant c.loop-left-test.true c.foreign_at.ensures c.if-foreign_at.true refl
+
+pub loop-left-preserved : goal.loop-left-preserved
+loop-left-preserved c = pass_again _ _ _ _ _ _ _ _ _ c.loop-left.invariant c.loop-left-test.true (λ v i. (c.foreign_at.ensures v i, λ z. c.bytes_at-p.ensures)) c.if-foreign_at.false
+
+pub returns : goal.returns
+returns c = pass_none _ _ _ _ _ _ _ c.loop-left.invariant c.loop-left-test.false

@@ -1,0 +1,20 @@
+use mathlib.Core.Path.{refl}
+use Rattle.codec.specs.Forms.{opt_c}
+use Rattle.format.specs.Words.{if_some}
+use Rattle.format.specs.Data.{column_c}
+use Rattle.format.specs.Refusal.{unfit_column}
+use Rattle.says.proofs.Pass.{Going, pass_start, pass_again, pass_found, pass_none}
+use borrow.Author.Rules.{rules}
+use Rattle.marks.proofs.columns_unfit.Goals as goal
+
+pub loop-left-init : goal.loop-left-init
+loop-left-init c = pass_start _ _ _ _ _ _ _ c.count_at-left.ensures.0 c.le_at-p.ensures
+
+pub returns-then-opt_column_unfit : goal.returns-then-opt_column_unfit
+returns-then-opt_column_unfit c = pass_found _ _ _ _ _ _ _ _ _ _ c.loop-left.invariant c.loop-left-test.true c.opt_column_unfit.ensures c.if-opt_column_unfit.true refl
+
+pub loop-left-preserved : goal.loop-left-preserved
+loop-left-preserved c = pass_again _ _ _ _ _ _ _ _ _ c.loop-left.invariant c.loop-left-test.true (λ v i. (c.opt_column_unfit.ensures v i, λ z. c.opt_column_at-p.ensures)) c.if-opt_column_unfit.false
+
+pub returns : goal.returns
+returns c = pass_none _ _ _ _ _ _ _ c.loop-left.invariant c.loop-left-test.false

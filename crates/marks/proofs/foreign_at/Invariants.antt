@@ -1,0 +1,12 @@
+use Rattle.codec.specs.Forms.{byte_c}
+use Rattle.says.proofs.Walk.{NoneYet, some_start, some_again, some_found, some_none}
+use Rattle.marks.specs.Parts.{high}
+use Rattle.format.specs.Refusal.{foreign}
+use borrow.Author.Rules.{rules}
+use Rattle.marks.proofs.foreign_at.Given as goal
+
+abbrev pub invariant-loop-left : goal.invariant-loop-left
+invariant-loop-left l = NoneYet byte_c l.b l.end l.at high l.left l.p
+
+abbrev pub decreases-loop-left : goal.decreases-loop-left
+decreases-loop-left l = l.left

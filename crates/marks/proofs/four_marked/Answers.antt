@@ -1,0 +1,6 @@
+use Rattle.marks.proofs.Marks.{four_is}
+use borrow.Author.Rules.{rules}
+use Rattle.marks.proofs.four_marked.Goals as goal
+
+pub returns : goal.returns
+returns c = cc (four_is _ _ _ _)

@@ -1,0 +1,12 @@
+use mathlib.Core.Path.{refl}
+use Rattle.codec.specs.Forms.{bytes_c}
+use Rattle.format.specs.Refusal.{unnamed}
+use Rattle.says.proofs.Pass.{Going, pass_start, pass_again, pass_found, pass_none}
+use borrow.Author.Rules.{rules}
+use Rattle.marks.proofs.names_unfit.Given as goal
+
+abbrev pub invariant-loop-left : goal.invariant-loop-left
+invariant-loop-left l = Going bytes_c l.b l.end l.at unnamed l.left l.p
+
+abbrev pub decreases-loop-left : goal.decreases-loop-left
+decreases-loop-left l = l.left

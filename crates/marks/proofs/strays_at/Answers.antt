@@ -1,0 +1,17 @@
+use Rattle.codec.specs.Forms.{byte_c}
+use Rattle.says.proofs.Walk.{NoneYet, some_start, some_again, some_found, some_none}
+use Rattle.marks.specs.Parts.{stray}
+use borrow.Author.Rules.{rules}
+use Rattle.marks.proofs.strays_at.Goals as goal
+
+pub loop-left-init : goal.loop-left-init
+loop-left-init c = some_start _ _ _ _ _ _ _ c.count_at-left.ensures.0 c.le_at-p.ensures
+
+pub returns-then-stray_at : goal.returns-then-stray_at
+returns-then-stray_at c = some_found _ _ _ _ _ _ _ _ c.loop-left.invariant c.loop-left-test.true c.stray_at.ensures c.if-stray_at.true
+
+pub loop-left-preserved : goal.loop-left-preserved
+loop-left-preserved c = some_again _ _ _ _ _ _ _ _ _ c.loop-left.invariant c.loop-left-test.true c.le_at-p-in-loop-left.ensures c.stray_at.ensures c.if-stray_at.false
+
+pub returns : goal.returns
+returns c = some_none _ _ _ _ _ _ _ c.loop-left.invariant c.loop-left-test.false

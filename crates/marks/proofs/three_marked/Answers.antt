@@ -1,0 +1,6 @@
+use Rattle.marks.proofs.Marks.{three_is}
+use borrow.Author.Rules.{rules}
+use Rattle.marks.proofs.three_marked.Goals as goal
+
+pub returns : goal.returns
+returns c = cc (three_is _ _ _)

@@ -1,0 +1,7 @@
+use Rattle.codec.specs.Codec.{le}
+use mathlib.Core.Path.{ap, ◌∙◌}
+use borrow.Author.Rules.{rules}
+use Rattle.plan.proofs.index.list_count.Goals as goal
+
+pub returns : goal.returns
+returns c = c.num.ensures.0 ∙ ap (le 4 _) c.place-p.ensures.0

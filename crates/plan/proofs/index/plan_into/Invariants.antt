@@ -1,0 +1,14 @@
+use Prim.Native.Nat.{◌-◌, ◌≤◌}
+use mathlib.Core.Path.{refl}
+use native.Mathlib.Omega.{arith}
+use Rattle.spec.proofs.Storing.{lists_none}
+use Rattle.plan.specs.Filling.{PlanLists}
+use Rattle.plan.proofs.Filled.{plan_into}
+use borrow.Author.Rules.{rules}
+use Rattle.plan.proofs.index.plan_into.Given as goal
+
+abbrev pub invariant-loop-l : goal.invariant-loop-l
+invariant-loop-l l = PlanLists l.job l.end l.initial.p l.l l.p l.initial.index l.index × (l.l ≤ l.n)
+
+abbrev pub decreases-loop-l : goal.decreases-loop-l
+decreases-loop-l l = l.n - l.l

@@ -1,0 +1,6 @@
+use Rattle.plan.proofs.Asking.{order_count}
+use borrow.Author.Rules.{rules}
+use Rattle.plan.proofs.layout.order_count.Goals as goal
+
+pub returns : goal.returns
+returns c = order_count _ _ c.requires.0 _ c.requires.1 _ c.inner_count.ensures

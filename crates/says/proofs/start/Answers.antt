@@ -1,0 +1,13 @@
+use Rattle.format.specs.Decoding.{sound_of}
+use native.Mathlib.Omega.{arith}
+use borrow.Author.Rules.{rules}
+use Rattle.says.proofs.start.Goals as goal
+
+pub overflow_sub-t : goal.overflow_sub-t
+overflow_sub-t c = omega (arith, (sound_of _ c.requires).least)
+
+pub num-requires : goal.num-requires
+num-requires c = omega (arith, (sound_of _ c.requires).most)
+
+pub returns : goal.returns
+returns c = c.num.ensures.0

@@ -1,0 +1,10 @@
+use Rattle.format.specs.Spec.{element_c}
+use Rattle.codec.specs.Forms.{num_c}
+use Rattle.codec.specs.Skip.{skip_pair}
+use Rattle.spec.specs.Cursor.{entries_next}
+use mathlib.Core.Path.{refl}
+use borrow.Author.Rules.{rules}
+use Rattle.spec.proofs.elements.next_element.Goals as goal
+
+pub returns : goal.returns
+returns c = λ x xs h. entries_next _ _ _ c.spec_end-end.ensures x xs h _ refl (cc (skip_pair num_c element_c _ _ _))

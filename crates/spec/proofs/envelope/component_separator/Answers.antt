@@ -1,0 +1,7 @@
+use Rattle.codec.specs.Field.{is_at}
+use Rattle.spec.specs.Reads.{byte_reads}
+use borrow.Author.Rules.{rules}
+use Rattle.spec.proofs.envelope.component_separator.Goals as goal
+
+pub returns : goal.returns
+returns c = byte_reads _ _ _ c.byte_at.ensures.0 _ _ (is_at _ _ _ _ _ _ c.place-p.ensures.0 c.requires.component)

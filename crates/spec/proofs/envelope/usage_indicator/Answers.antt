@@ -1,0 +1,7 @@
+use Rattle.codec.specs.Field.{is_at}
+use Rattle.spec.specs.Reads.{stands}
+use borrow.Author.Rules.{rules}
+use Rattle.spec.proofs.envelope.usage_indicator.Goals as goal
+
+pub returns : goal.returns
+returns c = c.stretch_at.ensures _ _ (stands c.requires.within (is_at _ _ _ _ _ _ c.place-p.ensures.0 c.requires.usage_indicator))

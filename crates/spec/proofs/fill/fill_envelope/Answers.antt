@@ -1,0 +1,8 @@
+use Rattle.spec.specs.EnvelopeIndex.{envelope_filled}
+use borrow.Author.Rules.{rules}
+use Rattle.spec.proofs.fill.fill_envelope.Goals as goal
+
+pub returns : goal.returns
+returns c =
+    let e = envelope_filled _ c.requires _ _ _ _ c.num-at.ensures.0 c.num-end.ensures.0 c.envelope_into.ensures in
+    record { envelope_indexed = e.0; kept = e.1 }

@@ -1,0 +1,20 @@
+use Rattle.spec.specs.Filling.{few_loops, few_at, fill_done}
+use Rattle.spec.specs.Filled.{spec_filled}
+use native.Mathlib.Omega.{arith}
+use borrow.Author.Rules.{rules}
+use Rattle.spec.proofs.fill.fill_spec.Goals as goal
+
+pub loops_into-roots-requires : goal.loops_into-roots-requires
+loops_into-roots-requires c = (rw c.spec_end-end.ensures (few_loops _ c.requires), omega (arith, c.requires.sound))
+
+pub les_at-segments-requires : goal.les_at-segments-requires
+les_at-segments-requires c = omega (arith, c.requires.sound)
+
+pub fill_segments-tables-requires : goal.fill_segments-tables-requires
+fill_segments-tables-requires c = (c.requires, c.spec_end-end.ensures, cc, omega (arith, c.requires.sound))
+
+pub tables_into-version-requires : goal.tables_into-version-requires
+tables_into-version-requires c = (few_at _ c.requires _ _ c.spec_end-end.ensures c.fill_segments-tables.ensures.0, omega (arith, c.requires.sound))
+
+pub returns : goal.returns
+returns c = spec_filled _ _ _ _ _ (fill_done _ c.requires _ _ _ _ c.spec_end-end.ensures c.loops_into-roots.ensures.0 c.fill_segments-tables.ensures.0 c.tables_into-version.ensures.0 _ _ _ _ _ c.loops_into-roots.ensures.1 c.fill_segments-tables.ensures.2 c.tables_into-version.ensures.1 c.heads_into.ensures) (c.fill_segments-tables.ensures.1, c.fill_segments-tables.ensures.2)

@@ -1,0 +1,19 @@
+use Rattle.spec.specs.Parts.{part_c}
+use Rattle.spec.proofs.Storing.{Items, items_none, items_more, items_all}
+use mathlib.Core.Path.{refl}
+use native.Mathlib.Omega.{arith}
+use Prim.Native.Nat.{◌-◌, ◌≤◌}
+use borrow.Author.Rules.{rules}
+use Rattle.spec.proofs.region.list_into.Goals as goal
+
+pub loop-i-init : goal.loop-i-init
+loop-i-init c = (items_none _ _ _ _ _ _ _ refl, omega arith)
+
+pub loop-i-preserved : goal.loop-i-preserved
+loop-i-preserved c = (items_more _ _ _ _ _ _ _ _ _ _ _ c.loop-i.invariant.0 c.put_item.ensures c.part_at-p.ensures, omega arith)
+
+pub shape_of-index : goal.shape_of-index
+shape_of-index c = (items_all _ _ _ _ _ _ _ _ _ _ _ _ c.count_at-n.ensures.0 c.le_at-p.ensures (omega arith) c.loop-i.invariant.0 c.put.ensures).1.long
+
+pub returns : goal.returns
+returns c = items_all _ _ _ _ _ _ _ _ _ _ _ _ c.count_at-n.ensures.0 c.le_at-p.ensures (omega arith) c.loop-i.invariant.0 c.put.ensures

@@ -1,0 +1,13 @@
+use Rattle.spec.specs.Parts.{part_c}
+use Rattle.spec.proofs.Storing.{Items, items_none, items_more, items_all}
+use mathlib.Core.Path.{refl}
+use native.Mathlib.Omega.{arith}
+use Prim.Native.Nat.{◌-◌, ◌≤◌}
+use borrow.Author.Rules.{rules}
+use Rattle.spec.proofs.region.list_into.Given as goal
+
+abbrev pub invariant-loop-i : goal.invariant-loop-i
+invariant-loop-i l = Items (part_c l.part) l.job l.end l.initial.p l.k l.i l.p l.initial.index l.index × (l.i ≤ l.n)
+
+abbrev pub decreases-loop-i : goal.decreases-loop-i
+decreases-loop-i l = l.n - l.i

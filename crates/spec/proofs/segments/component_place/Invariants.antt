@@ -1,0 +1,17 @@
+use Rattle.spec.specs.Found.{PlaceOf}
+use Rattle.format.specs.Spec.{component_c}
+use Rattle.codec.specs.Forms.{num_c}
+use Rattle.codec.specs.Codec.{◌⊗◌}
+use Rattle.codec.specs.Skip.{steps, skip_pair}
+use Rattle.spec.specs.Found.{Others, others_more, number_found, number_missing, steps_last}
+use Prim.Native.Nat.{◌+◌, ◌-◌}
+use native.Mathlib.Omega.{arith}
+use mathlib.Core.Path.{◌≡◌, refl}
+use borrow.Author.Rules.{rules}
+use Rattle.spec.proofs.segments.component_place.Given as goal
+
+abbrev pub invariant-loop-k : goal.invariant-loop-k
+invariant-loop-k l = (l.p ≡ steps (num_c ⊗ component_c) l.b l.end l.k (l.at + 4)) × Others component_c l.b l.end l.at l.number l.k
+
+abbrev pub decreases-loop-k : goal.decreases-loop-k
+decreases-loop-k l = l.n - l.k

@@ -1,0 +1,21 @@
+use Rattle.spec.specs.Found.{PlaceOf}
+use Rattle.spec.specs.Found.{OtherNames, names_counted, names_more, name_found, name_missing}
+use Rattle.spec.specs.Answers.{stretch_of}
+use Prim.Native.Nat.{◌-◌}
+use native.Mathlib.Omega.{arith}
+use borrow.Author.Rules.{rules}
+use Rattle.spec.proofs.segments.elements_of.Goals as goal
+
+pub loop-k-init : goal.loop-k-init
+loop-k-init c = λ i r q. absurd (omega arith)
+
+pub returns-then-same : goal.returns-then-same
+unfolding PlaceOf
+returns-then-same c = let z = names_counted _ _ c.requires.0 _ _ c.place-m.ensures.0 c.num-n.ensures.0 in name_found _ _ c.requires.0 _ _ _ c.place-p.ensures.0 (omega (arith, z, c.loop-k-test.true)) _ _ c.loop-k.invariant c.key_is-same.ensures c.if-same.true c.num.ensures.0
+
+pub loop-k-preserved : goal.loop-k-preserved
+loop-k-preserved c = let z = names_counted _ _ c.requires.0 _ _ c.place-m.ensures.0 c.num-n.ensures.0 in names_more _ _ c.requires.0 (stretch_of c.args.job.now c.args.identifier) _ _ c.place-p.ensures.0 (omega (arith, z, c.loop-k-test.true)) _ c.loop-k.invariant c.key_is-same.ensures c.if-same.false
+
+pub returns : goal.returns
+unfolding PlaceOf
+returns c = name_missing _ _ c.requires.0 _ _ _ c.loop-k.invariant (names_counted _ _ c.requires.0 _ _ c.place-m.ensures.0 c.num-n.ensures.0) c.loop-k-test.false

@@ -1,0 +1,13 @@
+use Rattle.spec.specs.Found.{PlaceOf}
+use Rattle.spec.specs.Found.{OtherNames, names_counted, names_more, name_found, name_missing}
+use Rattle.spec.specs.Answers.{stretch_of}
+use Prim.Native.Nat.{◌-◌}
+use native.Mathlib.Omega.{arith}
+use borrow.Author.Rules.{rules}
+use Rattle.spec.proofs.segments.elements_of.Given as goal
+
+abbrev pub invariant-loop-k : goal.invariant-loop-k
+invariant-loop-k l = OtherNames l.job (stretch_of l.job l.identifier) l.k
+
+abbrev pub decreases-loop-k : goal.decreases-loop-k
+decreases-loop-k l = l.n - l.k

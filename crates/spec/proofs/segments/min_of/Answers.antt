@@ -1,0 +1,9 @@
+use Rattle.spec.specs.Found.{min_nowhere, min_there, place_nowhere, place_at}
+use borrow.Author.Rules.{rules}
+use Rattle.spec.proofs.segments.min_of.Goals as goal
+
+pub returns-in-Nowhere : goal.returns-in-Nowhere
+returns-in-Nowhere c = min_nowhere _ _ _ (place_nowhere _ _ _ _ _ c.element_of-at.ensures c.in-Nowhere.is)
+
+pub returns-in-At : goal.returns-in-At
+returns-in-At c = min_there _ _ _ _ _ _ _ _ c.spec_end-end.ensures (place_at _ _ _ _ _ c.element_of-at.ensures _ c.in-At.is) c.element_min.ensures

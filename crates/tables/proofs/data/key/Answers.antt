@@ -1,0 +1,20 @@
+use native.Mathlib.Omega.{arith}
+use Rattle.tables.proofs.Asking.{at_num, at_nothing, num_small, row_there, none_key}
+use borrow.Author.Rules.{rules}
+use Rattle.tables.proofs.data.key.Reads as reads
+use Rattle.tables.proofs.data.key.Lts as lts
+use Rattle.column.proofs.data.key.Reads as key_reads
+use Rattle.tables.proofs.data.table_at.Reads as table-at-reads
+use Rattle.tables.proofs.data.key.Goals as goal
+
+pub overflow_add-p : goal.overflow_add-p
+overflow_add-p c = omega (arith, num_small _ _ c.in-Num.is c.table_at-found.ensures.1)
+
+pub key-requires : goal.key-requires
+key-requires c = omega (arith, num_small _ _ c.in-Num.is c.table_at-found.ensures.1)
+
+pub returns-in-Num : goal.returns-in-Num
+returns-in-Num c = c.key.ensures _ _ (omega arith) (row_there _ _ _ (at_num _ _ _ _ c.in-Num.is c.table_at-found.ensures.0))
+
+pub returns-in-Nothing : goal.returns-in-Nothing
+returns-in-Nothing c = none_key _ _ (at_nothing _ _ _ c.in-Nothing.is c.table_at-found.ensures.0)

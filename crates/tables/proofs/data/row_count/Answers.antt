@@ -1,0 +1,17 @@
+use native.Mathlib.Omega.{arith}
+use Rattle.tables.proofs.Asking.{at_num, at_nothing, num_small, rows_is, none_rows}
+use borrow.Author.Rules.{rules}
+use Rattle.tables.proofs.data.row_count.Reads as reads
+use Rattle.tables.proofs.data.row_count.Lts as lts
+use Rattle.codec.proofs.num.Reads as num_reads
+use Rattle.tables.proofs.data.table_at.Reads as table-at-reads
+use Rattle.tables.proofs.data.row_count.Goals as goal
+
+pub num-requires : goal.num-requires
+num-requires c = omega (arith, num_small _ _ c.in-Num.is c.table_at-found.ensures.1)
+
+pub returns-in-Num : goal.returns-in-Num
+returns-in-Num c = rows_is _ _ _ (at_num _ _ _ _ c.in-Num.is c.table_at-found.ensures.0) _ c.num.ensures.0
+
+pub returns-in-Nothing : goal.returns-in-Nothing
+returns-in-Nothing c = none_rows _ (at_nothing _ _ _ c.in-Nothing.is c.table_at-found.ensures.0)

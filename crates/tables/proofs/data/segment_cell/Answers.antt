@@ -1,0 +1,24 @@
+use native.Mathlib.Omega.{arith}
+use Rattle.tables.proofs.Asking.{at_num, at_nothing, num_small, segment_there, segment_in, none_segment}
+use borrow.Author.Rules.{rules}
+use Rattle.tables.proofs.data.segment_cell.Reads as reads
+use Rattle.tables.proofs.data.segment_cell.Lts as lts
+use Rattle.column.proofs.data.after_opt.Reads as after-opt-reads
+use Rattle.column.proofs.data.opt_get.Reads as opt-get-reads
+use Rattle.tables.proofs.data.table_at.Reads as table-at-reads
+use Rattle.tables.proofs.data.segment_cell.Goals as goal
+
+pub overflow_add-p : goal.overflow_add-p
+overflow_add-p c = omega (arith, num_small _ _ c.in-Num.is c.table_at-found.ensures.1)
+
+pub after_opt-requires : goal.after_opt-requires
+after_opt-requires c = omega (arith, num_small _ _ c.in-Num.is c.table_at-found.ensures.1)
+
+pub opt_get-requires : goal.opt_get-requires
+opt_get-requires c = omega (arith, c.requires.short, segment_in _ _ _ (at_num _ _ _ _ c.in-Num.is c.table_at-found.ensures.0) _ c.after_opt.ensures.0)
+
+pub returns-in-Num : goal.returns-in-Num
+returns-in-Num c = c.opt_get.ensures _ _ (omega arith) (segment_there _ _ _ (at_num _ _ _ _ c.in-Num.is c.table_at-found.ensures.0) _ c.after_opt.ensures.0)
+
+pub returns-in-Nothing : goal.returns-in-Nothing
+returns-in-Nothing c = none_segment _ _ _ (at_nothing _ _ _ c.in-Nothing.is c.table_at-found.ensures.0)

@@ -1,0 +1,11 @@
+use Prim.Native.Nat.{◌-◌, ◌≤◌}
+use native.Mathlib.Omega.{arith}
+use Rattle.tables.proofs.Filled.{Refs, refs_none, refs_more, refs_all}
+use borrow.Author.Rules.{rules}
+use Rattle.tables.proofs.fill.refs_into.Given as goal
+
+abbrev pub invariant-loop-t : goal.invariant-loop-t
+invariant-loop-t l = Refs l.job l.end l.t l.initial.index l.index × (l.t ≤ l.n)
+
+abbrev pub decreases-loop-t : goal.decreases-loop-t
+decreases-loop-t l = l.n - l.t

@@ -1,0 +1,14 @@
+use Prim.Native.Nat.{◌-◌, ◌≤◌}
+use mathlib.Core.Path.{refl}
+use native.Mathlib.Omega.{arith}
+use Rattle.spec.proofs.Storing.{lists_none}
+use Rattle.tables.specs.Index.{DataLists}
+use Rattle.tables.proofs.Filled.{data-into}
+use borrow.Author.Rules.{rules}
+use Rattle.tables.proofs.fill.tables_into.Given as goal
+
+abbrev pub invariant-loop-t : goal.invariant-loop-t
+invariant-loop-t l = DataLists l.job l.end l.initial.p l.t l.p l.initial.index l.index × (l.t ≤ l.n)
+
+abbrev pub decreases-loop-t : goal.decreases-loop-t
+decreases-loop-t l = l.n - l.t

@@ -1,0 +1,5 @@
+use Rattle.std.proofs.Common.{rules}
+use Rattle.texts.proofs.envelope.max_is.Goals as goal
+
+pub returns-in-At : goal.returns-in-At
+returns-in-At c = cc

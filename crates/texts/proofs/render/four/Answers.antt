@@ -1,0 +1,13 @@
+use Rattle.std.proofs.Common.{[], ◌∙◌, arith, rules}
+use Rattle.texts.specs.DateText.{two}
+use Rattle.texts.proofs.Rendered.{paired, room}
+use Rattle.texts.proofs.render.four.Goals as goal
+
+pub pair-requires : goal.pair-requires
+pair-requires c = (room _ [] c.empty.ensures (omega arith), c.requires.0)
+
+pub pair-requires-2 : goal.pair-requires-2
+pair-requires-2 c = (room _ (two c.args.a) (c.pair.ensures ∙ paired _ [] _ c.empty.ensures (omega arith)) (omega arith), c.requires.1)
+
+pub returns : goal.returns
+returns c = c.pair-2.ensures ∙ paired _ (two c.args.a) _ (c.pair.ensures ∙ paired _ [] _ c.empty.ensures (omega arith)) (omega arith)

@@ -1,0 +1,11 @@
+use Rattle.format.specs.Spec.{loop_c}
+use Rattle.format.specs.Refusal.{outside_loop}
+use Rattle.says.proofs.Pass.{Going, pass_start, pass_again, pass_found, pass_none}
+use borrow.Author.Rules.{rules}
+use Rattle.tree.proofs.loops_outside.Given as goal
+
+abbrev pub invariant-loop-left : goal.invariant-loop-left
+invariant-loop-left l = Going loop_c l.b l.end l.at (outside_loop l.n) l.left l.p
+
+abbrev pub decreases-loop-left : goal.decreases-loop-left
+decreases-loop-left l = l.left

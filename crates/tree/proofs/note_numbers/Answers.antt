@@ -1,0 +1,29 @@
+use Prim.Native.Nat.{◌≤◌}
+use mathlib.Core.Path.{◌≡◌, refl, ◌∙◌}
+use native.Mathlib.Omega.{arith}
+use lib.ListN.{length, length-set}
+use Rattle.codec.specs.Forms.{num_c}
+use Rattle.tree.proofs.Names.{Noting, number_there, name_in, noting_start, noting_again, noting_full, noting_done}
+use borrow.Author.Rules.{rules}
+use Rattle.tree.proofs.note_numbers.Goals as goal
+
+pub loop-left-init : goal.loop-left-init
+loop-left-init c = (refl, (omega arith, noting_start _ _ _ _ _ _ _ _ c.count_at-left.ensures.0 c.le_at-p.ensures))
+
+pub returns-then-names-k : goal.returns-then-names-k
+returns-then-names-k c = let i = c.loop-left.invariant in (i.0, (i.1.0, noting_full _ _ _ _ _ _ _ _ _ i.1.1 (omega (arith, c.if-names-k.true, i.0))))
+
+pub loop-left-preserved : goal.loop-left-preserved
+loop-left-preserved c =
+    let l = c.loop-left in
+    let x = c.count_at.result in (
+      length-set l.names l.k x ∙ l.invariant.0,
+      (
+        omega (arith, length-set l.names l.k x, c.if-names-k.false, l.invariant.0),
+        noting_again _ _ _ _ _ _ (λ y ys. refl) _ _ _ _ _ _ l.invariant.1.1 c.loop-left-test.true c.le_at-p-in-loop-left.ensures
+            (λ y i. name_in l.names l.k x _ (omega (arith, c.if-names-k.false, l.invariant.0)) (number_there _ _ _ _ c.count_at.ensures.0 y i)),
+      ),
+    )
+
+pub returns : goal.returns
+returns c = let i = c.loop-left.invariant in (i.0, (i.1.0, noting_done _ _ _ _ _ _ refl _ _ _ i.1.1 c.loop-left-test.false))

@@ -1,0 +1,18 @@
+use Rattle.codec.specs.Forms.{num_c}
+use Rattle.format.specs.Words.{repeats}
+use Rattle.says.proofs.Behind.{NoneBehind, behind_start, behind_again, behind_found, behind_none}
+use Rattle.tree.proofs.Tree.{repeat_step_lem, repeat_nil, again_says}
+use borrow.Author.Rules.{rules}
+use Rattle.tree.proofs.numbers_searched.Goals as goal
+
+pub loop-left-init : goal.loop-left-init
+loop-left-init c = behind_start _ _ _ _ _ _ _ c.count_at-left.ensures.0 c.le_at-p.ensures
+
+pub returns-then-member_behind : goal.returns-then-member_behind
+returns-then-member_behind c = behind_found _ _ _ _ _ _ repeat_step_lem _ _ _ _ c.loop-left.invariant c.loop-left-test.true c.le_at-q.ensures (again_says _ _ _ _ _ _ _ c.count_at-x.ensures.0 c.member_behind.ensures) c.if-member_behind.true
+
+pub loop-left-preserved : goal.loop-left-preserved
+loop-left-preserved c = behind_again _ _ _ _ _ _ repeat_step_lem _ _ _ _ c.loop-left.invariant c.loop-left-test.true c.le_at-q.ensures (again_says _ _ _ _ _ _ _ c.count_at-x.ensures.0 c.member_behind.ensures) c.if-member_behind.false
+
+pub returns : goal.returns
+returns c = behind_none _ _ _ _ _ repeat_nil _ _ c.loop-left.invariant c.loop-left-test.false

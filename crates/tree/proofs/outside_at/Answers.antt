@@ -1,0 +1,6 @@
+use Rattle.tree.proofs.Tree.{outside_says}
+use borrow.Author.Rules.{rules}
+use Rattle.tree.proofs.outside_at.Goals as goal
+
+pub returns : goal.returns
+returns c = outside_says _ _ _ _ _ c.count_at.ensures.0

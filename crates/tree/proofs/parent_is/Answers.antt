@@ -1,0 +1,15 @@
+use mathlib.Core.Path.{refl}
+use Rattle.format.specs.Fields.{is_loop}
+use Rattle.format.specs.Words.{if_some}
+use Rattle.format.specs.Spec.{Loop}
+use Rattle.tree.proofs.Tree.{loop_says, past_says}
+use lib.Dec.{eqb}
+use borrow.Author.Rules.{rules}
+use Rattle.tree.proofs.parent_is.Goals as goal
+
+pub returns-then-n-c : goal.returns-then-n-c
+unfolding if_some
+returns-then-n-c c = past_says _ _ _ _ _ (λ (v : Loop). if_some (eqb c.args.i) v.parent) _ c.count_at-n.ensures.0 c.if-n-c.true refl
+
+pub returns : goal.returns
+returns c = loop_says _ _ _ _ _ (λ (v : Loop). if_some (eqb c.args.i) v.parent) _ c.count_at-n.ensures.0 _ c.if-n-c.false c.place_of-p.ensures (λ v i. c.opt_same_at.ensures _ (is_loop _ _ _ v i).parent)

@@ -1,0 +1,6 @@
+use Rattle.tree.proofs.Tree.{same_says}
+use borrow.Author.Rules.{rules}
+use Rattle.tree.proofs.same_at.Goals as goal
+
+pub returns : goal.returns
+returns c = same_says _ _ _ _ _ c.count_at.ensures.0

@@ -1,0 +1,10 @@
+use mathlib.Core.Path.{refl}
+use Rattle.format.specs.Fields.{is_table}
+use Rattle.format.specs.Refusal.{outside_table}
+use Rattle.says.proofs.Walk.{says_at}
+use borrow.Author.Rules.{rules}
+use Rattle.tree.proofs.table_outside.Goals as goal
+
+pub returns : goal.returns
+unfolding outside_table
+returns c v i = let l = is_table _ _ _ v i in (says_at _ _ _ _ _ _ _ _ c.outsides_at.ensures l.loops (refl))
