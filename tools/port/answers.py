@@ -25,7 +25,7 @@ def blocks(text):
     """The top-level declarations of a file, each a list of lines."""
     out = []
     for line in text.split("\n"):
-        if line.strip() and not line[0].isspace():
+        if line.strip() and not line[0].isspace() and line[0] != ")":
             out.append([line])
         elif out:
             out[-1].append(line)
@@ -262,8 +262,23 @@ def scoped(body, table):
     return "".join(out)
 
 
+def parameters(folder, where):
+    """The parameters of a function of the crate, by its source."""
+    steps = [it.lstrip("+") for it in where.split(".")]
+    found = []
+    for here, _, fs in os.walk(os.path.join(folder, "src")):
+        for name in fs:
+            if name.endswith(".rt") and (len(steps) == 1 or name == steps[-2] + ".rt" or steps[-2] in here):
+                with open(os.path.join(here, name), encoding="utf-8") as f:
+                    m = re.search(r"\bfn %s\((.*?)\)\s*(?:->|requires|ensures|\{)" % steps[-1], f.read(), re.S)
+                if m:
+                    found = re.findall(r"(?:^|,)\s*(?:mut )?(\w+):", m[1])
+    return found
+
+
 def turn(path, crate, where, info):
     said = []
+    params_here = parameters(os.path.dirname(path.split("/proofs/")[0] + "/x"), where)
     with open(os.path.join(path, "Proof.antt"), encoding="utf-8") as f:
         text = f.read()
     if "tie.close" not in text:
@@ -330,7 +345,8 @@ def turn(path, crate, where, info):
             said.append(f"no parameter in {a}")
             params = ["c"]
             rhs = f" ({rhs.strip()}) c"
-        if is_search(rhs):
+        # the check tries its search by itself, but unfolds nothing for it
+        if is_search(rhs) and not unfolding:
             continue
         var = params[0]
         turned = fn.paths(rhs, place, var, new)
@@ -361,7 +377,7 @@ def turn(path, crate, where, info):
             helpers.append(it + "\n")
     uses = []
     for u in fn.uses:
-        if re.search(r"\.(Statement|Tie)\b", u):
+        if re.search(r"\.(Statement|Tie|Reads|Lts)\b", u):
             continue
         uses.append(u)
     comment = "\n".join(h for h in fn.heads if not re.search(r"Assumes nothing|meets its contract", h))
@@ -395,9 +411,70 @@ def turn(path, crate, where, info):
     head = (comment + "\n") if comment else ""
     base = "\n".join(uses)
     places = f"\nuse Rattle.{crate}.proofs.{where}.Goals.{{{', '.join(sorted(fn.places))}}}" if fn.places else ""
+    def numbered(text):
+        # an array that is passed by value went by its number
+        return re.sub(r"(?<=\.)t(\d+)(?![\w-])", lambda m: params_here[int(m[1]) - 1] if int(m[1]) <= len(params_here) else m[0], text).replace(".type-inv", ".type_inv")
+
+    answers = [numbered(it) for it in answers]
+    helpers = [numbered(it) for it in helpers]
     answers_text = head + base + f"\nuse Rattle.{crate}.proofs.{where}.Goals as goal{places}\n\n" + "\n".join(helpers + answers) if answers else None
     inv_text = (head if not answers else "") + base + f"\nuse Rattle.{crate}.proofs.{where}.Given as goal\n\n" + "\n".join(inv) if inv else None
     return answers_text, inv_text, said
+
+
+def turn_cycle(path, crate, where, table):
+    """The proof of a function that calls itself."""
+    said, name = [], where.split("+")[-1]
+    info = table.get(f"Rattle-{crate}-proofs.{where}.Lts-{name}") or table.get(f"Rattle-{crate}-proofs.{where}.Lts")
+    if info is None:
+        return None, None, ["the toolchain names no goals of it"]
+    with open(os.path.join(path, "Proof.antt"), encoding="utf-8") as f:
+        fn = Function(f.read(), info, said)
+    params_here = parameters(os.path.dirname(path.split("/proofs/")[0] + "/x"), where)
+    goals, invs, helpers = [], [], []
+    for it in fn.order:
+        d = fn.defs.get(it)
+        if d is None:
+            helpers.append(it + "\n")
+            continue
+        need = re.search(r"\.Need-(%s)" % NAME, d["type"])
+        loop = re.search(r"lts\.(invariant|decreases)-(%s)" % NAME, d["type"])
+        lhs, rhs = d["clauses"][0].split("=", 1)
+        params = lhs.split()[1:]
+        if "Measures" in d["type"]:
+            body = re.sub(r"(?<![\w.])%s((?:\.1)*)\.0(?![\d])" % re.escape(params[-1]), lambda m: "l." + params_here[m[1].count(".1")], rhs.strip())
+            invs.insert(0, f"abbrev pub decreases-{name} : goal.decreases-{name}\ndecreases-{name} l = {body}\n")
+        elif loop:
+            for (old, new), names, changed in [(a, b, c) for (a, b), c in zip(info["loops"], info["changed"])]:
+                if norm(old) == norm(loop[2]):
+                    values = [(f"l.initial.{n}" if ch else f"l.{n}") for n, ch in zip(names, changed)] + [f"l.{n}" for n, ch in zip(names, changed) if ch]
+                    body = scoped(rhs.strip(), dict(zip(params, values)))
+                    if len(params) != len(values):
+                        said.append(f"{it} takes {len(params)} and not {len(values)}")
+                    invs.append(f"abbrev pub {loop[1]}-{new} : goal.{loop[1]}-{new}\n{d['unfolding']}{loop[1]}-{new} l = {body}\n")
+        elif need:
+            want = norm(re.sub("^overflow-", "", need[1]))
+            found = [(n, info["asked_at"][i][0]) for i, (o, n) in enumerate(info["needs"]) if norm(o) in (want, norm(need[1]))]
+            if not found:
+                said.append(f"no goal for {it}")
+                continue
+            if is_search(rhs) and not d["unfolding"]:
+                continue
+            new, place = found[0]
+            t, c = params[0], params[1]
+            more = [p for p in params[2:] if not re.match("κ", p)]
+            # what is required stood behind the measure
+            body = fn.paths(rhs.rstrip(), place, c, new).replace(f"{c}.requires.1", f"{c}.requires")
+            goals.append(f"pub {new} : goal.{new}\n{d['unfolding']}{new} {' '.join([t, c] + more)} ={body}\n")
+        elif re.search(r"\bIn \d|\{M : Type 1\}|statement M", d["type"]):
+            continue
+        else:
+            helpers.append(f"{d['marks']}{it} : {d['type']}\n{d['unfolding']}" + "\n".join(d["clauses"]) + "\n")
+    uses = "\n".join(u for u in fn.uses if not re.search(r"\.(Statement|Tie|Reads|Kinds|Lts\S*)\b|borrow\.Fn|\{statement\}|\{close\}", u))
+    places = f"\nuse Rattle.{crate}.proofs.{where}.Goals.{{{', '.join(sorted(fn.places))}}}" if fn.places else ""
+    answers = uses + f"\nuse Rattle.{crate}.proofs.{where}.Goals as goal{places}\n\n" + "\n".join(helpers + goals) if goals else None
+    inv = uses + f"\nuse Rattle.{crate}.proofs.{where}.Given as goal\n\n" + "\n".join(invs) if invs else None
+    return answers and answers.replace(".type-inv", ".type_inv"), inv, said
 
 
 def main(argv):
@@ -413,13 +490,16 @@ def main(argv):
         if only and where not in only:
             continue
         info = table.get(f"Rattle-{crate}-proofs.{where}.Lts")
-        if info is None:
+        if where.split(".")[-1].startswith("+"):
+            answers, inv, said = turn_cycle(here, crate, where, table)
+        elif info is None:
             print(f"{crate}.{where}: the toolchain names no goals of it")
             continue
-        answers, inv, said = turn(here, crate, where, info)
+        else:
+            answers, inv, said = turn(here, crate, where, info)
         for s in said:
             print(f"{crate}.{where}: {s}")
-        if said == ["by hand"] or (answers is None and inv is None and said and said[0].startswith("another form")):
+        if said in (["by hand"], ["the toolchain names no goals of it"]) or (answers is None and inv is None and said and said[0].startswith("another form")):
             continue
         os.remove(os.path.join(here, "Proof.antt"))
         for name, text in (("Answers.antt", answers), ("Invariants.antt", inv)):

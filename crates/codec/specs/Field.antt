@@ -1,5 +1,5 @@
 -- What stands at a place, taken apart: from a structure to its fields, from a list to its items.
-use Prim.Native.Nat.{ℕ, zero, suc, ◌+◌, ◌*◌, ◌-◌, ◌≤◌, ◌<◌}
+use Prim.Native.Nat.{ℕ, zero, suc, ◌+◌, ◌*◌, ◌≤◌, ◌<◌}
 use Rattle.std.proofs.Math.Path.{◌≡◌}
 use Rattle.std.specs.Prelude.{refl, List, [], ◌∷◌, ◌⊎◌, Bool, true, false, length, get_or, leb}
 use Rattle.std.proofs.Common.{sym, ap, subst, ◌∙◌, inl, inr, arith, add-zero, mul-zero, mul-suc, mul_comm, leb-true, leb-false}

@@ -1,5 +1,5 @@
 -- The plain forms of a job: numbers, byte strings, options, yes or no.
-use Rattle.std.specs.Prelude.{ℕ, ◌-◌, ◌≡◌, refl, List, ◌⊎◌, Bool, true, false}
+use Rattle.std.specs.Prelude.{ℕ, ◌≡◌, refl, List, ◌⊎◌, Bool, true, false}
 use Rattle.std.proofs.Math.Option.{Option, none, some}
 use Rattle.std.proofs.Common.{inl, inr}
 use Rattle.codec.specs.Codec.{Codec, le_c, unit_c, map_c, enum_c, ◌⊕◌, end_c, Units, units_c, list_c}

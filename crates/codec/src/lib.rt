@@ -1,4 +1,6 @@
 // Reading by place: each function answers the place behind what it reads, or one past the end where it is bad.
+#![tactic(auto)]
+
 ghost use Rattle.std.specs.Prelude.{◌≡◌, ℕ, ◌+◌, ◌≤◌, ◌<◌, get_or, length, set, [], ◌∷◌, true};
 ghost use Rattle.std.proofs.Math.Option.{Option};
 ghost use Rattle.codec.specs.Codec.{le, le_c, list_c, pick};

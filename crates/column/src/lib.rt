@@ -1,6 +1,8 @@
 // The cells of a job's columns, read where they stand. Each reader says what its answer is of whatever stands at the place that
 // it is given. It asks only that the place is small (below 2^40; the inner readers, which are called further on, take more), so
 // that sums fit; a reader of one kind of column also takes the count that was read with the kind.
+#![tactic(auto)]
+
 pub mod bitmap;
 pub mod data;
 pub mod get;

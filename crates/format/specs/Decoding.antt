@@ -1,5 +1,5 @@
 -- Decoding and encoding undo each other, and what stands where in a job that is neither broken nor spoilt.
-use Rattle.std.specs.Prelude.{ℕ, ◌+◌, ◌-◌, ◌≤◌, ◌<◌, refl, List, ◌++◌, Bool, not, length, ltb, eqb}
+use Rattle.std.specs.Prelude.{ℕ, ◌+◌, ◌≤◌, ◌<◌, refl, List, ◌++◌, Bool, not, length, ltb, eqb}
 use Rattle.std.proofs.Math.Path.{◌≡◌}
 use Rattle.std.proofs.Common.{sym, ap, subst, ◌∙◌, arith, zero-add, length-append, lt-ltb, le-ltb, eq-eqb, ltb-false, eqb-true}
 use Rattle.std.proofs.Math.Option.{none, some}

@@ -1,4 +1,6 @@
 // Checking the structures of a job: each function answers the place behind what it reads, or one past the end where it is bad.
+#![tactic(auto)]
+
 ghost use Rattle.std.specs.Prelude.{◌≡◌, length, ◌≤◌, false};
 ghost use Rattle.codec.specs.Skip.{skip};
 ghost use Rattle.codec.specs.Codec.{◌⊗◌, list_c};

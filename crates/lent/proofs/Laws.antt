@@ -7,10 +7,10 @@ use native.Mathlib.Omega.{arith}
 use native.Mathlib.Numerals.{add-one}
 use native.Mathlib.Nat.{le_of_lt, min-eq_left, min-eq_right, add-zero, not-suc-le-zero, zero-mul, suc-mul, add_comm, mul-sub, mul_comm, le_refl, zero-sub, sub-zero}
 use lib.ListN.{length, get_or, set, take, drop, replicate, length-append, length-set, length-take, length-drop, length-replicate, drop_of_length-le}
-use lib.Seq.{sets, set_out, length-sets, take-set-le, drop-set-lt, take_all, take-suc, take-take, take-nil, take-append-add, drop-nil, drop-append-le, drop-append-add}
+use lib.Seq.{sets, set_out, length-sets, take-set-le, drop-set-lt, take_all, take-suc, take-take, take-nil, take-append-add, drop-nil}
 use lib.Dec.{leb}
 use borrow.Author.Tests.{leb-true, leb-false}
-use Rattle.lent.specs.Fit.{cap, more, stretch, base, placed, StoredAt, Stored, Noted}
+use Rattle.lent.specs.Fit.{cap, more, stretch, placed, StoredAt, Stored}
 
 -- nothing is stored past the end
 pub sets_past : (d : List ℕ) (p : ℕ) (bs : List ℕ) → length d ≤ p → sets d p bs ≡ d

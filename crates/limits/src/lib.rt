@@ -1,4 +1,6 @@
 // 3: a limit is passed. Each function tells whether whatever stands at a place passes one.
+#![tactic(auto)]
+
 ghost use Rattle.std.specs.Prelude.{◌≡◌, length, ◌≤◌, false};
 ghost use Rattle.codec.specs.Codec.{◌⊗◌, list_c};
 ghost use Rattle.codec.specs.Forms.{bytes_c, num_c, opt_c};

@@ -1,4 +1,6 @@
 // Where the sections of a job stand. The crate's specs and proofs have what tests of a job's parts are told in and proved by.
+#![tactic(auto)]
+
 ghost use Rattle.std.specs.Prelude.{◌≡◌, ◌+◌, ◌-◌, length, false};
 ghost use Rattle.codec.specs.Codec.{le};
 ghost use Rattle.format.specs.Sections.{broken};

@@ -1,4 +1,6 @@
 // What is asked of a job's spec and of its envelope, read through the index.
+#![tactic(auto)]
+
 pub mod elements;
 pub mod envelope;
 pub mod fill;

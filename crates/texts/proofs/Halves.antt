@@ -1,5 +1,5 @@
 -- Laws of numbers in halves. A base stays a variable where omega would meet a number above 38 digits.
-use Rattle.std.proofs.Common.{◌≡◌, ℕ, ◌+◌, ◌-◌, ◌*◌, ◌/◌, ◌%◌, ◌^◌, ◌<◌, ◌≤◌, sym, ap, ◌∙◌, lt_of_lt_of_le, mul-le-mul_right, mod-lt, add-mul, div-add-mod', arith, lit<, lit≤}
+use Rattle.std.proofs.Common.{◌≡◌, ℕ, ◌+◌, ◌*◌, ◌/◌, ◌%◌, ◌^◌, ◌<◌, ◌≤◌, sym, ap, ◌∙◌, lt_of_lt_of_le, mul-le-mul_right, mod-lt, add-mul, div-add-mod', arith, lit<, lit≤}
 use lib.Arith.{digits_div, digits_mod}
 
 -- the wrapped differences, one half each

@@ -1,5 +1,5 @@
 -- The ways of `render`: what each test that the code makes leaves of the definitions.
-use Rattle.std.proofs.Common.{◌≡◌, ℕ, ◌+◌, ◌/◌, ◌%◌, ◌<◌, ◌≤◌, Bool, true, false, List, ◌++◌, length, ℤ, sym, refl, ap, ◌∙◌, subst, arith, to_z-of_z, w32, SFits, eq-eqb, ne_eqb}
+use Rattle.std.proofs.Common.{◌≡◌, ℕ, ◌/◌, ◌%◌, ◌<◌, ◌≤◌, Bool, true, false, List, ◌++◌, length, ℤ, sym, refl, ap, ◌∙◌, subst, arith, to_z-of_z, w32, SFits, eq-eqb, ne_eqb}
 use lib.Signed.{mag}
 use Rattle.texts.specs.declared.Text.{Text}
 use Rattle.texts.specs.declared.parse.Civil.{Civil}

@@ -1,5 +1,5 @@
 -- Sums and products of signed numbers of 32 bits, as they are read back from their bits.
-use Rattle.std.proofs.Common.{◌≡◌, ℕ, zero, suc, ◌+◌, ◌-◌, ◌*◌, ◌<◌, ◌≤◌, Bool, true, false, ltb, ℤ, pos, negsuc, ◌+ℤ◌, ◌*ℤ◌, neg_ℤ, refl, ap, ◌∙◌, ap₂, ⊎_elim, arith, to_z-of_z, w32, SFits, to_z, of_z}
+use Rattle.std.proofs.Common.{◌≡◌, ℕ, zero, suc, ◌+◌, ◌*◌, ◌<◌, ◌≤◌, Bool, true, false, ltb, ℤ, pos, negsuc, ◌+ℤ◌, ◌*ℤ◌, neg_ℤ, refl, ap, ◌∙◌, ap₂, ⊎_elim, arith, to_z-of_z, w32, SFits, to_z, of_z}
 use mathlib.Core.Path.{subst⁻¹}
 use lib.IntN.{sub_ℕ}
 use lib.Signed.{mag}

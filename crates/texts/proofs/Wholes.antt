@@ -1,5 +1,5 @@
 -- Laws of whole numbers, whose digits are put in their places from the last on.
-use Rattle.std.proofs.Common.{◌≡◌, ℕ, zero, suc, ◌+◌, ◌-◌, ◌*◌, ◌/◌, ◌%◌, ◌^◌, ◌<◌, ◌≤◌, List, [], ◌∷◌, ◌++◌, length, set, sym, refl, ap, ◌∙◌, ap₂, append-nil, add-zero, div-one, arith, below_more}
+use Rattle.std.proofs.Common.{◌≡◌, ℕ, suc, ◌+◌, ◌-◌, ◌*◌, ◌/◌, ◌%◌, ◌^◌, ◌<◌, ◌≤◌, List, [], ◌∷◌, ◌++◌, length, set, sym, refl, ap, ◌∙◌, ap₂, append-nil, add-zero, div-one, arith, below_more}
 use lib.Seq.{sets, set_comm}
 use Rattle.texts.specs.declared.Text.{Text}
 use Rattle.texts.specs.Held.{held, added}

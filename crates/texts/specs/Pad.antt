@@ -3,7 +3,6 @@ use Rattle.std.specs.Prelude.{ℕ, ◌-◌, Bool, false, cond, List, ◌++◌, l
 use Rattle.texts.specs.declared.envelope.Min.{Min}
 use Rattle.texts.specs.declared.envelope.Min.TheVariants.{Free, At}
 use Rattle.texts.specs.declared.render.Max.{Max}
-use Rattle.texts.specs.declared.render.Max.TheVariants as Max
 use Rattle.texts.specs.Number.{count_text}
 
 -- whether an element's max is that width

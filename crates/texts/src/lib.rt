@@ -1,4 +1,6 @@
 // Values as the texts of elements: dates, times, whole numbers and decimals, and how far a text is padded.
+#![tactic(auto)]
+
 pub mod envelope;
 pub mod number;
 pub mod parse;

@@ -1,4 +1,6 @@
 // Loop numbers of a job: those that are no loop's, a loop by its number, and numbers that repeat. `loops` is the place of the spec's loops.
+#![tactic(auto)]
+
 ghost use Rattle.std.specs.Prelude.{◌≡◌, List, ◌<◌, ◌≤◌, ℕ, drop, length, take, eqb};
 ghost use Rattle.std.proofs.Math.Option.{some};
 ghost use Rattle.codec.specs.Codec.{le_c, list_c};

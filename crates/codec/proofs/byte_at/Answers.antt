@@ -1,7 +1,6 @@
 use lib.ListN.{get_or-eq_default}
 use mathlib.Core.Path.{refl, sym}
 use native.Mathlib.Omega.{arith}
-use borrow.Author.Rules.{rules}
 use Rattle.codec.proofs.byte_at.Goals as goal
 
 pub overflow_cast-result : goal.overflow_cast-result

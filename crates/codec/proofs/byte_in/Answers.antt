@@ -1,6 +1,5 @@
 use mathlib.Core.Path.{refl}
 use native.Mathlib.Omega.{arith}
-use borrow.Author.Rules.{rules}
 use Rattle.codec.proofs.byte_in.Goals as goal
 
 pub overflow_cast-result : goal.overflow_cast-result

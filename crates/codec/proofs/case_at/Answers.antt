@@ -2,7 +2,6 @@ use Prim.Native.Nat.{◌<◌, ◌≤◌}
 use Rattle.codec.specs.Ways.{tag_case, case_in, case_out}
 use mathlib.Core.Path.{sym}
 use native.Mathlib.Omega.{arith}
-use borrow.Author.Rules.{rules}
 use Rattle.codec.proofs.case_at.Goals as goal
 
 pub overflow_add-result : goal.overflow_add-result

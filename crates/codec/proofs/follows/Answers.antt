@@ -1,6 +1,5 @@
 use Rattle.codec.specs.Strings.{ok_first, ok_later}
 use mathlib.Core.Path.{sym, ◌∙◌}
-use borrow.Author.Rules.{rules}
 use Rattle.codec.proofs.follows.Goals as goal
 
 pub returns-then-last-eq0 : goal.returns-then-last-eq0

@@ -1,7 +1,6 @@
 use Rattle.codec.specs.Skip.{skip_le, skip_short}
 use mathlib.Core.Path.{sym}
 use native.Mathlib.Omega.{arith}
-use borrow.Author.Rules.{rules}
 use Rattle.codec.proofs.le_at.Goals as goal
 
 pub returns-then-e-at : goal.returns-then-e-at

@@ -3,7 +3,6 @@ use Rattle.codec.specs.Codec.{le_c}
 use Rattle.codec.specs.Ways.{list_past, les_short, les_fit, mul_small}
 use mathlib.Core.Path.{sym}
 use native.Mathlib.Omega.{arith}
-use borrow.Author.Rules.{rules}
 use Rattle.codec.proofs.les_at.Goals as goal
 
 pub returns-then-e-p : goal.returns-then-e-p

@@ -1,8 +1,5 @@
-use Rattle.codec.specs.Strings.{less_at, less_from, less_ends, less_short, less_yes, less_no, less_more}
-use Prim.Native.Nat.{◌+◌, ◌≤◌}
-use mathlib.Core.Path.{◌≡◌}
+use Rattle.codec.specs.Strings.{less_at, less_ends, less_short, less_yes, less_no, less_more}
 use native.Mathlib.Omega.{arith}
-use borrow.Author.Rules.{rules}
 use Rattle.codec.proofs.less_at.Goals as goal
 
 pub loop-m-init : goal.loop-m-init

@@ -1,8 +1,6 @@
-use Rattle.codec.specs.Strings.{less_at, less_from, less_ends, less_short, less_yes, less_no, less_more}
+use Rattle.codec.specs.Strings.{less_at, less_from}
 use Prim.Native.Nat.{◌+◌, ◌≤◌}
 use mathlib.Core.Path.{◌≡◌}
-use native.Mathlib.Omega.{arith}
-use borrow.Author.Rules.{rules}
 use Rattle.codec.proofs.less_at.Given as goal
 
 abbrev pub invariant-loop-m : goal.invariant-loop-m

@@ -1,5 +1,4 @@
 use Rattle.codec.specs.Ways.{le_eight}
-use borrow.Author.Rules.{rules}
 use Rattle.codec.proofs.long.Goals as goal
 
 pub returns-then-at-b : goal.returns-then-at-b

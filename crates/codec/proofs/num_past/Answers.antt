@@ -1,6 +1,5 @@
 use Rattle.codec.specs.Ways.{le_four}
 use native.Mathlib.Omega.{arith}
-use borrow.Author.Rules.{rules}
 use Rattle.codec.proofs.num_past.Goals as goal
 
 pub returns : goal.returns

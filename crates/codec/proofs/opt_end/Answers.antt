@@ -1,7 +1,6 @@
 use Rattle.codec.specs.Ways.{tag_case, opt_none, opt_some, opt_bad}
 use mathlib.Core.Path.{sym, ◌∙◌}
 use native.Mathlib.Omega.{arith}
-use borrow.Author.Rules.{rules}
 use Rattle.codec.proofs.opt_end.Goals as goal
 
 pub overflow_add-result : goal.overflow_add-result

@@ -1,6 +1,5 @@
 use Rattle.codec.specs.Answers.{opt_nothing, opt_number}
 use mathlib.Core.Path.{sym, ◌∙◌}
-use borrow.Author.Rules.{rules}
 use Rattle.codec.proofs.opt_num.Goals as goal
 
 pub returns-then-t-eq0 : goal.returns-then-t-eq0

@@ -1,6 +1,5 @@
 use lib.Seq.{set_out}
 use mathlib.Core.Path.{sym}
-use borrow.Author.Rules.{rules}
 use Rattle.codec.proofs.put.Goals as goal
 
 pub returns : goal.returns

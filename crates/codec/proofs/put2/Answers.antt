@@ -1,5 +1,4 @@
 use Rattle.codec.specs.Rows.{stored_2}
-use borrow.Author.Rules.{rules}
 use Rattle.codec.proofs.put2.Goals as goal
 
 pub returns : goal.returns

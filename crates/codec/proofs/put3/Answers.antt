@@ -1,5 +1,4 @@
 use Rattle.codec.specs.Rows.{stored_3}
-use borrow.Author.Rules.{rules}
 use Rattle.codec.proofs.put3.Goals as goal
 
 pub returns : goal.returns

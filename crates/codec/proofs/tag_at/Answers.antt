@@ -1,6 +1,5 @@
 use Rattle.codec.specs.Ways.{tag_in, tag_out}
 use mathlib.Core.Path.{sym, ◌∙◌}
-use borrow.Author.Rules.{rules}
 use Rattle.codec.proofs.tag_at.Goals as goal
 
 pub returns-then-end-at : goal.returns-then-end-at

@@ -1,6 +1,5 @@
 use mathlib.Core.Path.{refl}
 use Rattle.format.specs.Decoding.{broken_is, broken_short, broken_long}
-use borrow.Author.Rules.{rules}
 use Rattle.format.proofs.broken_at.Goals as goal
 
 pub returns-then-b-lt24 : goal.returns-then-b-lt24

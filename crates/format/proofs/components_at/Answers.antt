@@ -1,8 +1,5 @@
-use Rattle.format.specs.Spec.{component_c}
-use Rattle.codec.specs.Maps.{num_map_c, risen, map_start, map_again, map_fallen, map_broken, map_done}
-use Rattle.codec.specs.Skip.{skip, skip_pair}
-use mathlib.Core.Path.{◌≡◌}
-use borrow.Author.Rules.{rules}
+use Rattle.codec.specs.Maps.{map_start, map_again, map_fallen, map_broken, map_done}
+use Rattle.codec.specs.Skip.{skip_pair}
 use Rattle.format.proofs.components_at.Goals as goal
 
 pub loop-left-init : goal.loop-left-init

@@ -1,8 +1,4 @@
-use Rattle.codec.specs.Codec.{list_c}
-use Rattle.format.specs.Data.{table_data_c}
-use Rattle.codec.specs.Skip.{skip, steps, list_start, list_again, list_broken, list_done}
-use mathlib.Core.Path.{◌≡◌}
-use borrow.Author.Rules.{rules}
+use Rattle.codec.specs.Skip.{list_start, list_again, list_broken, list_done}
 use Rattle.format.proofs.data_at.Goals as goal
 
 pub loop-left-init : goal.loop-left-init

@@ -1,8 +1,7 @@
 use Rattle.codec.specs.Codec.{list_c}
 use Rattle.codec.specs.Forms.{opt_c, num_c}
-use Rattle.codec.specs.Skip.{skip, steps, list_start, list_again, list_broken, list_done}
+use Rattle.codec.specs.Skip.{skip, steps}
 use mathlib.Core.Path.{◌≡◌}
-use borrow.Author.Rules.{rules}
 use Rattle.format.proofs.depths_at.Given as goal
 
 abbrev pub invariant-loop-left : goal.invariant-loop-left

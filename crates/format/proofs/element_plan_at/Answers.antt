@@ -1,6 +1,5 @@
 use Rattle.format.specs.Plan.{element_plan_c}
 use Rattle.codec.specs.Skip.{skip_map, skip_pair}
-use borrow.Author.Rules.{rules}
 use Rattle.format.proofs.element_plan_at.Goals as goal
 
 pub returns : goal.returns

@@ -1,8 +1,7 @@
 use Rattle.format.specs.Spec.{element_c}
-use Rattle.codec.specs.Maps.{num_map_c, risen, map_start, map_again, map_fallen, map_broken, map_done}
-use Rattle.codec.specs.Skip.{skip, skip_pair}
+use Rattle.codec.specs.Maps.{num_map_c, risen}
+use Rattle.codec.specs.Skip.{skip}
 use mathlib.Core.Path.{◌≡◌}
-use borrow.Author.Rules.{rules}
 use Rattle.format.proofs.elements_at.Given as goal
 
 abbrev pub invariant-loop-left : goal.invariant-loop-left

@@ -1,5 +1,4 @@
 use Rattle.codec.specs.Ways.{skip_flag}
-use borrow.Author.Rules.{rules}
 use Rattle.format.proofs.flag_at.Goals as goal
 
 pub returns : goal.returns

@@ -1,5 +1,4 @@
 use Rattle.format.specs.Ends.{instances_low, instances_table, instances_high, instances_bad}
-use borrow.Author.Rules.{rules}
 use Rattle.format.proofs.instances_at.Goals as goal
 
 pub returns-then-t-lt2 : goal.returns-then-t-lt2

@@ -1,5 +1,4 @@
 use Rattle.format.specs.Ends.{item_is, item_bad}
-use borrow.Author.Rules.{rules}
 use Rattle.format.proofs.item_at.Goals as goal
 
 pub returns-then-t-lt2 : goal.returns-then-t-lt2

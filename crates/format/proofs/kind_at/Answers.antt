@@ -1,5 +1,4 @@
 use Rattle.format.specs.Ends.{kind_low, kind_byte, kind_high, kind_bad}
-use borrow.Author.Rules.{rules}
 use Rattle.format.proofs.kind_at.Goals as goal
 
 pub returns-then-t-lt2 : goal.returns-then-t-lt2

@@ -1,7 +1,6 @@
 use Rattle.format.specs.Spec.{loop_c}
 use Rattle.codec.specs.Skip.{skip_map, skip_pair}
 use Rattle.format.specs.Ends.{skip_usage}
-use borrow.Author.Rules.{rules}
 use Rattle.format.proofs.loop_at.Goals as goal
 
 pub returns : goal.returns

@@ -1,5 +1,4 @@
 use Rattle.codec.specs.Ways.{skip_opt}
-use borrow.Author.Rules.{rules}
 use Rattle.format.proofs.opt_repeat_at.Goals as goal
 
 pub returns : goal.returns

@@ -1,6 +1,5 @@
 use Rattle.codec.specs.Maps.{map_start, map_done}
 use native.Mathlib.Omega.{arith}
-use borrow.Author.Rules.{rules}
 use Rattle.format.proofs.parts_at.Goals as goal
 
 pub returns-then-count_at-eq0 : goal.returns-then-count_at-eq0

@@ -1,5 +1,4 @@
 use Rattle.codec.specs.Skip.{skip_pair}
-use borrow.Author.Rules.{rules}
 use Rattle.format.proofs.reference_at.Goals as goal
 
 pub returns : goal.returns

@@ -1,9 +1,4 @@
-use Rattle.codec.specs.Codec.{list_c, ◌⊗◌}
-use Rattle.codec.specs.Forms.{num_c, opt_c}
-use Rattle.format.specs.Data.{column_c}
-use Rattle.codec.specs.Skip.{skip, steps, list_start, list_again, list_broken, list_done}
-use mathlib.Core.Path.{◌≡◌}
-use borrow.Author.Rules.{rules}
+use Rattle.codec.specs.Skip.{list_start, list_again, list_broken, list_done}
 use Rattle.format.proofs.references_at.Goals as goal
 
 pub loop-left-init : goal.loop-left-init

@@ -1,11 +1,7 @@
-use Rattle.format.specs.Spec.{segment_c}
-use Rattle.codec.specs.Strings.{sorted, sorted_start, sorted_again, sorted_fallen, sorted_broken, sorted_done}
-use Rattle.codec.specs.Maps.{bytes_map_c}
-use Rattle.codec.specs.Skip.{skip, skip_pair}
-use Prim.Native.Nat.{◌≤◌}
-use mathlib.Core.Path.{◌≡◌, sym, ◌∙◌}
+use Rattle.codec.specs.Strings.{sorted_start, sorted_again, sorted_fallen, sorted_broken, sorted_done}
+use Rattle.codec.specs.Skip.{skip_pair}
+use mathlib.Core.Path.{sym, ◌∙◌}
 use native.Mathlib.Omega.{arith}
-use borrow.Author.Rules.{rules}
 use Rattle.format.proofs.segments_at.Goals as goal
 
 pub loop-left-init : goal.loop-left-init

@@ -1,11 +1,9 @@
 use Rattle.format.specs.Spec.{segment_c}
-use Rattle.codec.specs.Strings.{sorted, sorted_start, sorted_again, sorted_fallen, sorted_broken, sorted_done}
+use Rattle.codec.specs.Strings.{sorted}
 use Rattle.codec.specs.Maps.{bytes_map_c}
-use Rattle.codec.specs.Skip.{skip, skip_pair}
+use Rattle.codec.specs.Skip.{skip}
 use Prim.Native.Nat.{◌≤◌}
-use mathlib.Core.Path.{◌≡◌, sym, ◌∙◌}
-use native.Mathlib.Omega.{arith}
-use borrow.Author.Rules.{rules}
+use mathlib.Core.Path.{◌≡◌}
 use Rattle.format.proofs.segments_at.Given as goal
 
 abbrev pub invariant-loop-left : goal.invariant-loop-left

@@ -1,5 +1,4 @@
 use Rattle.format.specs.Ends.{source_low, source_table_lem, source_bad}
-use borrow.Author.Rules.{rules}
 use Rattle.format.proofs.source_at.Goals as goal
 
 pub returns-then-t-lt1 : goal.returns-then-t-lt1

@@ -1,6 +1,5 @@
 use Rattle.format.specs.Spec.{spec_c}
 use Rattle.codec.specs.Skip.{skip_map, skip_pair}
-use borrow.Author.Rules.{rules}
 use Rattle.format.proofs.spec_at.Goals as goal
 
 pub returns : goal.returns

@@ -1,7 +1,6 @@
 use mathlib.Core.Path.{refl}
 use native.Mathlib.Omega.{arith}
 use Rattle.format.specs.Decoding.{sound_of, spoilt_is}
-use borrow.Author.Rules.{rules}
 use Rattle.format.proofs.spoilt_at.Goals as goal
 
 pub overflow_sub-t : goal.overflow_sub-t

@@ -1,5 +1,4 @@
 use Rattle.format.specs.Ends.{value_column, value_code, value_bad}
-use borrow.Author.Rules.{rules}
 use Rattle.format.proofs.value_at.Goals as goal
 
 pub returns-then-t-lt2 : goal.returns-then-t-lt2

@@ -1,5 +1,4 @@
 use Rattle.format.specs.Ends.{values_binary, values_int, values_decimal, values_days, values_bad}
-use borrow.Author.Rules.{rules}
 use Rattle.format.proofs.values_at.Goals as goal
 
 pub returns-then-t-lt1 : goal.returns-then-t-lt1

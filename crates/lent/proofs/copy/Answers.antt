@@ -1,7 +1,6 @@
-use lib.ListN.{length-drop, length, take, drop}
-use lib.Seq.{get_or-drop, sets}
+use lib.ListN.{length-drop, drop}
+use lib.Seq.{get_or-drop}
 use Rattle.lent.proofs.Laws.{sets_turn}
-use Prim.Native.Nat.{◌≤◌, ◌-◌}
 use mathlib.Core.Path.{◌≡◌, sym, ◌∙◌}
 use native.Mathlib.Omega.{arith}
 use borrow.Author.Rules.{rules}

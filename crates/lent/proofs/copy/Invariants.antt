@@ -1,10 +1,7 @@
-use lib.ListN.{length-drop, length, take, drop}
-use lib.Seq.{get_or-drop, sets}
-use Rattle.lent.proofs.Laws.{sets_turn}
+use lib.ListN.{length, take, drop}
+use lib.Seq.{sets}
 use Prim.Native.Nat.{◌≤◌, ◌-◌}
-use mathlib.Core.Path.{◌≡◌, sym, ◌∙◌}
-use native.Mathlib.Omega.{arith}
-use borrow.Author.Rules.{rules}
+use mathlib.Core.Path.{◌≡◌}
 use Rattle.lent.proofs.copy.Given as goal
 
 abbrev pub invariant-loop-i : goal.invariant-loop-i

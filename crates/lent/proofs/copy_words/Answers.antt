@@ -1,9 +1,8 @@
 use Rattle.lent.proofs.Laws.{sets_turn}
-use Prim.Native.Nat.{◌≤◌, ◌-◌}
 use mathlib.Core.Path.{◌≡◌, sym, ◌∙◌}
 use native.Mathlib.Omega.{arith}
-use lib.ListN.{length, take, drop, length-drop}
-use lib.Seq.{sets, get_or-drop}
+use lib.ListN.{drop, length-drop}
+use lib.Seq.{get_or-drop}
 use borrow.Author.Rules.{rules}
 use Rattle.lent.proofs.copy_words.Goals as goal
 

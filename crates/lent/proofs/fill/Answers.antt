@@ -1,7 +1,7 @@
-use Prim.Native.Nat.{ℕ, ◌<◌, ◌≤◌, ◌-◌}
+use Prim.Native.Nat.{ℕ, ◌<◌}
 use mathlib.Core.List.{List}
-use mathlib.Core.Path.{ap, ◌≡◌, sym, ◌∙◌}
-use lib.ListN.{length-replicate, get_or-replicate, length, take, replicate}
+use mathlib.Core.Path.{ap, sym, ◌∙◌}
+use lib.ListN.{length-replicate, get_or-replicate, replicate}
 use lib.Seq.{take_all, sets}
 use Rattle.lent.proofs.Laws.{sets_turn}
 use borrow.Author.Rules.{rules}

@@ -1,10 +1,7 @@
-use Prim.Native.Nat.{ℕ, ◌<◌, ◌≤◌, ◌-◌}
-use mathlib.Core.List.{List}
-use mathlib.Core.Path.{ap, ◌≡◌, sym, ◌∙◌}
-use lib.ListN.{length-replicate, get_or-replicate, length, take, replicate}
-use lib.Seq.{take_all, sets}
-use Rattle.lent.proofs.Laws.{sets_turn}
-use borrow.Author.Rules.{rules}
+use Prim.Native.Nat.{◌≤◌, ◌-◌}
+use mathlib.Core.Path.{◌≡◌}
+use lib.ListN.{length, take, replicate}
+use lib.Seq.{sets}
 use Rattle.lent.proofs.fill.Given as goal
 
 abbrev pub invariant-loop-i : goal.invariant-loop-i

@@ -1,8 +1,6 @@
 use Rattle.lent.proofs.Laws.{fits_both, sized, noted_fit}
 use Rattle.lent.specs.Fit.{base}
-use lib.ListN.{length-take}
 use native.Mathlib.Omega.{arith}
-use borrow.Author.Rules.{rules}
 use Rattle.lent.proofs.note_words.Goals as goal
 
 pub copy_words-requires : goal.copy_words-requires

@@ -1,5 +1,4 @@
 use Rattle.lent.proofs.Laws.{stored_none, stored_run}
-use borrow.Author.Rules.{rules}
 use Rattle.lent.proofs.put_run.Goals as goal
 
 pub returns-then-n-eq0 : goal.returns-then-n-eq0

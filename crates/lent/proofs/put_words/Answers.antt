@@ -1,7 +1,6 @@
 use Rattle.lent.proofs.Laws.{stored_fit}
 use lib.ListN.{length-take}
 use native.Mathlib.Omega.{arith}
-use borrow.Author.Rules.{rules}
 use Rattle.lent.proofs.put_words.Goals as goal
 
 pub returns : goal.returns

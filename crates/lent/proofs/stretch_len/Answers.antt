@@ -1,6 +1,5 @@
 use Rattle.lent.proofs.Laws.{length_stretch}
 use mathlib.Core.Path.{sym, ◌∙◌}
-use borrow.Author.Rules.{rules}
 use Rattle.lent.proofs.stretch_len.Goals as goal
 
 pub returns : goal.returns

@@ -5,7 +5,6 @@ use Rattle.format.specs.Fields.{is_component}
 use Rattle.format.specs.Spec.{component_c}
 use Rattle.format.specs.Refusal.{over_component}
 use Rattle.says.proofs.Walk.{both, only, says_at}
-use borrow.Author.Rules.{rules}
 use Rattle.limits.proofs.component_over.Goals as goal
 
 pub returns : goal.returns

@@ -1,7 +1,6 @@
 use Rattle.format.specs.Fields.{is_control}
 use Rattle.format.specs.Refusal.{over_control}
 use Rattle.says.proofs.Walk.{both, only, says_at}
-use borrow.Author.Rules.{rules}
 use Rattle.limits.proofs.control_over.Goals as goal
 
 pub returns : goal.returns

@@ -1,7 +1,6 @@
 use mathlib.Core.Path.{refl}
 use Rattle.format.specs.Refusal.{over_data}
 use Rattle.says.proofs.Walk.{both, more_than}
-use borrow.Author.Rules.{rules}
 use Rattle.limits.proofs.data_over.Goals as goal
 
 pub returns : goal.returns

@@ -8,7 +8,6 @@ use Rattle.format.specs.Spec.{element_c}
 use Rattle.format.specs.Refusal.{over_element}
 use Rattle.says.proofs.Walk.{both, only, says_at}
 use Rattle.says.proofs.Pass.{passes_at, skip_num_map_list}
-use borrow.Author.Rules.{rules}
 use Rattle.limits.proofs.element_over.Goals as goal
 
 pub returns : goal.returns

@@ -3,7 +3,6 @@ use Rattle.format.specs.Fields.{is_element_plan}
 use Rattle.format.specs.Plan.{element_plan_c}
 use Rattle.format.specs.Refusal.{over_element_plan}
 use Rattle.says.proofs.Walk.{both, only, says_at}
-use borrow.Author.Rules.{rules}
 use Rattle.limits.proofs.element_plan_over.Goals as goal
 
 pub returns : goal.returns

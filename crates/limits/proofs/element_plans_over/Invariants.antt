@@ -1,7 +1,6 @@
 use Rattle.format.specs.Plan.{element_plan_c}
 use Rattle.format.specs.Refusal.{over_element_plan}
-use Rattle.says.proofs.Pass.{Going, pass_start, pass_again, pass_found, pass_none}
-use borrow.Author.Rules.{rules}
+use Rattle.says.proofs.Pass.{Going}
 use Rattle.limits.proofs.element_plans_over.Given as goal
 
 abbrev pub invariant-loop-left : goal.invariant-loop-left

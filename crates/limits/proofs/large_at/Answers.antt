@@ -1,7 +1,6 @@
 use mathlib.Core.Path.{refl}
 use Rattle.format.specs.Refusal.{large}
 use Rattle.says.proofs.Walk.{more_num}
-use borrow.Author.Rules.{rules}
 use Rattle.limits.proofs.large_at.Goals as goal
 
 pub returns : goal.returns

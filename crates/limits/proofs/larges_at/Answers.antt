@@ -1,7 +1,4 @@
-use Rattle.codec.specs.Forms.{num_c}
-use Rattle.format.specs.Refusal.{large}
-use Rattle.says.proofs.Walk.{NoneYet, some_start, some_again, some_found, some_none}
-use borrow.Author.Rules.{rules}
+use Rattle.says.proofs.Walk.{some_start, some_again, some_found, some_none}
 use Rattle.limits.proofs.larges_at.Goals as goal
 
 pub loop-left-init : goal.loop-left-init

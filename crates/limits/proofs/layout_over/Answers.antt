@@ -1,6 +1,5 @@
 use Rattle.format.specs.Fields.{is_layout}
 use Rattle.says.proofs.Walk.{says_at}
-use borrow.Author.Rules.{rules}
 use Rattle.limits.proofs.layout_over.Goals as goal
 
 pub returns : goal.returns

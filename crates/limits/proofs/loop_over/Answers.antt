@@ -4,7 +4,6 @@ use Rattle.format.specs.Fields.{is_loop}
 use Rattle.format.specs.Spec.{loop_c}
 use Rattle.format.specs.Refusal.{over_loop}
 use Rattle.says.proofs.Walk.{both, only, more_than, says_at}
-use borrow.Author.Rules.{rules}
 use Rattle.limits.proofs.loop_over.Goals as goal
 
 pub returns : goal.returns

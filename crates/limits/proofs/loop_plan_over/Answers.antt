@@ -6,7 +6,6 @@ use Rattle.format.specs.Plan.{loop_plan_c}
 use Rattle.format.specs.Refusal.{over_loop_plan}
 use Rattle.says.proofs.Walk.{both, only, more_than}
 use Rattle.says.proofs.Pass.{passes_at}
-use borrow.Author.Rules.{rules}
 use Rattle.limits.proofs.loop_plan_over.Goals as goal
 
 pub returns : goal.returns

@@ -5,7 +5,6 @@ use Rattle.format.specs.Decoding.{read_job, sound_of}
 use Rattle.format.specs.Refusal.{over}
 use Rattle.says.proofs.Walk.{both, only, section_says}
 use Rattle.says.proofs.Pass.{section_is}
-use borrow.Author.Rules.{rules}
 use Rattle.limits.proofs.over_at.Goals as goal
 
 pub spec_over-x-requires : goal.spec_over-x-requires

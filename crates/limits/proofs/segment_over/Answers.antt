@@ -4,7 +4,6 @@ use Rattle.codec.specs.Maps.{is_num_map}
 use Rattle.codec.specs.Field.{is_pair}
 use Rattle.format.specs.Refusal.{over_segment}
 use Rattle.says.proofs.Pass.{passes_at, skip_num_map_list}
-use borrow.Author.Rules.{rules}
 use Rattle.limits.proofs.segment_over.Goals as goal
 
 pub returns : goal.returns

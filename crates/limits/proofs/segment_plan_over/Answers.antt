@@ -3,7 +3,6 @@ use Rattle.format.specs.Fields.{is_segment_plan}
 use Rattle.format.specs.Plan.{segment_plan_c}
 use Rattle.format.specs.Refusal.{over_segment_plan}
 use Rattle.says.proofs.Pass.{passes_at}
-use borrow.Author.Rules.{rules}
 use Rattle.limits.proofs.segment_plan_over.Goals as goal
 
 pub returns : goal.returns

@@ -1,5 +1,4 @@
 use Rattle.limits.proofs.Whole.{spec_told}
-use borrow.Author.Rules.{rules}
 use Rattle.limits.proofs.spec_over.Goals as goal
 
 pub returns : goal.returns

@@ -1,7 +1,6 @@
 use Rattle.format.specs.Fields.{is_repeat}
 use Rattle.format.specs.Refusal.{over_step}
 use Rattle.says.proofs.Walk.{says_at}
-use borrow.Author.Rules.{rules}
 use Rattle.limits.proofs.step_over.Goals as goal
 
 pub returns : goal.returns

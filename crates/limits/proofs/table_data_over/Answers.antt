@@ -3,7 +3,6 @@ use Rattle.format.specs.Fields.{is_table_data_lem}
 use Rattle.format.specs.Data.{table_data_c}
 use Rattle.format.specs.Refusal.{over_table_data}
 use Rattle.says.proofs.Walk.{more_than}
-use borrow.Author.Rules.{rules}
 use Rattle.limits.proofs.table_data_over.Goals as goal
 
 pub returns : goal.returns

@@ -1,7 +1,5 @@
-use Rattle.limits.proofs.Rows.{Summed, sum_start, sum_again, sum_found, sum_over, sum_none}
-use Prim.Native.Nat.{◌≤◌}
+use Rattle.limits.proofs.Rows.{sum_start, sum_again, sum_found, sum_over, sum_none}
 use native.Mathlib.Omega.{arith}
-use borrow.Author.Rules.{rules}
 use Rattle.limits.proofs.table_datas_over.Goals as goal
 
 pub loop-left-init : goal.loop-left-init

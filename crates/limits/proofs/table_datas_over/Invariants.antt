@@ -1,7 +1,5 @@
-use Rattle.limits.proofs.Rows.{Summed, sum_start, sum_again, sum_found, sum_over, sum_none}
+use Rattle.limits.proofs.Rows.{Summed}
 use Prim.Native.Nat.{◌≤◌}
-use native.Mathlib.Omega.{arith}
-use borrow.Author.Rules.{rules}
 use Rattle.limits.proofs.table_datas_over.Given as goal
 
 abbrev pub invariant-loop-left : goal.invariant-loop-left

@@ -4,7 +4,6 @@ use Rattle.format.specs.Fields.{is_table}
 use Rattle.format.specs.Spec.{table_c}
 use Rattle.format.specs.Refusal.{over_table}
 use Rattle.says.proofs.Walk.{both, only, more_num, says_at}
-use borrow.Author.Rules.{rules}
 use Rattle.limits.proofs.table_over.Goals as goal
 
 pub returns : goal.returns

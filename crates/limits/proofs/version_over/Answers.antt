@@ -1,7 +1,6 @@
 use Rattle.format.specs.Fields.{is_version}
 use Rattle.format.specs.Refusal.{over_version}
 use Rattle.says.proofs.Walk.{says_at}
-use borrow.Author.Rules.{rules}
 use Rattle.limits.proofs.version_over.Goals as goal
 
 pub returns : goal.returns

@@ -1,6 +1,5 @@
 use Rattle.format.specs.Decoding.{sound_of}
 use native.Mathlib.Omega.{arith}
-use borrow.Author.Rules.{rules}
 use Rattle.says.proofs.start.Goals as goal
 
 pub overflow_sub-t : goal.overflow_sub-t

@@ -1,6 +1,5 @@
 use Rattle.format.specs.Decoding.{sound_of}
 use native.Mathlib.Omega.{arith}
-use borrow.Author.Rules.{rules}
 use Rattle.says.proofs.trailer.Goals as goal
 
 pub overflow_sub-result : goal.overflow_sub-result

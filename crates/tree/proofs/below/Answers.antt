@@ -1,5 +1,4 @@
 use Rattle.tree.proofs.Places.{placed_below}
-use borrow.Author.Rules.{rules}
 use Rattle.tree.proofs.below.Goals as goal
 
 pub returns-then-i-places : goal.returns-then-i-places

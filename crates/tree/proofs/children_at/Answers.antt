@@ -1,5 +1,4 @@
 use Rattle.format.specs.Ends.{skip_usage}
-use borrow.Author.Rules.{rules}
 use Rattle.tree.proofs.children_at.Goals as goal
 
 pub returns : goal.returns

@@ -1,9 +1,8 @@
-use Prim.Native.Nat.{◌+◌, ◌-◌}
-use mathlib.Core.Path.{◌≡◌, refl, ◌∙◌}
+use Prim.Native.Nat.{◌+◌}
+use mathlib.Core.Path.{refl, ◌∙◌}
 use native.Mathlib.Omega.{arith}
-use lib.ListN.{length, length-set, set}
-use Rattle.tree.proofs.Places.{Filling, filling_start, filling_again, filling_full, filling_done}
-use borrow.Author.Rules.{rules}
+use lib.ListN.{length-set, set}
+use Rattle.tree.proofs.Places.{filling_start, filling_again, filling_full, filling_done}
 use Rattle.tree.proofs.fill_places.Goals as goal
 
 pub loop-k-init : goal.loop-k-init

@@ -1,9 +1,7 @@
-use Prim.Native.Nat.{◌+◌, ◌-◌}
-use mathlib.Core.Path.{◌≡◌, refl, ◌∙◌}
-use native.Mathlib.Omega.{arith}
-use lib.ListN.{length, length-set, set}
-use Rattle.tree.proofs.Places.{Filling, filling_start, filling_again, filling_full, filling_done}
-use borrow.Author.Rules.{rules}
+use Prim.Native.Nat.{◌-◌}
+use mathlib.Core.Path.{◌≡◌}
+use lib.ListN.{length}
+use Rattle.tree.proofs.Places.{Filling}
 use Rattle.tree.proofs.fill_places.Given as goal
 
 abbrev pub invariant-loop-k : goal.invariant-loop-k

@@ -4,7 +4,6 @@ use Rattle.format.specs.Words.{present}
 use Rattle.format.specs.Spec.{Loop}
 use Rattle.tree.proofs.Tree.{loop_says, past_says}
 use Rattle.says.proofs.Walk.{present_says}
-use borrow.Author.Rules.{rules}
 use Rattle.tree.proofs.has_parent.Goals as goal
 
 pub returns-then-n-c : goal.returns-then-n-c

@@ -2,7 +2,6 @@ use mathlib.Core.Path.{refl}
 use Rattle.format.specs.Words.{member_of}
 use Rattle.format.specs.Spec.{Loop}
 use Rattle.tree.proofs.Tree.{below_says, past_says}
-use borrow.Author.Rules.{rules}
 use Rattle.tree.proofs.is_child.Goals as goal
 
 pub returns-then-n-c : goal.returns-then-n-c

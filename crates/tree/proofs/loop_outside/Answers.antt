@@ -4,7 +4,6 @@ use Rattle.format.specs.Fields.{is_loop}
 use Rattle.format.specs.Spec.{loop_c}
 use Rattle.format.specs.Refusal.{outside_loop}
 use Rattle.says.proofs.Walk.{both, only, says_at}
-use borrow.Author.Rules.{rules}
 use Rattle.tree.proofs.loop_outside.Goals as goal
 
 pub returns : goal.returns

@@ -1,8 +1,4 @@
-use Rattle.codec.specs.Codec.{le_c}
-use Rattle.codec.specs.Skip.{skip, list_again, list_done, steps}
-use Rattle.format.specs.Spec.{loop_c}
-use mathlib.Core.Path.{◌≡◌}
-use borrow.Author.Rules.{rules}
+use Rattle.codec.specs.Skip.{list_again, list_done}
 use Rattle.tree.proofs.loop_place.Goals as goal
 
 pub loop-left-init : goal.loop-left-init

@@ -1,8 +1,7 @@
 use Rattle.codec.specs.Codec.{le_c}
-use Rattle.codec.specs.Skip.{skip, list_again, list_done, steps}
+use Rattle.codec.specs.Skip.{skip, steps}
 use Rattle.format.specs.Spec.{loop_c}
 use mathlib.Core.Path.{◌≡◌}
-use borrow.Author.Rules.{rules}
 use Rattle.tree.proofs.loop_place.Given as goal
 
 abbrev pub invariant-loop-left : goal.invariant-loop-left

@@ -1,9 +1,6 @@
-use Rattle.codec.specs.Forms.{num_c}
-use Rattle.says.proofs.Walk.{NoneYet, some_start, some_again, some_found, some_none}
-use lib.Dec.{eqb}
+use Rattle.says.proofs.Walk.{some_start, some_again, some_found, some_none}
 use Rattle.says.proofs.Walk.{says_as}
 use Rattle.tree.proofs.Tree.{member_any}
-use borrow.Author.Rules.{rules}
 use Rattle.tree.proofs.member_at.Goals as goal
 
 pub loop-left-init : goal.loop-left-init

@@ -1,8 +1,5 @@
-use Rattle.codec.specs.Forms.{num_c}
-use Rattle.format.specs.Words.{member_of}
-use Rattle.says.proofs.Behind.{Still, still_start, still_again, still_found, still_none}
+use Rattle.says.proofs.Behind.{still_start, still_again, still_found, still_none}
 use Rattle.tree.proofs.Tree.{member_step, member_nil}
-use borrow.Author.Rules.{rules}
 use Rattle.tree.proofs.member_behind.Goals as goal
 
 pub loop-left-init : goal.loop-left-init

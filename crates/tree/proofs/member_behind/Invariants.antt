@@ -1,8 +1,6 @@
 use Rattle.codec.specs.Forms.{num_c}
 use Rattle.format.specs.Words.{member_of}
-use Rattle.says.proofs.Behind.{Still, still_start, still_again, still_found, still_none}
-use Rattle.tree.proofs.Tree.{member_step, member_nil}
-use borrow.Author.Rules.{rules}
+use Rattle.says.proofs.Behind.{Still}
 use Rattle.tree.proofs.member_behind.Given as goal
 
 abbrev pub invariant-loop-left : goal.invariant-loop-left

@@ -1,9 +1,5 @@
-use Prim.Native.Nat.{◌-◌}
-use mathlib.Core.Path.{◌≡◌, refl}
-use lib.ListN.{drop, take}
-use Rattle.format.specs.Words.{member_of}
+use mathlib.Core.Path.{refl}
 use Rattle.tree.proofs.Names.{behind_hit, behind_miss, behind_end}
-use borrow.Author.Rules.{rules}
 use Rattle.tree.proofs.name_behind.Goals as goal
 
 pub loop-j-init : goal.loop-j-init

@@ -1,9 +1,7 @@
 use Prim.Native.Nat.{◌-◌}
-use mathlib.Core.Path.{◌≡◌, refl}
+use mathlib.Core.Path.{◌≡◌}
 use lib.ListN.{drop, take}
 use Rattle.format.specs.Words.{member_of}
-use Rattle.tree.proofs.Names.{behind_hit, behind_miss, behind_end}
-use borrow.Author.Rules.{rules}
 use Rattle.tree.proofs.name_behind.Given as goal
 
 abbrev pub invariant-loop-j : goal.invariant-loop-j

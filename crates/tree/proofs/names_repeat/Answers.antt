@@ -1,9 +1,5 @@
-use Prim.Native.Nat.{◌-◌}
-use mathlib.Core.Path.{◌≡◌, refl}
-use lib.ListN.{drop, take}
-use Rattle.format.specs.Words.{repeats}
+use mathlib.Core.Path.{refl}
 use Rattle.tree.proofs.Names.{repeat_hit, repeat_miss, repeat_end}
-use borrow.Author.Rules.{rules}
 use Rattle.tree.proofs.names_repeat.Goals as goal
 
 pub loop-i-init : goal.loop-i-init

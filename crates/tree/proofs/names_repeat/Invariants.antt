@@ -1,9 +1,7 @@
 use Prim.Native.Nat.{◌-◌}
-use mathlib.Core.Path.{◌≡◌, refl}
+use mathlib.Core.Path.{◌≡◌}
 use lib.ListN.{drop, take}
 use Rattle.format.specs.Words.{repeats}
-use Rattle.tree.proofs.Names.{repeat_hit, repeat_miss, repeat_end}
-use borrow.Author.Rules.{rules}
 use Rattle.tree.proofs.names_repeat.Given as goal
 
 abbrev pub invariant-loop-i : goal.invariant-loop-i

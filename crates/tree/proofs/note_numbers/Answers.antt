@@ -1,10 +1,7 @@
-use Prim.Native.Nat.{◌≤◌}
-use mathlib.Core.Path.{◌≡◌, refl, ◌∙◌}
+use mathlib.Core.Path.{refl, ◌∙◌}
 use native.Mathlib.Omega.{arith}
-use lib.ListN.{length, length-set}
-use Rattle.codec.specs.Forms.{num_c}
-use Rattle.tree.proofs.Names.{Noting, number_there, name_in, noting_start, noting_again, noting_full, noting_done}
-use borrow.Author.Rules.{rules}
+use lib.ListN.{length-set}
+use Rattle.tree.proofs.Names.{number_there, name_in, noting_start, noting_again, noting_full, noting_done}
 use Rattle.tree.proofs.note_numbers.Goals as goal
 
 pub loop-left-init : goal.loop-left-init

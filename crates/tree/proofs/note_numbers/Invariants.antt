@@ -1,10 +1,8 @@
 use Prim.Native.Nat.{◌≤◌}
-use mathlib.Core.Path.{◌≡◌, refl, ◌∙◌}
-use native.Mathlib.Omega.{arith}
-use lib.ListN.{length, length-set}
+use mathlib.Core.Path.{◌≡◌}
+use lib.ListN.{length}
 use Rattle.codec.specs.Forms.{num_c}
-use Rattle.tree.proofs.Names.{Noting, number_there, name_in, noting_start, noting_again, noting_full, noting_done}
-use borrow.Author.Rules.{rules}
+use Rattle.tree.proofs.Names.{Noting}
 use Rattle.tree.proofs.note_numbers.Given as goal
 
 abbrev pub invariant-loop-left : goal.invariant-loop-left

@@ -1,10 +1,7 @@
-use Rattle.format.specs.Layout.{item_c}
-use Rattle.format.specs.Refusal.{outside, outside_order}
-use Rattle.says.proofs.Walk.{NoneYet, some_start, some_again, some_found, some_none}
-use Rattle.tree.specs.Parts.{on_loop}
+use Rattle.format.specs.Refusal.{outside_order}
+use Rattle.says.proofs.Walk.{some_start, some_again, some_found, some_none}
 use Rattle.says.proofs.Walk.{says_as}
 use Rattle.tree.proofs.Tree.{loops_any}
-use borrow.Author.Rules.{rules}
 use Rattle.tree.proofs.order_outside.Goals as goal
 
 pub loop-left-init : goal.loop-left-init

@@ -1,8 +1,7 @@
 use Rattle.codec.specs.Codec.{list_c}
 use Rattle.format.specs.Layout.{item_c}
 use Rattle.format.specs.Refusal.{outside_order}
-use Rattle.says.proofs.Walk.{NoneYet, some_start, some_again, some_found, some_none}
-use borrow.Author.Rules.{rules}
+use Rattle.says.proofs.Walk.{NoneYet}
 use Rattle.tree.proofs.orders_outside.Given as goal
 
 abbrev pub invariant-loop-left : goal.invariant-loop-left

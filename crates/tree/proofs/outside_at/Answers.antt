@@ -1,5 +1,4 @@
 use Rattle.tree.proofs.Tree.{outside_says}
-use borrow.Author.Rules.{rules}
 use Rattle.tree.proofs.outside_at.Goals as goal
 
 pub returns : goal.returns

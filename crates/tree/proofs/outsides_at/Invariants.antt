@@ -1,7 +1,6 @@
 use Rattle.codec.specs.Forms.{num_c}
 use Rattle.format.specs.Refusal.{outside}
-use Rattle.says.proofs.Walk.{NoneYet, some_start, some_again, some_found, some_none}
-use borrow.Author.Rules.{rules}
+use Rattle.says.proofs.Walk.{NoneYet}
 use Rattle.tree.proofs.outsides_at.Given as goal
 
 abbrev pub invariant-loop-left : goal.invariant-loop-left

@@ -4,7 +4,6 @@ use Rattle.format.specs.Words.{if_some}
 use Rattle.format.specs.Spec.{Loop}
 use Rattle.tree.proofs.Tree.{loop_says, past_says}
 use lib.Dec.{eqb}
-use borrow.Author.Rules.{rules}
 use Rattle.tree.proofs.parent_is.Goals as goal
 
 pub returns-then-n-c : goal.returns-then-n-c

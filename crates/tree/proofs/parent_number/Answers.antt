@@ -1,5 +1,4 @@
 use Rattle.tree.proofs.Tree.{parent_held}
-use borrow.Author.Rules.{rules}
 use Rattle.tree.proofs.parent_number.Goals as goal
 
 pub returns : goal.returns

@@ -1,5 +1,4 @@
 use Rattle.tree.proofs.Places.{placed_at}
-use borrow.Author.Rules.{rules}
 use Rattle.tree.proofs.place_of.Goals as goal
 
 pub returns-then-i-places : goal.returns-then-i-places

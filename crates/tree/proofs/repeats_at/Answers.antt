@@ -1,7 +1,6 @@
 use native.Mathlib.Omega.{arith}
 use Rattle.codec.specs.Forms.{num_c}
 use Rattle.tree.proofs.Names.{few_numbers, few_once, noted_once, noted_twice}
-use borrow.Author.Rules.{rules}
 use Rattle.tree.proofs.repeats_at.Goals as goal
 
 pub returns-then-count_at-lt2 : goal.returns-then-count_at-lt2

@@ -1,5 +1,4 @@
 use Rattle.tree.proofs.Tree.{same_says}
-use borrow.Author.Rules.{rules}
 use Rattle.tree.proofs.same_at.Goals as goal
 
 pub returns : goal.returns

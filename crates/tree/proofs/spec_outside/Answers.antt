@@ -1,4 +1,4 @@
-use mathlib.Core.Path.{refl, ap, ◌∙◌}
+use mathlib.Core.Path.{ap, ◌∙◌}
 use Rattle.codec.specs.Limits.{any_of}
 use Rattle.format.specs.Fields.{is_spec}
 use Rattle.format.specs.Refusal.{outside, outside_loop, outside_table}
@@ -6,7 +6,6 @@ use Rattle.says.proofs.Walk.{both, only, says_at}
 use Rattle.tree.specs.Parts.{outside_spec}
 use Rattle.says.proofs.Walk.{count_length}
 use Prim.Native.Nat.{ℕ}
-use borrow.Author.Rules.{rules}
 use Rattle.tree.proofs.spec_outside.Goals as goal
 
 pub returns : goal.returns

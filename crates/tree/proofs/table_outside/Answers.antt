@@ -2,7 +2,6 @@ use mathlib.Core.Path.{refl}
 use Rattle.format.specs.Fields.{is_table}
 use Rattle.format.specs.Refusal.{outside_table}
 use Rattle.says.proofs.Walk.{says_at}
-use borrow.Author.Rules.{rules}
 use Rattle.tree.proofs.table_outside.Goals as goal
 
 pub returns : goal.returns

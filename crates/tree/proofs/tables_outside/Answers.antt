@@ -1,7 +1,4 @@
-use Rattle.format.specs.Spec.{table_c}
-use Rattle.format.specs.Refusal.{outside_table}
-use Rattle.says.proofs.Walk.{NoneYet, some_start, some_again, some_found, some_none}
-use borrow.Author.Rules.{rules}
+use Rattle.says.proofs.Walk.{some_start, some_again, some_found, some_none}
 use Rattle.tree.proofs.tables_outside.Goals as goal
 
 pub loop-left-init : goal.loop-left-init

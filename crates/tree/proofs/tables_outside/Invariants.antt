@@ -1,7 +1,6 @@
 use Rattle.format.specs.Spec.{table_c}
 use Rattle.format.specs.Refusal.{outside_table}
-use Rattle.says.proofs.Walk.{NoneYet, some_start, some_again, some_found, some_none}
-use borrow.Author.Rules.{rules}
+use Rattle.says.proofs.Walk.{NoneYet}
 use Rattle.tree.proofs.tables_outside.Given as goal
 
 abbrev pub invariant-loop-left : goal.invariant-loop-left

@@ -1,7 +1,6 @@
 use Rattle.column.proofs.Bits.{bit_outside}
 use native.Mathlib.Omega.{arith}
 use mathlib.Core.Path.{refl}
-use borrow.Author.Rules.{rules}
 use Rattle.column.proofs.bitmap.bit_at.Goals as goal
 
 pub returns-then-job-at : goal.returns-then-job-at

@@ -2,7 +2,6 @@ use Rattle.column.proofs.Bits.{bit_outside, bit_past, bit_short, bit_is_lem}
 use Prim.Native.Nat.{◌+◌, ◌/◌}
 use native.Mathlib.Omega.{arith}
 use mathlib.Core.Path.{refl, sym, ◌∙◌}
-use borrow.Author.Rules.{rules}
 use Rattle.column.proofs.bitmap.bit_in.Goals as goal
 
 pub returns-then-room-n : goal.returns-then-room-n

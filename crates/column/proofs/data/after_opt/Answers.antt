@@ -1,7 +1,6 @@
 use Rattle.column.proofs.Columns.{opt_end_absent, opt_end_there}
 use native.Mathlib.Omega.{arith}
 use mathlib.Core.Path.{sym, ◌∙◌}
-use borrow.Author.Rules.{rules}
 use Rattle.column.proofs.data.after_opt.Goals as goal
 
 pub returns-then-there-eq0 : goal.returns-then-there-eq0

@@ -1,5 +1,4 @@
 use Rattle.column.specs.Cell.{cell_in}
-use borrow.Author.Rules.{rules}
 use Rattle.column.proofs.data.cell.Goals as goal
 
 pub returns : goal.returns

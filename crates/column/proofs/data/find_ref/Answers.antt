@@ -1,14 +1,5 @@
-use Rattle.column.proofs.Refs.{Rest, rest_start, rest_broken, rest_found, rest_next, rest_done}
-use Rattle.column.specs.Parts.{refs_c}
-use Rattle.column.specs.Cell.{ref_column}
-use Rattle.format.specs.Data.{Column}
-use Rattle.codec.specs.Skip.{Is}
-use lib.ListN.{length}
-use mathlib.Core.Option.{Option}
-use mathlib.Core.List.{List}
-use Prim.Native.Nat.{ℕ, ◌≤◌, ◌<◌}
+use Rattle.column.proofs.Refs.{rest_start, rest_broken, rest_found, rest_next, rest_done}
 use native.Mathlib.Omega.{arith}
-use borrow.Author.Rules.{rules}
 use Rattle.column.proofs.data.find_ref.Goals as goal
 
 pub loop-left-init : goal.loop-left-init

@@ -1,4 +1,4 @@
-use Rattle.column.proofs.Refs.{Rest, rest_start, rest_broken, rest_found, rest_next, rest_done}
+use Rattle.column.proofs.Refs.{Rest}
 use Rattle.column.specs.Parts.{refs_c}
 use Rattle.column.specs.Cell.{ref_column}
 use Rattle.format.specs.Data.{Column}
@@ -7,8 +7,6 @@ use lib.ListN.{length}
 use mathlib.Core.Option.{Option}
 use mathlib.Core.List.{List}
 use Prim.Native.Nat.{ℕ, ◌≤◌, ◌<◌}
-use native.Mathlib.Omega.{arith}
-use borrow.Author.Rules.{rules}
 use Rattle.column.proofs.data.find_ref.Given as goal
 
 abbrev pub invariant-loop-left : goal.invariant-loop-left

@@ -1,5 +1,4 @@
 use Rattle.column.specs.Answers.{cell_at}
-use borrow.Author.Rules.{rules}
 use Rattle.column.proofs.data.is_null.Goals as goal
 
 pub returns-in-None : goal.returns-in-None

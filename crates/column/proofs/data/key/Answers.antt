@@ -1,5 +1,4 @@
 use Rattle.column.proofs.Refs.{key_is, key_else}
-use borrow.Author.Rules.{rules}
 use Rattle.column.proofs.data.key.Goals as goal
 
 pub returns-in-Number : goal.returns-in-Number

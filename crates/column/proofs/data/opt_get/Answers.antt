@@ -1,6 +1,5 @@
 use Rattle.column.proofs.Columns.{opt_short, opt_zero, opt_absent, opt_there}
 use mathlib.Core.Path.{sym, ◌∙◌}
-use borrow.Author.Rules.{rules}
 use Rattle.column.proofs.data.opt_get.Goals as goal
 
 pub returns-then-job-at : goal.returns-then-job-at

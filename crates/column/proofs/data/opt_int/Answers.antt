@@ -2,7 +2,6 @@ use Rattle.column.proofs.Columns.{opt_short, opt_zero, opt_there, int_absent, in
 use Rattle.column.specs.Cell.{int64_of}
 use native.Mathlib.Omega.{arith}
 use mathlib.Core.Path.{sym, ap, ◌∙◌}
-use borrow.Author.Rules.{rules}
 use Rattle.column.proofs.data.opt_int.Goals as goal
 
 pub returns-then-job-at : goal.returns-then-job-at

@@ -1,7 +1,6 @@
 use mathlib.Core.Path.{ap}
 use Rattle.column.proofs.Read.{null_for_none, kept}
 use Rattle.column.specs.Answers.{cell_at}
-use borrow.Author.Rules.{rules}
 use Rattle.column.proofs.data.or_null.Goals as goal
 
 pub returns-in-None : goal.returns-in-None

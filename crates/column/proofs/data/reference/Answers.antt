@@ -1,5 +1,4 @@
 use Rattle.column.proofs.Refs.{reference_is, reference_none}
-use borrow.Author.Rules.{rules}
 use Rattle.column.proofs.data.reference.Goals as goal
 
 pub opt_int-requires : goal.opt_int-requires

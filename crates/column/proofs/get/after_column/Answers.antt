@@ -1,6 +1,5 @@
 use Rattle.column.proofs.Columns.{column_end}
 use native.Mathlib.Omega.{arith}
-use borrow.Author.Rules.{rules}
 use Rattle.column.proofs.get.after_column.Goals as goal
 
 pub returns : goal.returns

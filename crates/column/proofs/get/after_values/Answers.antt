@@ -1,7 +1,6 @@
 use Rattle.column.proofs.Values.{ends_at, ends_plain}
 use native.Mathlib.Omega.{arith}
 use mathlib.Core.Path.{refl, sym, ◌∙◌}
-use borrow.Author.Rules.{rules}
 use Rattle.column.proofs.get.after_values.Goals as goal
 
 pub returns-then-kind-eq0 : goal.returns-then-kind-eq0

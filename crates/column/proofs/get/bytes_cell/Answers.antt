@@ -3,7 +3,6 @@ use Rattle.column.proofs.Lists.{offsets_past, offsets_are}
 use Rattle.codec.specs.Codec.{le}
 use native.Mathlib.Omega.{arith}
 use mathlib.Core.Path.{refl, ap, ◌∙◌}
-use borrow.Author.Rules.{rules}
 use Rattle.column.proofs.get.bytes_cell.Goals as goal
 
 pub returns-then-job-data : goal.returns-then-job-data

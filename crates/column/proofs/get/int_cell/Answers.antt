@@ -3,7 +3,6 @@ use Rattle.column.proofs.Lists.{held_past, held_is}
 use Rattle.column.proofs.Read.{reads_none, reads_int}
 use Rattle.column.specs.Cell.{Cell}
 use mathlib.Core.Path.{refl}
-use borrow.Author.Rules.{rules}
 use Rattle.column.proofs.get.int_cell.Goals as goal
 
 pub returns-then-n-row : goal.returns-then-n-row

@@ -5,7 +5,6 @@ use Rattle.column.proofs.Values.{ends_plain, short_reader}
 use Rattle.column.specs.Cell.{Cell}
 use native.Mathlib.Omega.{arith}
 use mathlib.Core.Path.{refl}
-use borrow.Author.Rules.{rules}
 use Rattle.column.proofs.get.short_cell.Goals as goal
 
 pub returns-then-n-row : goal.returns-then-n-row

@@ -1,5 +1,4 @@
 use Rattle.column.proofs.Lists.{to_negative, falling, passing, stretch_is}
-use borrow.Author.Rules.{rules}
 use Rattle.column.proofs.get.stretch.Goals as goal
 
 pub returns-then-to-ge2147483648 : goal.returns-then-to-ge2147483648

@@ -1,7 +1,6 @@
 use Rattle.column.proofs.Columns.{get_missing, get_unset, get_set}
 use Rattle.column.proofs.Lists.{wide_past, wide_is}
 use mathlib.Core.Path.{refl}
-use borrow.Author.Rules.{rules}
 use Rattle.column.proofs.get.wide_cell.Goals as goal
 
 pub returns-then-n-row : goal.returns-then-n-row

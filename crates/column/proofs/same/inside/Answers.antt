@@ -3,7 +3,6 @@ use Prim.Native.Nat.{◌+◌}
 use borrow.Author.Tests.{le-leb, lt-leb}
 use native.Mathlib.Omega.{arith}
 use mathlib.Core.Path.{sym}
-use borrow.Author.Rules.{rules}
 use Rattle.column.proofs.same.inside.Goals as goal
 
 pub returns-then-job-s : goal.returns-then-job-s

@@ -1,7 +1,6 @@
 use Rattle.column.proofs.Equal.{of_answers}
 use Rattle.column.proofs.Read.{within_bytes}
 use Rattle.column.specs.Answers.{cell_at}
-use borrow.Author.Rules.{rules}
 use Rattle.column.proofs.same.same.Goals as goal
 
 pub returns-in-None : goal.returns-in-None

@@ -1,10 +1,7 @@
-use Rattle.column.proofs.Equal.{sizes_differ, bytes_again, bytes_differ, bytes_equal}
 use Rattle.column.specs.Cell.{same_bytes}
 use lib.ListN.{length, take, drop}
 use Prim.Native.Nat.{◌+◌, ◌≤◌}
-use native.Mathlib.Omega.{arith}
 use mathlib.Core.Path.{◌≡◌}
-use borrow.Author.Rules.{rules}
 use Rattle.column.proofs.same.same_bytes.Given as goal
 
 abbrev pub invariant-loop-left : goal.invariant-loop-left

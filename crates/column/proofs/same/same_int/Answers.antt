@@ -1,6 +1,4 @@
 use Rattle.column.proofs.Equal.{other_kind, int_equal}
-use mathlib.Core.Path.{refl}
-use borrow.Author.Rules.{rules}
 use Rattle.column.proofs.same.same_int.Goals as goal
 
 pub returns-in_default : goal.returns-in_default

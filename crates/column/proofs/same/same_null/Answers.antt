@@ -1,8 +1,6 @@
 use Rattle.column.proofs.Equal.{other_kind}
 use Rattle.column.specs.Cell.{same_answer, same_cell, same_bytes}
 use Rattle.column.specs.Answers.{cell_at}
-use mathlib.Core.Path.{refl}
-use borrow.Author.Rules.{rules}
 use Rattle.column.proofs.same.same_null.Goals as goal
 
 pub returns-in_default : goal.returns-in_default

@@ -1,8 +1,7 @@
 use Rattle.column.proofs.Equal.{other_kind, stretch_equal, outside}
 use Rattle.column.proofs.Read.{within_bytes}
 use borrow.Author.Tests.{leb-true}
-use mathlib.Core.Path.{refl, sym, ◌∙◌}
-use borrow.Author.Rules.{rules}
+use mathlib.Core.Path.{sym, ◌∙◌}
 use Rattle.column.proofs.same.same_stretch.Goals as goal
 
 pub returns-in_default : goal.returns-in_default

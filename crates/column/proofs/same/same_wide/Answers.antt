@@ -1,7 +1,5 @@
 use Rattle.column.proofs.Equal.{other_kind, low_differs, high_differs, scales}
 use native.Mathlib.Omega.{arith}
-use mathlib.Core.Path.{refl}
-use borrow.Author.Rules.{rules}
 use Rattle.column.proofs.same.same_wide.Goals as goal
 
 pub returns-in_default : goal.returns-in_default

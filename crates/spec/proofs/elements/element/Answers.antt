@@ -1,6 +1,5 @@
 use Rattle.format.specs.Fields.{is_element}
 use Rattle.spec.specs.Cursor.{first_number, first_element}
-use borrow.Author.Rules.{rules}
 use Rattle.spec.proofs.elements.element.Goals as goal
 
 pub returns : goal.returns

@@ -1,6 +1,5 @@
 use Rattle.spec.specs.Cursor.{entries_of}
 use mathlib.Core.Path.{refl}
-use borrow.Author.Rules.{rules}
 use Rattle.spec.proofs.elements.elements.Goals as goal
 
 pub returns : goal.returns

@@ -1,7 +1,6 @@
 use Rattle.spec.specs.Cursor.{codes_at, code_none, code_is}
 use Rattle.codec.specs.Field.{is_in}
 use native.Mathlib.Omega.{arith}
-use borrow.Author.Rules.{rules}
 use Rattle.spec.proofs.elements.first_code.Goals as goal
 
 pub returns-then-end-codes : goal.returns-then-end-codes

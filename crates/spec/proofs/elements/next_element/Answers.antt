@@ -3,7 +3,6 @@ use Rattle.codec.specs.Forms.{num_c}
 use Rattle.codec.specs.Skip.{skip_pair}
 use Rattle.spec.specs.Cursor.{entries_next}
 use mathlib.Core.Path.{refl}
-use borrow.Author.Rules.{rules}
 use Rattle.spec.proofs.elements.next_element.Goals as goal
 
 pub returns : goal.returns

@@ -1,5 +1,4 @@
 use Rattle.spec.specs.Cursor.{numeric_low, numeric_is, numeric_high}
-use borrow.Author.Rules.{rules}
 use Rattle.spec.proofs.elements.numeric_at.Goals as goal
 
 pub returns-then-t-lt2 : goal.returns-then-t-lt2

@@ -1,6 +1,5 @@
 use Rattle.codec.specs.Field.{is_at}
 use Rattle.spec.specs.Reads.{byte_reads}
-use borrow.Author.Rules.{rules}
 use Rattle.spec.proofs.envelope.component_separator.Goals as goal
 
 pub returns : goal.returns

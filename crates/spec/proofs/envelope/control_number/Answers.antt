@@ -1,6 +1,5 @@
 use Rattle.codec.specs.Field.{is_at, is_le}
 use mathlib.Core.Path.{sym, ◌∙◌}
-use borrow.Author.Rules.{rules}
 use Rattle.spec.proofs.envelope.control_number.Goals as goal
 
 pub returns : goal.returns

@@ -1,6 +1,5 @@
 use Rattle.codec.specs.Field.{is_at}
 use Rattle.spec.specs.Reads.{stands}
-use borrow.Author.Rules.{rules}
 use Rattle.spec.proofs.envelope.repetition.Goals as goal
 
 pub returns : goal.returns

@@ -1,6 +1,5 @@
 use Rattle.codec.specs.Field.{is_at}
 use Rattle.spec.specs.Reads.{stands, num_reads}
-use borrow.Author.Rules.{rules}
 use Rattle.spec.proofs.envelope.time.Goals as goal
 
 pub returns : goal.returns

@@ -1,14 +1,11 @@
 use Rattle.spec.specs.Kept.{stored_one}
-use Rattle.codec.specs.Skip.{skip, steps, skip_pair, list_start, list_again, list_done}
+use Rattle.codec.specs.Skip.{skip_pair, list_start, list_again, list_done}
 use Rattle.codec.specs.Forms.{bytes_c}
-use Rattle.codec.specs.Codec.{◌⊗◌, list_c}
-use Rattle.spec.specs.Rows.{entry_row, entry_rows}
+use Rattle.spec.specs.Rows.{entry_rows}
 use Rattle.format.specs.Spec.{segment_c}
-use Rattle.codec.specs.Rows.{rows, stored, rows_next, rows_done, rows_long}
-use Prim.Native.Nat.{◌+◌, ◌≤◌}
+use Rattle.codec.specs.Rows.{rows_next, rows_done, rows_long}
 use native.Mathlib.Omega.{arith}
-use mathlib.Core.Path.{◌≡◌, refl}
-use borrow.Author.Rules.{rules}
+use mathlib.Core.Path.{refl}
 use Rattle.spec.proofs.fill.entries_into.Goals as goal
 
 pub loop-left-init : goal.loop-left-init

@@ -1,7 +1,6 @@
 use Rattle.spec.specs.EnvelopeIndex.{envelope_stored}
 use Rattle.spec.specs.Kept.{stored_more}
 use mathlib.Core.Path.{refl}
-use borrow.Author.Rules.{rules}
 use Rattle.spec.proofs.fill.envelope_into.Goals as goal
 
 pub returns : goal.returns

@@ -1,5 +1,4 @@
 use Rattle.spec.specs.Filled.{filled}
-use borrow.Author.Rules.{rules}
 use Rattle.spec.proofs.fill.fill.Goals as goal
 
 pub returns : goal.returns

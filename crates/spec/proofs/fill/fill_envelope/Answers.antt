@@ -1,5 +1,4 @@
 use Rattle.spec.specs.EnvelopeIndex.{envelope_filled}
-use borrow.Author.Rules.{rules}
 use Rattle.spec.proofs.fill.fill_envelope.Goals as goal
 
 pub returns : goal.returns

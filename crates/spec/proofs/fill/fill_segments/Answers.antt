@@ -1,7 +1,6 @@
 use Rattle.spec.specs.Kept.{stored_one}
 use Rattle.spec.specs.Segments.{few_entries, entries_end, segments_filled}
 use native.Mathlib.Omega.{arith}
-use borrow.Author.Rules.{rules}
 use Rattle.spec.proofs.fill.fill_segments.Goals as goal
 
 pub entries_into-requires : goal.entries_into-requires

@@ -1,7 +1,6 @@
 use Rattle.spec.specs.Filling.{few_loops, few_at, fill_done}
 use Rattle.spec.specs.Filled.{spec_filled}
 use native.Mathlib.Omega.{arith}
-use borrow.Author.Rules.{rules}
 use Rattle.spec.proofs.fill.fill_spec.Goals as goal
 
 pub loops_into-roots-requires : goal.loops_into-roots-requires

@@ -3,7 +3,6 @@ use Rattle.format.specs.Ends.{skip_usage}
 use Rattle.codec.specs.Skip.{skip_map, skip_pair}
 use Rattle.spec.specs.Kept.{stored_more, stored_one}
 use mathlib.Core.Path.{refl, sym, ◌∙◌}
-use borrow.Author.Rules.{rules}
 use Rattle.spec.proofs.fill.loop_into.Goals as goal
 
 pub returns : goal.returns

@@ -1,12 +1,10 @@
 use Rattle.spec.specs.Rows.{loop_row, loop_rows}
 use Rattle.format.specs.Spec.{loop_c}
 use Rattle.codec.specs.Codec.{list_c}
-use Rattle.codec.specs.Skip.{skip, steps, list_start, list_again, list_done}
-use Rattle.codec.specs.Rows.{rows, stored, rows_next, rows_done, rows_long}
+use Rattle.codec.specs.Skip.{skip, steps}
+use Rattle.codec.specs.Rows.{rows, stored}
 use Prim.Native.Nat.{◌+◌, ◌*◌, ◌≤◌}
-use native.Mathlib.Omega.{arith}
-use mathlib.Core.Path.{◌≡◌, refl}
-use borrow.Author.Rules.{rules}
+use mathlib.Core.Path.{◌≡◌}
 use Rattle.spec.proofs.fill.loops_into.Given as goal
 
 abbrev pub invariant-loop-left : goal.invariant-loop-left

@@ -1,6 +1,5 @@
 use Rattle.spec.specs.Kept.{stored_more}
 use mathlib.Core.Path.{refl}
-use borrow.Author.Rules.{rules}
 use Rattle.spec.proofs.fill.put6.Goals as goal
 
 pub returns : goal.returns

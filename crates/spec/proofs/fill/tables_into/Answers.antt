@@ -1,12 +1,8 @@
-use Rattle.spec.specs.Rows.{table_row, table_rows}
-use Rattle.format.specs.Spec.{table_c}
-use Rattle.codec.specs.Codec.{list_c}
-use Rattle.codec.specs.Skip.{skip, steps, list_start, list_again, list_done}
-use Rattle.codec.specs.Rows.{rows, stored, rows_next, rows_done, rows_long}
-use Prim.Native.Nat.{◌+◌, ◌*◌, ◌≤◌}
+use Rattle.spec.specs.Rows.{table_rows}
+use Rattle.codec.specs.Skip.{list_start, list_again, list_done}
+use Rattle.codec.specs.Rows.{rows_next, rows_done, rows_long}
 use native.Mathlib.Omega.{arith}
-use mathlib.Core.Path.{◌≡◌, refl}
-use borrow.Author.Rules.{rules}
+use mathlib.Core.Path.{refl}
 use Rattle.spec.proofs.fill.tables_into.Goals as goal
 
 pub loop-left-init : goal.loop-left-init

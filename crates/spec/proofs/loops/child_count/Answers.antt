@@ -1,7 +1,6 @@
 use Rattle.spec.specs.Reads.{count_reads}
 use Rattle.format.specs.Spec.{Loop}
 use Rattle.spec.specs.Index.{loop_reads}
-use borrow.Author.Rules.{rules}
 use Rattle.spec.proofs.loops.child_count.Goals as goal
 
 pub returns : goal.returns

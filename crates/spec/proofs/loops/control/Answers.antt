@@ -1,6 +1,5 @@
 use Rattle.format.specs.Spec.{Loop}
 use Rattle.spec.specs.Index.{loop_reads}
-use borrow.Author.Rules.{rules}
 use Rattle.spec.proofs.loops.control.Goals as goal
 
 pub returns : goal.returns

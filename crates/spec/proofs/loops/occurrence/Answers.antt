@@ -3,7 +3,6 @@ use Rattle.spec.specs.Reads.{string_none, string_is}
 use mathlib.Core.Path.{refl}
 use Rattle.format.specs.Spec.{Loop}
 use Rattle.spec.specs.Index.{loop_reads}
-use borrow.Author.Rules.{rules}
 use Rattle.spec.proofs.loops.occurrence.Goals as goal
 
 pub returns-then-n-k : goal.returns-then-n-k

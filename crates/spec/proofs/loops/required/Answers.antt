@@ -1,7 +1,6 @@
 use Rattle.spec.specs.Reads.{usage_reads}
 use Rattle.format.specs.Spec.{Loop}
 use Rattle.spec.specs.Index.{loop_reads}
-use borrow.Author.Rules.{rules}
 use Rattle.spec.proofs.loops.required.Goals as goal
 
 pub returns : goal.returns

@@ -1,5 +1,4 @@
 use Rattle.codec.specs.Field.{count_of}
-use borrow.Author.Rules.{rules}
 use Rattle.spec.proofs.loops.root_count.Goals as goal
 
 pub returns : goal.returns

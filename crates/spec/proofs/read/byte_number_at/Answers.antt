@@ -1,7 +1,6 @@
 use Rattle.spec.specs.Reads.{byte_none, byte_is}
 use mathlib.Core.Path.{sym, ◌∙◌}
 use native.Mathlib.Omega.{arith}
-use borrow.Author.Rules.{rules}
 use Rattle.spec.proofs.read.byte_number_at.Goals as goal
 
 pub returns-then-t-eq0 : goal.returns-then-t-eq0

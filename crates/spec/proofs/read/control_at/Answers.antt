@@ -1,6 +1,5 @@
 use Rattle.spec.specs.Reads.{control_none, control_is}
 use mathlib.Core.Path.{sym, ◌∙◌}
-use borrow.Author.Rules.{rules}
 use Rattle.spec.proofs.read.control_at.Goals as goal
 
 pub returns-then-t-eq0 : goal.returns-then-t-eq0

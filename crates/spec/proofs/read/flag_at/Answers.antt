@@ -1,5 +1,4 @@
 use mathlib.Core.Path.{refl, sym, ◌∙◌}
-use borrow.Author.Rules.{rules}
 use Rattle.spec.proofs.read.flag_at.Goals as goal
 
 pub returns-then-t-eq0 : goal.returns-then-t-eq0

@@ -1,5 +1,4 @@
 use Rattle.spec.specs.Reads.{item_none, item_is}
-use borrow.Author.Rules.{rules}
 use Rattle.spec.proofs.read.item_at.Goals as goal
 
 pub returns-then-n-k : goal.returns-then-n-k

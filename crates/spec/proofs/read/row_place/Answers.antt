@@ -1,6 +1,5 @@
 use native.Mathlib.Omega.{arith}
 use Rattle.spec.specs.Index.{row_past, row_is, small_row}
-use borrow.Author.Rules.{rules}
 use Rattle.spec.proofs.read.row_place.Goals as goal
 
 pub returns-then-n-i : goal.returns-then-n-i

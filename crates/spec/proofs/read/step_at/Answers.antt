@@ -1,6 +1,5 @@
 use Rattle.spec.specs.Reads.{step_none, step_is}
 use mathlib.Core.Path.{sym, ◌∙◌}
-use borrow.Author.Rules.{rules}
 use Rattle.spec.proofs.read.step_at.Goals as goal
 
 pub returns-then-t-eq0 : goal.returns-then-t-eq0

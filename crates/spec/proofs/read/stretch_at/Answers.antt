@@ -1,6 +1,5 @@
 use Rattle.spec.specs.Reads.{stretch_none, stretch_is}
 use mathlib.Core.Path.{refl}
-use borrow.Author.Rules.{rules}
 use Rattle.spec.proofs.read.stretch_at.Goals as goal
 
 pub returns-then-n-eq0 : goal.returns-then-n-eq0

@@ -1,8 +1,5 @@
-use Rattle.codec.specs.Forms.{bytes_c}
-use Rattle.codec.specs.Skip.{steps, list_again, list_done}
-use Prim.Native.Nat.{◌+◌}
-use mathlib.Core.Path.{◌≡◌, refl}
-use borrow.Author.Rules.{rules}
+use Rattle.codec.specs.Skip.{list_again, list_done}
+use mathlib.Core.Path.{refl}
 use Rattle.spec.proofs.read.string_at.Goals as goal
 
 pub loop-left-init : goal.loop-left-init

@@ -1,8 +1,7 @@
 use Rattle.codec.specs.Forms.{bytes_c}
-use Rattle.codec.specs.Skip.{steps, list_again, list_done}
+use Rattle.codec.specs.Skip.{steps}
 use Prim.Native.Nat.{◌+◌}
-use mathlib.Core.Path.{◌≡◌, refl}
-use borrow.Author.Rules.{rules}
+use mathlib.Core.Path.{◌≡◌}
 use Rattle.spec.proofs.read.string_at.Given as goal
 
 abbrev pub invariant-loop-left : goal.invariant-loop-left

@@ -1,9 +1,6 @@
-use Rattle.spec.specs.Parts.{part_c}
-use Rattle.spec.proofs.Storing.{Items, items_none, items_more, items_all}
+use Rattle.spec.proofs.Storing.{items_none, items_more, items_all}
 use mathlib.Core.Path.{refl}
 use native.Mathlib.Omega.{arith}
-use Prim.Native.Nat.{◌-◌, ◌≤◌}
-use borrow.Author.Rules.{rules}
 use Rattle.spec.proofs.region.list_into.Goals as goal
 
 pub loop-i-init : goal.loop-i-init

@@ -1,9 +1,6 @@
 use Rattle.spec.specs.Parts.{part_c}
-use Rattle.spec.proofs.Storing.{Items, items_none, items_more, items_all}
-use mathlib.Core.Path.{refl}
-use native.Mathlib.Omega.{arith}
+use Rattle.spec.proofs.Storing.{Items}
 use Prim.Native.Nat.{◌-◌, ◌≤◌}
-use borrow.Author.Rules.{rules}
 use Rattle.spec.proofs.region.list_into.Given as goal
 
 abbrev pub invariant-loop-i : goal.invariant-loop-i

@@ -1,6 +1,5 @@
 use Rattle.spec.proofs.Storing.{part_is}
 use Rattle.spec.specs.declared.region.Part.TheVariants.{SegmentPlan, Order, Forced, Columns, Depth, Column}
-use borrow.Author.Rules.{rules}
 use Rattle.spec.proofs.region.part_at.Goals as goal
 
 pub returns-in-SegmentPlan : goal.returns-in-SegmentPlan

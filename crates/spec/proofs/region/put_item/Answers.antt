@@ -1,6 +1,5 @@
 use Rattle.spec.proofs.Storing.{put_item_in, put_item_out}
 use mathlib.Core.Path.{sym, ◌∙◌}
-use borrow.Author.Rules.{rules}
 use Rattle.spec.proofs.region.put_item.Goals as goal
 
 pub returns-then-i-lt32 : goal.returns-then-i-lt32

@@ -3,11 +3,9 @@ use Rattle.format.specs.Spec.{component_c}
 use Rattle.codec.specs.Forms.{num_c}
 use Rattle.codec.specs.Codec.{◌⊗◌}
 use Rattle.codec.specs.Skip.{steps, skip_pair}
-use Rattle.spec.specs.Found.{Others, others_more, number_found, number_missing, steps_last}
-use Prim.Native.Nat.{◌+◌, ◌-◌}
+use Rattle.spec.specs.Found.{others_more, number_found, number_missing, steps_last}
 use native.Mathlib.Omega.{arith}
-use mathlib.Core.Path.{◌≡◌, refl}
-use borrow.Author.Rules.{rules}
+use mathlib.Core.Path.{refl}
 use Rattle.spec.proofs.segments.component_place.Goals as goal
 
 pub loop-k-init : goal.loop-k-init

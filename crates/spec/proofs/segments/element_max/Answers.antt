@@ -1,5 +1,4 @@
 use Rattle.spec.specs.Found.{element_max_at}
-use borrow.Author.Rules.{rules}
 use Rattle.spec.proofs.segments.element_max.Goals as goal
 
 pub returns : goal.returns

@@ -1,6 +1,5 @@
 use Rattle.format.specs.Fields.{is_element}
 use Rattle.codec.specs.Field.{is_at}
-use borrow.Author.Rules.{rules}
 use Rattle.spec.proofs.segments.element_min.Goals as goal
 
 pub returns : goal.returns

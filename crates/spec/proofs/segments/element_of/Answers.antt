@@ -1,7 +1,6 @@
 use Rattle.spec.specs.Found.{PlaceOf}
 use Rattle.spec.specs.Found.{element_nowhere, element_there, stands_low, place_nowhere, place_at}
 use native.Mathlib.Omega.{arith}
-use borrow.Author.Rules.{rules}
 use Rattle.spec.proofs.segments.element_of.Goals as goal
 
 pub element_place-requires : goal.element_place-requires

@@ -1,13 +1,10 @@
-use Rattle.spec.specs.Found.{PlaceOf}
 use Rattle.format.specs.Spec.{element_c}
 use Rattle.codec.specs.Forms.{num_c}
 use Rattle.codec.specs.Codec.{◌⊗◌}
-use Rattle.codec.specs.Skip.{steps, skip_pair}
-use Rattle.spec.specs.Found.{Others, others_more, number_found, number_missing, steps_last}
+use Rattle.codec.specs.Skip.{steps}
+use Rattle.spec.specs.Found.{Others}
 use Prim.Native.Nat.{◌+◌, ◌-◌}
-use native.Mathlib.Omega.{arith}
-use mathlib.Core.Path.{◌≡◌, refl}
-use borrow.Author.Rules.{rules}
+use mathlib.Core.Path.{◌≡◌}
 use Rattle.spec.proofs.segments.element_place.Given as goal
 
 abbrev pub invariant-loop-k : goal.invariant-loop-k

@@ -1,9 +1,7 @@
 use Rattle.spec.specs.Found.{PlaceOf}
-use Rattle.spec.specs.Found.{OtherNames, names_counted, names_more, name_found, name_missing}
+use Rattle.spec.specs.Found.{names_counted, names_more, name_found, name_missing}
 use Rattle.spec.specs.Answers.{stretch_of}
-use Prim.Native.Nat.{◌-◌}
 use native.Mathlib.Omega.{arith}
-use borrow.Author.Rules.{rules}
 use Rattle.spec.proofs.segments.elements_of.Goals as goal
 
 pub loop-k-init : goal.loop-k-init

@@ -1,5 +1,4 @@
 use Rattle.spec.specs.Found.{key_long, key_same}
-use borrow.Author.Rules.{rules}
 use Rattle.spec.proofs.segments.key_is.Goals as goal
 
 pub returns-then-n-len : goal.returns-then-n-len

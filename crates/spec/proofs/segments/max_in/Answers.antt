@@ -1,5 +1,4 @@
 use Rattle.spec.specs.Found.{max_in_none, max_in_is}
-use borrow.Author.Rules.{rules}
 use Rattle.spec.proofs.segments.max_in.Goals as goal
 
 pub returns-in-None : goal.returns-in-None

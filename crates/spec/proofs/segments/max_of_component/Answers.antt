@@ -1,7 +1,6 @@
 use Rattle.spec.specs.Found.{components_at, component_none, component_there, place_nowhere, place_at}
 use Rattle.codec.specs.Field.{is_in}
 use native.Mathlib.Omega.{arith}
-use borrow.Author.Rules.{rules}
 use Rattle.spec.proofs.segments.max_of_component.Goals as goal
 
 pub returns-then-end-components : goal.returns-then-end-components

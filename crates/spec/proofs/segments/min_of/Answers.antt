@@ -1,5 +1,4 @@
 use Rattle.spec.specs.Found.{min_nowhere, min_there, place_nowhere, place_at}
-use borrow.Author.Rules.{rules}
 use Rattle.spec.proofs.segments.min_of.Goals as goal
 
 pub returns-in-Nowhere : goal.returns-in-Nowhere

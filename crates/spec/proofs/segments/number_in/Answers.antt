@@ -1,7 +1,6 @@
 use Rattle.spec.specs.Reads.{stands}
 use Rattle.codec.specs.Field.{is_in}
 use native.Mathlib.Omega.{arith}
-use borrow.Author.Rules.{rules}
 use Rattle.spec.proofs.segments.number_in.Goals as goal
 
 pub returns-then-end-at : goal.returns-then-end-at

@@ -1,8 +1,6 @@
-use Rattle.spec.specs.Found.{same_at, same_again, same_not, same_done}
-use Prim.Native.Nat.{◌+◌}
+use Rattle.spec.specs.Found.{same_again, same_not, same_done}
 use native.Mathlib.Omega.{arith}
-use mathlib.Core.Path.{◌≡◌, refl}
-use borrow.Author.Rules.{rules}
+use mathlib.Core.Path.{refl}
 use Rattle.spec.proofs.segments.same_at.Goals as goal
 
 pub loop-left-init : goal.loop-left-init

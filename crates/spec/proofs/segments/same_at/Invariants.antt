@@ -1,8 +1,6 @@
-use Rattle.spec.specs.Found.{same_at, same_again, same_not, same_done}
+use Rattle.spec.specs.Found.{same_at}
 use Prim.Native.Nat.{◌+◌}
-use native.Mathlib.Omega.{arith}
-use mathlib.Core.Path.{◌≡◌, refl}
-use borrow.Author.Rules.{rules}
+use mathlib.Core.Path.{◌≡◌}
 use Rattle.spec.proofs.segments.same_at.Given as goal
 
 abbrev pub invariant-loop-left : goal.invariant-loop-left

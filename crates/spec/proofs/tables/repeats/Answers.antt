@@ -1,7 +1,6 @@
 use Rattle.spec.specs.Reads.{flag_reads}
 use Rattle.format.specs.Spec.{Table}
 use Rattle.spec.specs.Index.{table_reads}
-use borrow.Author.Rules.{rules}
 use Rattle.spec.proofs.tables.repeats.Goals as goal
 
 pub returns : goal.returns

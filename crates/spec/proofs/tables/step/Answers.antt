@@ -1,7 +1,6 @@
 use Rattle.format.specs.Ask.{step_of}
 use Rattle.format.specs.Spec.{Table}
 use Rattle.spec.specs.Index.{table_reads}
-use borrow.Author.Rules.{rules}
 use Rattle.spec.proofs.tables.step.Goals as goal
 
 pub returns : goal.returns

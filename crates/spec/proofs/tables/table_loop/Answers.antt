@@ -1,6 +1,5 @@
 use Rattle.format.specs.Spec.{Table}
 use Rattle.spec.specs.Index.{table_reads}
-use borrow.Author.Rules.{rules}
 use Rattle.spec.proofs.tables.table_loop.Goals as goal
 
 pub returns : goal.returns

@@ -1,6 +1,5 @@
 use Rattle.spec.specs.VersionIs.{version_none, version_is}
 use mathlib.Core.Path.{sym, ◌∙◌}
-use borrow.Author.Rules.{rules}
 use Rattle.spec.proofs.version.version_at.Goals as goal
 
 pub returns-then-t-eq0 : goal.returns-then-t-eq0

@@ -1,4 +1,3 @@
-use Rattle.std.proofs.Common.{rules}
 use Rattle.texts.proofs.Pads.{zero_free_lem, zero_at}
 use Rattle.texts.proofs.envelope.control_padding.Goals as goal
 

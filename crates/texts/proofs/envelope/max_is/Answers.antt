@@ -1,4 +1,3 @@
-use Rattle.std.proofs.Common.{rules}
 use Rattle.texts.proofs.envelope.max_is.Goals as goal
 
 pub returns-in-At : goal.returns-in-At

@@ -1,4 +1,4 @@
-use Rattle.std.proofs.Common.{sym, ◌∙◌, rules}
+use Rattle.std.proofs.Common.{sym, ◌∙◌}
 use Rattle.texts.proofs.Pads.{pad_free, pad_number, pad_fixed, pad_loose}
 use Rattle.texts.proofs.envelope.pad.Goals as goal
 

@@ -1,4 +1,4 @@
-use Rattle.std.proofs.Common.{◌≡◌, ℕ, ◌-◌, ◌<◌, ◌≤◌, get_or, arith, rules, below_more}
+use Rattle.std.proofs.Common.{arith, rules, below_more}
 use Rattle.texts.proofs.number.first_filled.Goals as goal
 
 pub loop-i-init : goal.loop-i-init

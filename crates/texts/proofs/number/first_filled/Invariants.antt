@@ -1,4 +1,4 @@
-use Rattle.std.proofs.Common.{◌≡◌, ℕ, ◌-◌, ◌<◌, ◌≤◌, get_or, arith, rules, below_more}
+use Rattle.std.proofs.Common.{◌≡◌, ℕ, ◌-◌, ◌<◌, ◌≤◌, get_or}
 use Rattle.texts.proofs.number.first_filled.Given as goal
 
 abbrev pub invariant-loop-i : goal.invariant-loop-i

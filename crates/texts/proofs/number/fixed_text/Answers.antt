@@ -1,4 +1,4 @@
-use Rattle.std.proofs.Common.{ℕ, List, ◌++◌, sym, ap, ◌∙◌, rules}
+use Rattle.std.proofs.Common.{ℕ, List, ◌++◌, sym, ap, ◌∙◌}
 use Rattle.texts.specs.Held.{held}
 use Rattle.texts.specs.Number.{fixed_text, minus}
 use Rattle.texts.proofs.Halves.{low_only}

@@ -1,4 +1,4 @@
-use Rattle.std.proofs.Common.{sym, ◌∙◌, to_z-of_z, w64, rules}
+use Rattle.std.proofs.Common.{sym, ◌∙◌, to_z-of_z, w64}
 use Rattle.texts.proofs.Integers.{signed_plain, signed_below}
 use Rattle.texts.proofs.number.from_bits64.Goals as goal
 

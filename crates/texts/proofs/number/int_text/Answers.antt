@@ -1,4 +1,4 @@
-use Rattle.std.proofs.Common.{refl, ap, ◌∙◌, to_z-of_z, rules}
+use Rattle.std.proofs.Common.{refl, ap, ◌∙◌, to_z-of_z}
 use Rattle.texts.specs.Held.{held}
 use Rattle.texts.proofs.Signs.{int_plus, int_minus}
 use Rattle.texts.proofs.Integers.{not_below}

@@ -1,4 +1,3 @@
-use Rattle.std.proofs.Common.{rules}
 use Rattle.texts.proofs.Passes.{text_plain, text_pointed, minus_short}
 use Rattle.texts.proofs.number.placed_text.Goals as goal
 

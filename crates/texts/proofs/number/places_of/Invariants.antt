@@ -1,7 +1,6 @@
-use Rattle.std.proofs.Common.{◌≡◌, ℕ, ◌-◌, ◌^◌, ◌<◌, ◌≤◌, sym, ◌∙◌, arith, rules, ltb-false, ltb-true}
+use Rattle.std.proofs.Common.{◌-◌}
 use Rattle.texts.specs.Wide.{value}
-use Rattle.texts.proofs.Halves.{wide_small}
-use Rattle.texts.proofs.Passes.{Found, found_none, found_room, found_more, found_all}
+use Rattle.texts.proofs.Passes.{Found}
 use Rattle.texts.proofs.number.places_of.Given as goal
 
 abbrev pub invariant-loop-rest : goal.invariant-loop-rest

@@ -1,4 +1,4 @@
-use Rattle.std.proofs.Common.{arith, rules}
+use Rattle.std.proofs.Common.{arith}
 use Rattle.texts.specs.Held.{held}
 use Rattle.texts.proofs.number.sign_text.Goals as goal
 

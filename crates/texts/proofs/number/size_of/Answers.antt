@@ -1,4 +1,4 @@
-use Rattle.std.proofs.Common.{◌≡◌, ℕ, ◌-◌, ◌^◌, ◌<◌, ◌≤◌, refl, arith, rules}
+use Rattle.std.proofs.Common.{refl, arith, rules}
 use Rattle.texts.proofs.Numbers.{ten_next}
 use Rattle.texts.proofs.Wholes.{size_more, size_room, power_fits, size_top, size_found}
 use Rattle.texts.proofs.number.size_of.Goals as goal

@@ -1,6 +1,4 @@
-use Rattle.std.proofs.Common.{◌≡◌, ◌-◌, ◌≤◌, refl, ◌∙◌, arith, rules}
-use lib.Seq.{sets}
-use Rattle.texts.specs.Number.{figures}
+use Rattle.std.proofs.Common.{refl, ◌∙◌, arith, rules}
 use Rattle.texts.proofs.Passes.{minus_short}
 use Rattle.texts.proofs.Wholes.{digit_stored, digits_stored}
 use Rattle.texts.proofs.number.whole_text.Goals as goal

@@ -1,8 +1,6 @@
-use Rattle.std.proofs.Common.{◌≡◌, ◌-◌, ◌≤◌, refl, ◌∙◌, arith, rules}
+use Rattle.std.proofs.Common.{◌≡◌, ◌-◌, ◌≤◌}
 use lib.Seq.{sets}
 use Rattle.texts.specs.Number.{figures}
-use Rattle.texts.proofs.Passes.{minus_short}
-use Rattle.texts.proofs.Wholes.{digit_stored, digits_stored}
 use Rattle.texts.proofs.number.whole_text.Given as goal
 
 abbrev pub invariant-loop-at : goal.invariant-loop-at

@@ -1,6 +1,4 @@
-use Rattle.std.proofs.Common.{◌≡◌, ◌+◌, ◌-◌, ◌≤◌, refl, arith, rules}
-use lib.Seq.{sets}
-use Rattle.texts.specs.Digits.{down}
+use Rattle.std.proofs.Common.{refl, arith, rules}
 use Rattle.texts.proofs.Passes.{down_next, down_done}
 use Rattle.texts.proofs.number.with_places.Goals as goal
 

@@ -1,7 +1,6 @@
-use Rattle.std.proofs.Common.{◌≡◌, ◌+◌, ◌-◌, ◌≤◌, refl, arith, rules}
+use Rattle.std.proofs.Common.{◌≡◌, ◌+◌, ◌-◌, ◌≤◌}
 use lib.Seq.{sets}
 use Rattle.texts.specs.Digits.{down}
-use Rattle.texts.proofs.Passes.{down_next, down_done}
 use Rattle.texts.proofs.number.with_places.Given as goal
 
 abbrev pub invariant-loop-i : goal.invariant-loop-i

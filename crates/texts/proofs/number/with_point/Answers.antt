@@ -1,4 +1,4 @@
-use Rattle.std.proofs.Common.{refl, rules}
+use Rattle.std.proofs.Common.{refl}
 use Rattle.texts.specs.Held.{added}
 use Rattle.texts.proofs.number.with_point.Goals as goal
 

@@ -1,5 +1,4 @@
-use Rattle.std.proofs.Common.{◌≤◌, arith, rules}
-use Rattle.texts.specs.Digits.{Shortens}
+use Rattle.std.proofs.Common.{arith, rules}
 use Rattle.texts.proofs.Wholes.{shortens_none, shortens_more}
 use Rattle.texts.proofs.number.without_zeros.Goals as goal
 

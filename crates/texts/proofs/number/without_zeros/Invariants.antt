@@ -1,6 +1,5 @@
-use Rattle.std.proofs.Common.{◌≤◌, arith, rules}
+use Rattle.std.proofs.Common.{◌≤◌}
 use Rattle.texts.specs.Digits.{Shortens}
-use Rattle.texts.proofs.Wholes.{shortens_none, shortens_more}
 use Rattle.texts.proofs.number.without_zeros.Given as goal
 
 abbrev pub invariant-loop-left : goal.invariant-loop-left

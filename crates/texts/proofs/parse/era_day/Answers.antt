@@ -1,4 +1,4 @@
-use Rattle.std.proofs.Common.{arith, rules}
+use Rattle.std.proofs.Common.{arith}
 use Rattle.texts.proofs.Dates.{into_year, started, year_more, month_small, from_march_lem, from_january}
 use Rattle.texts.proofs.Months.{month_of, day_in}
 use Rattle.texts.proofs.Years.{common, year_of, year_small}

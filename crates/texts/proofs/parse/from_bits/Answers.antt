@@ -1,4 +1,4 @@
-use Rattle.std.proofs.Common.{sym, ◌∙◌, to_z-of_z, w32, rules}
+use Rattle.std.proofs.Common.{sym, ◌∙◌, to_z-of_z, w32}
 use Rattle.texts.proofs.Integers.{signed_plain, signed_below}
 use Rattle.texts.proofs.parse.from_bits.Goals as goal
 

@@ -1,4 +1,4 @@
-use Rattle.std.proofs.Common.{arith, to_z-of_z, rules}
+use Rattle.std.proofs.Common.{arith, to_z-of_z}
 use Rattle.texts.proofs.Sums.{mag_times, year_fits, year_is}
 use Rattle.texts.proofs.parse.year_of.Goals as goal
 

@@ -1,5 +1,5 @@
 -- the seconds lie within one day
-use Rattle.std.proofs.Common.{sym, ◌∙◌, rules}
+use Rattle.std.proofs.Common.{sym, ◌∙◌}
 use Rattle.texts.proofs.Ranges.{Inside, ranged_is, ranged_out}
 use Rattle.texts.proofs.Rendered.{spelt_says, says_as, four_fits, six_fits, envelope_out, envelope_even, envelope_cut, envelope_odd}
 use Rattle.texts.proofs.render.envelope_time.Goals as goal

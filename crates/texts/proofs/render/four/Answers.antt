@@ -1,4 +1,4 @@
-use Rattle.std.proofs.Common.{[], ◌∙◌, arith, rules}
+use Rattle.std.proofs.Common.{[], ◌∙◌, arith}
 use Rattle.texts.specs.DateText.{two}
 use Rattle.texts.proofs.Rendered.{paired, room}
 use Rattle.texts.proofs.render.four.Goals as goal

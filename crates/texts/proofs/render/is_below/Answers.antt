@@ -1,4 +1,3 @@
-use Rattle.std.proofs.Common.{rules}
 use Rattle.texts.proofs.render.is_below.Goals as goal
 
 pub returns-in-At : goal.returns-in-At

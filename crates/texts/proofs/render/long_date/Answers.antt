@@ -1,5 +1,5 @@
 -- the year has four digits
-use Rattle.std.proofs.Common.{sym, ◌∙◌, arith, rules}
+use Rattle.std.proofs.Common.{sym, ◌∙◌, arith}
 use Rattle.texts.proofs.Ranges.{Inside, ranged_is, ranged_out}
 use Rattle.texts.proofs.Rendered.{spelt_says, says_as, long_is, long_out}
 use Rattle.texts.proofs.render.long_date.Goals as goal

@@ -1,4 +1,4 @@
-use Rattle.std.proofs.Common.{add-one, rules}
+use Rattle.std.proofs.Common.{add-one}
 use Rattle.texts.specs.Held.{added}
 use Rattle.texts.proofs.render.pair.Goals as goal
 

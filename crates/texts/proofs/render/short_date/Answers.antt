@@ -1,5 +1,5 @@
 -- the year is one of those that the digits are read as
-use Rattle.std.proofs.Common.{sym, ◌∙◌, rules}
+use Rattle.std.proofs.Common.{sym, ◌∙◌}
 use Rattle.texts.proofs.Ranges.{Inside, ranged_is, ranged_out}
 use Rattle.texts.proofs.Rendered.{spelt_says, says_as, short_is, short_out}
 use Rattle.texts.proofs.render.short_date.Goals as goal

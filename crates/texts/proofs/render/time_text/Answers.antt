@@ -1,5 +1,5 @@
 -- the seconds lie within one day
-use Rattle.std.proofs.Common.{sym, ◌∙◌, rules}
+use Rattle.std.proofs.Common.{sym, ◌∙◌}
 use Rattle.texts.proofs.Ranges.{Inside, ranged_is, ranged_out}
 use Rattle.texts.proofs.Rendered.{spelt_says, says_as, four_fits, six_fits, time_out, time_even, time_full, time_odd}
 use Rattle.texts.proofs.render.time_text.Goals as goal

@@ -1,4 +1,4 @@
-use Rattle.std.proofs.Common.{ℤ, ap, ◌∙◌, div-le_self, arith, to_z-of_z, w32, rules}
+use Rattle.std.proofs.Common.{ℤ, ap, ◌∙◌, div-le_self, arith, to_z-of_z, w32}
 use Rattle.texts.specs.Floor.{floor_div}
 use Rattle.texts.proofs.Integers.{not_below}
 use Rattle.texts.proofs.signed.floor_div.Goals as goal

@@ -1,4 +1,4 @@
-use Rattle.std.proofs.Common.{ℤ, ap, ◌∙◌, mod-lt, arith, to_z-of_z, rules}
+use Rattle.std.proofs.Common.{ℤ, ap, ◌∙◌, mod-lt, arith, to_z-of_z}
 use Rattle.texts.specs.Floor.{floor_rem}
 use Rattle.texts.proofs.Integers.{not_below}
 use Rattle.texts.proofs.signed.floor_rem.Goals as goal

@@ -1,4 +1,4 @@
-use Rattle.std.proofs.Common.{w32, rules}
+use Rattle.std.proofs.Common.{w32}
 use Rattle.texts.proofs.Integers.{less_fits, less_is}
 use Rattle.texts.proofs.signed.minus_one_less.Goals as goal
 

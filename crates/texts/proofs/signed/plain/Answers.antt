@@ -1,5 +1,5 @@
 use mir.Facts.{to_z_pos}
-use Rattle.std.proofs.Common.{w32, rules}
+use Rattle.std.proofs.Common.{w32}
 use Rattle.texts.proofs.signed.plain.Goals as goal
 
 pub returns : goal.returns

@@ -1,0 +1,21 @@
+use native.Mathlib.Omega.{arith}
+use mathlib.Core.Path.{◌≡◌}
+use mathlib.Core.Logic.{⊎_elim}
+use Rattle.format.specs.Sections.{job_of}
+use Rattle.nest.specs.OfJob.{outline_of}
+use Rattle.walk.specs.Instances.{has_data}
+use Rattle.walk.proofs.DataLaws.{data_from}
+use Rattle.due.proofs.Bridge.{child_small}
+use Rattle.due.proofs.Loops.{deep, at_own, below_own, elsewhere, below_here, below_next, below_end}
+use borrow.Author.Rules.{rules}
+use Prim.Native.Nat.{ℕ, ◌<◌, ◌-◌}
+use Rattle.due.proofs.+has_data.Given as goal
+
+abbrev pub decreases-has_data : goal.decreases-has_data
+decreases-has_data l = l.height
+
+abbrev pub invariant-loop-k : goal.invariant-loop-k
+invariant-loop-k l = has_data (outline_of (job_of l.job)) l.height l.l.0 l.t.0 l.r.0 ≡ data_from (outline_of (job_of l.job)) (l.height - 1) l.l.0 l.t.0 l.r.0 l.k
+
+abbrev pub decreases-loop-k : goal.decreases-loop-k
+decreases-loop-k l = l.n - l.k

@@ -1,0 +1,18 @@
+use Prim.Native.Nat.{◌-◌}
+use mathlib.Core.Path.{◌≡◌}
+use Rattle.format.specs.Sections.{job_of}
+use mathlib.Core.Bool.{not}
+use lib.ListN.{drop}
+use Rattle.format.specs.Ask.{group_columns_of}
+use Rattle.nest.specs.Lists.{some_of}
+use Rattle.nest.specs.OfJob.{outline_of}
+use Rattle.due.specs.Cells.{differ}
+use Rattle.due.proofs.Ways.{group_start, apart_here, apart_not, apart_never}
+use borrow.Author.Rules.{rules}
+use Rattle.due.proofs.same_group.Given as goal
+
+abbrev pub invariant-loop-k : goal.invariant-loop-k
+invariant-loop-k l = (outline_of (job_of l.job)).same_group l.l.0 l.a.0 l.b.0 ≡ not (some_of (differ (job_of l.job) l.t.0 l.a.0 l.b.0) (drop l.k (group_columns_of (job_of l.job) l.l.0)))
+
+abbrev pub decreases-loop-k : goal.decreases-loop-k
+decreases-loop-k l = l.n - l.k

@@ -1,0 +1,35 @@
+use mathlib.Core.Bool.{false≢true}
+use Rattle.column.specs.Answers.{cell_at}
+use Rattle.emit.specs.Puts.{cell_text}
+use borrow.Author.Rules.{rules}
+use Rattle.emit.proofs.cells.own_text.Goals as goal
+
+pub said_decimal-requires : goal.said_decimal-requires
+said_decimal-requires c = rw c.in-Wide.is at c.requires.2
+
+pub returns-in-None : goal.returns-in-None
+unfolding cell_text cell_at
+returns-in-None c = λ b e. rw c.in-None.is c.said_nothing.ensures
+
+pub returns-in-Null : goal.returns-in-Null
+unfolding cell_text cell_at
+returns-in-Null c = λ b e. rw c.in-Null.is c.said_nothing-in-Null.ensures
+
+pub returns-in-Bytes : goal.returns-in-Bytes
+returns-in-Bytes c = λ b e. absurd (false≢true (rw c.in-Bytes.is at e))
+
+pub returns-in-Int : goal.returns-in-Int
+unfolding cell_text cell_at
+returns-in-Int c = λ b e. rw c.in-Int.is c.said_int.ensures
+
+pub returns-in-Wide : goal.returns-in-Wide
+unfolding cell_text cell_at
+returns-in-Wide c = λ b e. rw c.in-Wide.is c.said_decimal.ensures
+
+pub returns-in-Days : goal.returns-in-Days
+unfolding cell_text cell_at
+returns-in-Days c = λ b e. rw c.in-Days.is (rw c.max_at.ensures at c.said_days.ensures)
+
+pub returns-in-Seconds : goal.returns-in-Seconds
+unfolding cell_text cell_at
+returns-in-Seconds c = λ b e. rw c.in-Seconds.is (rw c.max_at-in-Seconds.ensures at c.said_seconds.ensures)

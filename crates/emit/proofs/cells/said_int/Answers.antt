@@ -1,0 +1,6 @@
+use mathlib.Core.Path.{refl}
+use borrow.Author.Rules.{rules}
+use Rattle.emit.proofs.cells.said_int.Goals as goal
+
+pub returns : goal.returns
+returns c = record { text = c.int_text-text.ensures; reason = refl }

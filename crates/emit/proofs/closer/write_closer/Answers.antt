@@ -1,0 +1,8 @@
+use Rattle.emit.proofs.StepLaws.{did_closer}
+use Rattle.segment.specs.Pen.{value_text}
+use Rattle.lent.specs.Fit.{stretch}
+use borrow.Author.Rules.{rules}
+use Rattle.emit.proofs.closer.write_closer.Goals as goal
+
+pub returns : goal.returns
+returns c = let a = c.args in let j = a.job.now in λ o k f p q e g h. did_closer o a.s (stretch j a.start a.len) k (value_text j a.control) a.counted f p q h (c.closer_entries-entries.ensures k (value_text j a.control) a.counted e g) (c.put_closer-at.ensures k e g) c.finish_segment.ensures

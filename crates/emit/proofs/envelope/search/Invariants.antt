@@ -1,0 +1,15 @@
+use Prim.Native.Nat.{◌≤◌, ◌-◌}
+use mathlib.Core.Path.{◌≡◌, refl, sym, ap, ◌∙◌}
+use mathlib.Core.List.{[]}
+use lib.ListN.{get_or}
+use Rattle.emit.specs.Table.{table, searched}
+use Rattle.emit.proofs.TableLaws.{search_next, search_found, search_none}
+use mathlib.Core.Option.{some}
+use borrow.Author.Rules.{rules}
+use Rattle.emit.proofs.envelope.search.Given as goal
+
+abbrev pub invariant-loop-i : goal.invariant-loop-i
+invariant-loop-i l = (l.i ≤ 9) × (searched (get_or table l.depth []) 9 0 l.position ≡ searched (get_or table l.depth []) (9 - l.i) l.i l.position)
+
+abbrev pub decreases-loop-i : goal.decreases-loop-i
+decreases-loop-i l = 9 - l.i

@@ -1,0 +1,16 @@
+use mathlib.Core.List.{List}
+use Rattle.codec.specs.Codec.{list_c}
+use Rattle.codec.specs.Skip.{Is}
+use Rattle.format.specs.Spec.{Loop, loop_c}
+use Rattle.format.specs.Refusal.{disagrees}
+use Rattle.loops.proofs.ByNumber.{Upto, below_same, upto_start, upto_again, upto_found, upto_none}
+use Prim.Native.Nat.{◌-◌}
+use native.Mathlib.Omega.{arith}
+use borrow.Author.Rules.{rules}
+use Rattle.loops.proofs.disagreements.Given as goal
+
+abbrev pub invariant-loop-k : goal.invariant-loop-k
+invariant-loop-k l = (ls : List Loop) → Is (list_c loop_c) l.b l.end l.at ls → Upto l.b l.end l.at (disagrees ls) l.n l.k
+
+abbrev pub decreases-loop-k : goal.decreases-loop-k
+decreases-loop-k l = l.n - l.k

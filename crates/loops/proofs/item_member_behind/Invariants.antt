@@ -1,0 +1,12 @@
+use Rattle.format.specs.Layout.{item_c}
+use Rattle.loops.specs.Parts.{member_in}
+use Rattle.says.proofs.Behind.{Still, still_start, still_again, still_found, still_none}
+use Rattle.loops.proofs.Items.{member_in_step, member_in_nil}
+use borrow.Author.Rules.{rules}
+use Rattle.loops.proofs.item_member_behind.Given as goal
+
+abbrev pub invariant-loop-left : goal.invariant-loop-left
+invariant-loop-left l = Still item_c l.b l.end l.rest l.at (member_in l.x) l.left l.p
+
+abbrev pub decreases-loop-left : goal.decreases-loop-left
+decreases-loop-left l = l.left

@@ -1,0 +1,9 @@
+use Rattle.tree.proofs.Tree.{item_there, item_not}
+use borrow.Author.Rules.{rules}
+use Rattle.loops.proofs.item_same_at.Goals as goal
+
+pub returns-then-tag_at-eq1 : goal.returns-then-tag_at-eq1
+returns-then-tag_at-eq1 c = item_there _ _ _ _ _ _ _ c.tag_at.ensures c.if-tag_at-eq1.true c.le_at-p.ensures c.same_at.ensures
+
+pub returns : goal.returns
+returns c = item_not _ _ _ _ _ c.tag_at.ensures c.if-tag_at-eq1.false

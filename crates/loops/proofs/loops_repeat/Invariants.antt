@@ -1,0 +1,15 @@
+use mathlib.Core.Path.{refl}
+use Rattle.format.specs.Words.{repeats}
+use Rattle.says.proofs.Walk.{says_as}
+use Rattle.loops.proofs.ByNumber.{Upto, any_each, below_test, upto_start, upto_again, upto_found, upto_none}
+use Rattle.loops.specs.Parts.{repeats_below}
+use Prim.Native.Nat.{◌-◌}
+use native.Mathlib.Omega.{arith}
+use borrow.Author.Rules.{rules}
+use Rattle.loops.proofs.loops_repeat.Given as goal
+
+abbrev pub invariant-loop-k : goal.invariant-loop-k
+invariant-loop-k l = Upto l.b l.end l.at (λ i. repeats_below) l.n l.k
+
+abbrev pub decreases-loop-k : goal.decreases-loop-k
+decreases-loop-k l = l.n - l.k

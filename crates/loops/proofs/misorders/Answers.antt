@@ -1,0 +1,26 @@
+use Rattle.codec.specs.Codec.{list_c}
+use Rattle.codec.specs.Skip.{Is}
+use Rattle.format.specs.Spec.{loop_c, Loop}
+use Rattle.format.specs.Layout.{item_c}
+use Rattle.format.specs.Refusal.{misordered}
+use Rattle.says.proofs.Behind.{NoneUpTo, from_start, from_again, from_found, from_none}
+use Prim.Native.Nat.{◌<◌, ◌+◌}
+use mathlib.Core.List.{List}
+use native.Mathlib.Omega.{arith}
+use borrow.Author.Rules.{rules}
+use Rattle.loops.proofs.misorders.Goals as goal
+
+pub loop-left-init : goal.loop-left-init
+loop-left-init c = (omega (arith, c.count_at-left.ensures.1), λ ls q. from_start _ _ _ _ _ _ _ c.count_at-left.ensures.0 c.le_at-p.ensures)
+
+pub returns-then-misordered_at : goal.returns-then-misordered_at
+returns-then-misordered_at c = λ ls q. from_found _ _ _ _ _ _ _ _ _ (c.loop-left.invariant.1 ls q) c.loop-left-test.true (c.misordered_at.ensures ls q) c.if-misordered_at.true
+
+pub overflow_add-k : goal.overflow_add-k
+overflow_add-k c = omega (arith, c.loop-left.invariant.0, c.loop-left-test.true)
+
+pub loop-left-preserved : goal.loop-left-preserved
+loop-left-preserved c = (omega (arith, c.loop-left.invariant.0, c.loop-left-test.true), λ ls q. from_again _ _ _ _ _ _ _ _ _ _ (c.loop-left.invariant.1 ls q) c.loop-left-test.true c.items_at-p.ensures (c.misordered_at.ensures ls q) c.if-misordered_at.false)
+
+pub returns : goal.returns
+returns c = λ ls q. from_none _ _ _ _ _ _ _ _ (c.loop-left.invariant.1 ls q) c.loop-left-test.false

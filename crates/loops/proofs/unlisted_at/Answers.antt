@@ -1,0 +1,6 @@
+use Rattle.loops.proofs.Tangle.{unlisted_says}
+use borrow.Author.Rules.{rules}
+use Rattle.loops.proofs.unlisted_at.Goals as goal
+
+pub returns : goal.returns
+returns c = unlisted_says _ _ _ _ _ _ _ _ c.count_at-p.ensures.0 c.is_child.ensures

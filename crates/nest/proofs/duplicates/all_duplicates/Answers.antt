@@ -1,0 +1,29 @@
+use Rattle.nest.proofs.Reports.{Reported, reported_none, reported_more, reported_all, reported_length}
+use Rattle.nest.proofs.Bridge.{data-count-is}
+use Rattle.nest.specs.OfJob.{outline_of}
+use Rattle.nest.specs.NestFindings.{duplicates}
+use native.Mathlib.Omega.{arith}
+use Prim.Native.Nat.{◌-◌, ◌≤◌}
+use mathlib.Core.Path.{◌≡◌, refl, sym, ◌∙◌}
+use lib.ListN.{length}
+use Rattle.format.specs.Sections.{job_of}
+use borrow.Author.Rules.{rules}
+use Rattle.nest.proofs.duplicates.all_duplicates.Reads as reads
+use Rattle.nest.proofs.duplicates.all_duplicates.Lts as lts
+use Rattle.lent.proofs.more.Reads as more-reads
+use Rattle.nest.proofs.duplicates.table_duplicates.Reads as table-duplicates-reads
+use Rattle.tables.proofs.data.data_count.Reads as data-count-reads
+use Rattle.nest.proofs.duplicates.all_duplicates.Goals as goal
+use Rattle.nest.proofs.duplicates.all_duplicates.Goals.{Start}
+
+pub loop-t-init : goal.loop-t-init
+loop-t-init c = (reported_none _ _ _ _ _ c.more-next.ensures, omega arith)
+
+pub loop-t-preserved : goal.loop-t-preserved
+loop-t-preserved c = (reported_more _ _ _ _ _ _ _ _ _ _ (omega (arith, (goal.at.loop-t-preserved c).Start)) (c.data_count-count.ensures ∙ sym (data-count-is _)) c.loop-t-test.true c.loop-t.invariant.0 c.table_duplicates-next.ensures, omega arith)
+
+pub shape_of-findings : goal.shape_of-findings
+shape_of-findings c = reported_length _ _ _ _ _ _ _ c.loop-t.invariant.0
+
+pub returns : goal.returns
+returns c = reported_all _ _ _ _ _ _ _ _ _ (c.data_count-count.ensures ∙ sym (data-count-is _)) c.loop-t-test.false refl c.loop-t.invariant.0

@@ -1,0 +1,19 @@
+use Rattle.nest.proofs.Reports.{stored_nothing, stored_finding, duplicate_no, duplicate_own, duplicate_yes, duplicate_words}
+use native.Mathlib.Omega.{arith}
+use borrow.Author.Rules.{rules}
+use Rattle.nest.proofs.duplicates.duplicate_at.Reads as reads
+use Rattle.nest.proofs.duplicates.duplicate_at.Lts as lts
+use Rattle.lent.proofs.more.Reads as more-reads
+use Rattle.lent.proofs.put_words.Reads as note-words-reads
+use Rattle.nest.proofs.keys.first_with.Reads as first-with-reads
+use Rattle.tables.proofs.data.key.Reads as key_reads
+use Rattle.nest.proofs.duplicates.duplicate_at.Goals as goal
+
+pub returns-then-f-r : goal.returns-then-f-r
+returns-then-f-r c = stored_finding _ _ _ _ _ _ _ (duplicate_yes _ _ _ _ c.requires.1 c.key-key.ensures _ c.first_with-found.ensures _ c.in-Row.is c.if-f-r.true) (duplicate_words _ _ _ _ c.requires.1 c.key-key.ensures _ c.first_with-found.ensures _) c.note_words.ensures
+
+pub returns-in-Row : goal.returns-in-Row
+returns-in-Row c = stored_nothing _ _ _ _ (duplicate_own _ _ _ _ c.requires.1 c.key-key.ensures _ c.first_with-found.ensures _ c.in-Row.is c.if-f-r.false) c.more.ensures
+
+pub returns-in-Nothing : goal.returns-in-Nothing
+returns-in-Nothing c = stored_nothing _ _ _ _ (duplicate_no _ _ _ _ c.requires.1 c.key-key.ensures _ c.first_with-found.ensures c.in-Nothing.is) c.more-in-Nothing.ensures

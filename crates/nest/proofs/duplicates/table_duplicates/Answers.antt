@@ -1,0 +1,37 @@
+use Rattle.nest.proofs.Reports.{Reported, reported_none, reported_more, reported_all, reported_length, stored_nothing}
+use Rattle.nest.proofs.FindingLaws.{duplicates_all}
+use Rattle.nest.proofs.Bridge.{rows_is}
+use Rattle.nest.specs.OfJob.{outline_of}
+use Rattle.nest.specs.NestFindings.{duplicate_at}
+use Rattle.nest.specs.Outline.{row_count}
+use native.Mathlib.Omega.{arith}
+use Prim.Native.Nat.{◌-◌, ◌≤◌}
+use mathlib.Core.Path.{◌≡◌, refl, sym, ◌∙◌}
+use Rattle.format.specs.Sections.{job_of}
+use borrow.Author.Rules.{rules}
+use Rattle.nest.proofs.duplicates.table_duplicates.Reads as reads
+use Rattle.nest.proofs.duplicates.table_duplicates.Lts as lts
+use Rattle.lent.proofs.more.Reads as more-reads
+use Rattle.nest.proofs.duplicates.duplicate_at.Reads as duplicate-at-reads
+use Rattle.nest.proofs.keys.may_repeat.Reads as may-repeat-reads
+use Rattle.tables.proofs.data.row_count.Reads as row-count-reads
+use Rattle.nest.proofs.duplicates.table_duplicates.Goals as goal
+use Rattle.nest.proofs.duplicates.table_duplicates.Goals.{Start}
+
+pub loop-r-init : goal.loop-r-init
+loop-r-init c = (reported_none _ _ _ _ _ c.more-next.ensures, omega arith)
+
+pub duplicate_at-next-requires : goal.duplicate_at-next-requires
+duplicate_at-next-requires c = (c.requires.0, (c.may_repeat-doubtful.ensures _ c.requires.1).keyed c.if-doubtful.true)
+
+pub loop-r-preserved : goal.loop-r-preserved
+loop-r-preserved c = (reported_more _ _ _ _ _ _ _ _ _ _ (omega (arith, (goal.at.loop-r-preserved c).Start)) (c.row_count-n.ensures ∙ sym (rows_is _ _)) c.loop-r-test.true c.loop-r.invariant.0 c.duplicate_at-next.ensures, omega arith)
+
+pub shape_of-findings-then-doubtful : goal.shape_of-findings-then-doubtful
+shape_of-findings-then-doubtful c = reported_length _ _ _ _ _ _ _ c.loop-r.invariant.0
+
+pub returns-then-doubtful : goal.returns-then-doubtful
+returns-then-doubtful c = reported_all _ _ _ _ _ _ _ _ _ (c.row_count-n.ensures ∙ sym (rows_is _ _)) c.loop-r-test.false (duplicates_all _ _) c.loop-r.invariant.0
+
+pub returns : goal.returns
+returns c = stored_nothing _ _ _ _ ((c.may_repeat-doubtful.ensures _ c.requires.1).single c.if-doubtful.false) c.more-next.ensures

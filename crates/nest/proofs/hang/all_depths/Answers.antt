@@ -1,0 +1,22 @@
+use Rattle.nest.proofs.Claiming.{Sounded, sounded_none, sounded_next, sounded_end, depth_fits}
+use Rattle.nest.specs.OfJob.{outline_of}
+use native.Mathlib.Omega.{arith}
+use Prim.Native.Nat.{◌-◌, ◌≤◌}
+use Rattle.format.specs.Sections.{job_of}
+use borrow.Author.Rules.{rules}
+use Rattle.nest.proofs.hang.all_depths.Reads as reads
+use Rattle.nest.proofs.hang.all_depths.Lts as lts
+use Rattle.nest.proofs.hang.depth.Reads as depth-reads
+use Rattle.nest.proofs.hang.all_depths.Goals as goal
+
+pub loop-l-init : goal.loop-l-init
+loop-l-init c = (sounded_none _, omega arith)
+
+pub overflow_cast-depths : goal.overflow_cast-depths
+overflow_cast-depths c = omega (arith, depth_fits _ _ _ c.requires.spec.few_loops c.depth-d.ensures)
+
+pub loop-l-preserved : goal.loop-l-preserved
+loop-l-preserved c = (sounded_next _ _ _ _ c.loop-l-test.true c.loop-l.invariant.0 c.depth-d.ensures, omega arith)
+
+pub returns : goal.returns
+returns c = sounded_end _ _ _ c.loop-l.invariant.0 c.loop-l-test.false

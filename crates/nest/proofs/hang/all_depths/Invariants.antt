@@ -1,0 +1,16 @@
+use Rattle.nest.proofs.Claiming.{Sounded, sounded_none, sounded_next, sounded_end, depth_fits}
+use Rattle.nest.specs.OfJob.{outline_of}
+use native.Mathlib.Omega.{arith}
+use Prim.Native.Nat.{◌-◌, ◌≤◌}
+use Rattle.format.specs.Sections.{job_of}
+use borrow.Author.Rules.{rules}
+use Rattle.nest.proofs.hang.all_depths.Reads as reads
+use Rattle.nest.proofs.hang.all_depths.Lts as lts
+use Rattle.nest.proofs.hang.depth.Reads as depth-reads
+use Rattle.nest.proofs.hang.all_depths.Given as goal
+
+abbrev pub invariant-loop-l : goal.invariant-loop-l
+invariant-loop-l l = Sounded (outline_of (job_of l.job)) l.l l.depths × (l.l ≤ 32)
+
+abbrev pub decreases-loop-l : goal.decreases-loop-l
+decreases-loop-l l = 32 - l.l

@@ -1,0 +1,15 @@
+use Rattle.nest.proofs.Claiming.{anchor_here, anchor_elsewhere}
+use mathlib.Core.Path.{◌∙◌}
+use borrow.Author.Rules.{rules}
+use Rattle.nest.proofs.hang.anchor.Reads as reads
+use Rattle.nest.proofs.hang.anchor.Lts as lts
+use Rattle.nest.proofs.hang.depth_at.Reads as depth-at-reads
+use Rattle.nest.proofs.hang.row_table.Reads as row-table-reads
+use Rattle.plan.proofs.planned.instances.Reads as instances-reads
+use Rattle.nest.proofs.hang.anchor.Goals as goal
+
+pub returns-then-n-d : goal.returns-then-n-d
+returns-then-n-d c = anchor_here _ _ _ _ (c.depth_at-n.ensures ∙ c.requires.1.of _ c.requires.2) _ _ c.if-n-d.true c.instances.ensures c.row_table.ensures
+
+pub returns : goal.returns
+returns c = anchor_elsewhere _ _ _ _ (c.depth_at-n.ensures ∙ c.requires.1.of _ c.requires.2) c.if-n-d.false

@@ -1,0 +1,23 @@
+use Rattle.nest.proofs.Claiming.{loop_small, within_none, within_next, within_all}
+use Rattle.nest.specs.Keys.{Within}
+use Rattle.nest.specs.OfJob.{outline_of}
+use Rattle.format.specs.Sections.{job_of}
+use native.Mathlib.Omega.{arith}
+use Prim.Native.Nat.{◌-◌, ◌≤◌}
+use mathlib.Core.Path.{◌∙◌}
+use borrow.Author.Rules.{rules}
+use Rattle.nest.proofs.hang.deepest.Goals as goal
+
+pub loop-i-init : goal.loop-i-init
+loop-i-init c = (within_none _ _ _, omega arith)
+
+pub depth_at-requires : goal.depth_at-requires
+depth_at-requires c = loop_small _ c.requires.0.passed _ _ _ _ c.table_loop_count-n.ensures c.loop-i-test.true c.table_loop-l.ensures
+
+pub loop-i-preserved : goal.loop-i-preserved
+loop-i-preserved c =
+    let small = loop_small _ c.requires.0.passed _ _ _ _ c.table_loop_count-n.ensures c.loop-i-test.true c.table_loop-l.ensures in
+    (within_next _ _ _ _ _ _ _ c.loop-i.invariant.0 c.table_loop-l.ensures (c.depth_at.ensures ∙ c.requires.1.of _ small) (omega (arith, c.greater-d.ensures)) (omega (arith, c.greater-d.ensures)), omega arith)
+
+pub returns : goal.returns
+returns c = within_all _ _ _ _ _ c.loop-i.invariant.0 c.table_loop_count-n.ensures c.loop-i-test.false

@@ -1,0 +1,23 @@
+use Rattle.nest.proofs.Rising.{Marked, marked_none, marked_next, marked_end}
+use Rattle.nest.specs.OfJob.{outline_of}
+use native.Mathlib.Omega.{arith}
+use Prim.Native.Nat.{◌-◌, ◌≤◌}
+use Rattle.format.specs.Sections.{job_of}
+use borrow.Author.Rules.{rules}
+use Rattle.nest.proofs.keys.all_keys.Reads as reads
+use Rattle.nest.proofs.keys.all_keys.Lts as lts
+use Rattle.nest.proofs.keys.keys_of.Reads as keys-of-reads
+use Rattle.tables.proofs.data.data_count.Reads as data-count-reads
+use Rattle.nest.proofs.keys.all_keys.Goals as goal
+
+pub loop-u-init : goal.loop-u-init
+loop-u-init c = (marked_none _, omega arith)
+
+pub bounds-keys-i : goal.bounds-keys-i
+bounds-keys-i c = omega (arith, c.requires.tables.few, c.data_count-count.ensures)
+
+pub loop-u-preserved : goal.loop-u-preserved
+loop-u-preserved c = (marked_next _ _ _ _ (omega (arith, c.requires.tables.few, c.data_count-count.ensures)) c.loop-u.invariant.0 c.keys_of-k.ensures, omega arith)
+
+pub returns : goal.returns
+returns c = marked_end _ _ _ _ c.loop-u.invariant.0 c.data_count-count.ensures c.loop-u-test.false

@@ -1,0 +1,23 @@
+use Rattle.nest.proofs.Rising.{Climbing, climbing_first, climbing_next, climbing_end}
+use Rattle.nest.specs.OfJob.{outline_of}
+use Prim.Native.Nat.{◌-◌}
+use mathlib.Core.Bool.{false≢true}
+use Rattle.format.specs.Sections.{job_of}
+use borrow.Author.Rules.{rules}
+use Rattle.nest.proofs.keys.ascends.Reads as reads
+use Rattle.nest.proofs.keys.ascends.Lts as lts
+use Rattle.tables.proofs.data.key.Reads as key_reads
+use Rattle.tables.proofs.data.row_count.Reads as row-count-reads
+use Rattle.nest.proofs.keys.ascends.Goals as goal
+
+pub loop-k-init : goal.loop-k-init
+loop-k-init c = climbing_first _ _ _ c.key-last.ensures
+
+pub returns-then-key-last : goal.returns-then-key-last
+returns-then-key-last c = λ z. absurd (false≢true z)
+
+pub loop-k-preserved : goal.loop-k-preserved
+loop-k-preserved c = climbing_next _ _ _ _ _ c.loop-k.invariant c.key-key.ensures c.if-key-last.false
+
+pub returns : goal.returns
+returns c = λ z. climbing_end _ _ _ _ _ c.loop-k.invariant c.row_count-n.ensures c.loop-k-test.false

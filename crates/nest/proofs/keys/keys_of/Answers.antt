@@ -1,0 +1,17 @@
+use Rattle.nest.proofs.NestLaws.{keyless}
+use mathlib.Core.Path.{sym, ◌∙◌}
+use borrow.Author.Rules.{rules}
+use Rattle.nest.proofs.keys.keys_of.Reads as reads
+use Rattle.nest.proofs.keys.keys_of.Lts as lts
+use Rattle.nest.proofs.keys.ascends.Reads as ascends-reads
+use Rattle.nest.proofs.keys.has_keys.Reads as has-keys-reads
+use Rattle.nest.proofs.keys.keys_of.Goals as goal
+
+pub returns-then-rising : goal.returns-then-rising
+returns-then-rising c = (sym c.has_keys-keyed.ensures ∙ c.if-keyed.true, c.ascends-rising.ensures c.if-rising.true)
+
+pub returns-then-keyed : goal.returns-then-keyed
+returns-then-keyed c = sym c.has_keys-keyed.ensures ∙ c.if-keyed.true
+
+pub returns : goal.returns
+returns c = λ v. keyless _ _ v (sym c.has_keys-keyed.ensures ∙ c.if-keyed.false)

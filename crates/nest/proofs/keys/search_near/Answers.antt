@@ -1,0 +1,13 @@
+use Rattle.nest.proofs.Rising.{key_here}
+use borrow.Author.Rules.{rules}
+use Rattle.nest.proofs.keys.search_near.Reads as reads
+use Rattle.nest.proofs.keys.search_near.Lts as lts
+use Rattle.nest.proofs.keys.is_key.Reads as is-key-reads
+use Rattle.nest.proofs.keys.search.Reads as search-reads
+use Rattle.nest.proofs.keys.search_near.Goals as goal
+
+pub returns-then-same : goal.returns-then-same
+returns-then-same c = key_here _ _ _ _ c.requires.1 (c.is_key-same.ensures c.if-same.true)
+
+pub returns-then-next : goal.returns-then-next
+returns-then-next c = key_here _ _ _ _ c.requires.1 (c.is_key-next.ensures c.if-next.true)

@@ -1,0 +1,17 @@
+use Prim.Native.Nat.{ℕ, ◌-◌, ◌≤◌}
+use mathlib.Core.Path.{◌≡◌, refl}
+use native.Mathlib.Omega.{arith}
+use Rattle.format.specs.Sections.{job_of}
+use Rattle.format.specs.Ask as A
+use Rattle.tables.specs.Parts as T
+use Rattle.nest.specs.OfJob.{outline_of}
+use Rattle.nest.specs.Rising.{falls}
+use Rattle.nest.proofs.RisingRows.{falls_from, falls_start, place_within, falls_yes, falls_no, falls_never}
+use borrow.Author.Rules.{rules}
+use Rattle.nest.proofs.order.falls.Given as goal
+
+abbrev pub invariant-loop-k : goal.invariant-loop-k
+invariant-loop-k l = ((t : ℕ) → l.base ≡ T.rows_before (job_of l.job).tables t → l.rows ≡ (A.data_of (job_of l.job) t).rows → falls (outline_of (job_of l.job)) t ≡ falls_from (outline_of (job_of l.job)) t l.k) × (1 ≤ l.k)
+
+abbrev pub decreases-loop-k : goal.decreases-loop-k
+decreases-loop-k l = l.rows - l.k

@@ -1,0 +1,12 @@
+use native.Mathlib.Omega.{arith}
+use Prim.Native.Nat.{◌-◌}
+use mathlib.Core.Path.{refl}
+use Rattle.nest.proofs.RisingRows.{Between, between_all, between_low, between_high, parted}
+use borrow.Author.Rules.{rules}
+use Rattle.nest.proofs.order.first_at.Given as goal
+
+abbrev pub invariant-loop-low : goal.invariant-loop-low
+invariant-loop-low l = Between l.nest l.base l.from l.rows l.above l.low l.high
+
+abbrev pub decreases-loop-low : goal.decreases-loop-low
+decreases-loop-low l = l.high - l.low

@@ -1,0 +1,19 @@
+use Prim.Native.Nat.{◌+◌, ◌-◌, ◌≤◌}
+use mathlib.Core.Path.{sym, ◌∙◌}
+use native.Mathlib.Omega.{arith}
+use lib.ListN.{length}
+use Rattle.format.specs.Sections.{job_of}
+use Rattle.nest.specs.Found.{ArrayIs}
+use Rattle.nest.specs.OfJob.{outline_of}
+use Rattle.nest.specs.Rising.{rising_flag}
+use Rattle.nest.proofs.Bridge.{data-count-is}
+use Rattle.nest.proofs.Placing.{Storing, storing_none, storing_next, storing_end}
+use Rattle.nest.proofs.RisingRows.{flagged, flags_all, array_kept}
+use borrow.Author.Rules.{rules}
+use Rattle.nest.proofs.order.mark_rising.Given as goal
+
+abbrev pub invariant-loop-t : goal.invariant-loop-t
+invariant-loop-t l = Storing (rising_flag (outline_of (job_of l.job))) (length (outline_of (job_of l.job)).row_counts) l.initial.nest l.flags l.nest (l.flags + l.t) l.t × ArrayIs (outline_of (job_of l.job)) l.nest × (l.t ≤ l.count)
+
+abbrev pub decreases-loop-t : goal.decreases-loop-t
+decreases-loop-t l = l.count - l.t

@@ -1,0 +1,28 @@
+use Rattle.nest.proofs.Lacking.{against, against_all, against_one}
+use Rattle.nest.proofs.Reports.{Reported, reported_none, reported_more, reported_all, reported_length}
+use lib.ListN.{length}
+use native.Mathlib.Omega.{arith}
+use Prim.Native.Nat.{◌-◌, ◌≤◌}
+use Rattle.format.specs.Ask as A
+use Rattle.format.specs.Sections.{job_of}
+use borrow.Author.Rules.{rules}
+use Rattle.nest.proofs.report.contradictions.Reads as reads
+use Rattle.nest.proofs.report.contradictions.Lts as lts
+use Rattle.lent.proofs.more.Reads as more-reads
+use Rattle.nest.proofs.report.contradiction_at.Reads as contradiction-at-reads
+use Rattle.spec.proofs.tables.ancestor.Reads as ancestor-reads
+use Rattle.spec.proofs.tables.ancestor_count.Reads as ancestor-count-reads
+use Rattle.nest.proofs.report.contradictions.Goals as goal
+use Rattle.nest.proofs.report.contradictions.Goals.{Start}
+
+pub loop-k-init : goal.loop-k-init
+loop-k-init c = (reported_none _ _ _ _ _ c.more-next.ensures, omega arith)
+
+pub loop-k-preserved : goal.loop-k-preserved
+loop-k-preserved c = (reported_more _ _ _ _ _ _ _ _ _ _ (omega (arith, (goal.at.loop-k-preserved c).Start)) c.ancestor_count-count.ensures c.loop-k-test.true c.loop-k.invariant.0 (against_one _ _ _ _ _ _ _ _ _ _ _ c.ancestor-a.ensures c.contradiction_at-next.ensures), omega arith)
+
+pub shape_of-findings : goal.shape_of-findings
+shape_of-findings c = reported_length _ _ _ _ _ _ _ c.loop-k.invariant.0
+
+pub returns : goal.returns
+returns c = reported_all _ _ _ _ _ _ _ _ _ c.ancestor_count-count.ensures c.loop-k-test.false (against_all _ _ _ _ _) c.loop-k.invariant.0

@@ -1,0 +1,21 @@
+use Rattle.nest.proofs.Lacking.{against, against_all, against_one}
+use Rattle.nest.proofs.Reports.{Reported, reported_none, reported_more, reported_all, reported_length}
+use lib.ListN.{length}
+use native.Mathlib.Omega.{arith}
+use Prim.Native.Nat.{◌-◌, ◌≤◌}
+use Rattle.format.specs.Ask as A
+use Rattle.format.specs.Sections.{job_of}
+use borrow.Author.Rules.{rules}
+use Rattle.nest.proofs.report.contradictions.Reads as reads
+use Rattle.nest.proofs.report.contradictions.Lts as lts
+use Rattle.lent.proofs.more.Reads as more-reads
+use Rattle.nest.proofs.report.contradiction_at.Reads as contradiction-at-reads
+use Rattle.spec.proofs.tables.ancestor.Reads as ancestor-reads
+use Rattle.spec.proofs.tables.ancestor_count.Reads as ancestor-count-reads
+use Rattle.nest.proofs.report.contradictions.Given as goal
+
+abbrev pub invariant-loop-k : goal.invariant-loop-k
+invariant-loop-k l = Reported (against (job_of l.job) l.t.0 l.r.0 l.u.0 l.p.0) (length (A.table_of (job_of l.job) l.u.0).ancestors) l.initial.findings l.at l.findings l.next l.k × (l.k ≤ l.count)
+
+abbrev pub decreases-loop-k : goal.decreases-loop-k
+decreases-loop-k l = l.count - l.k

@@ -1,0 +1,14 @@
+use Rattle.nest.proofs.Lacking.{lacks_claim, lacks_anchor, missing_some, missing_none}
+use Rattle.nest.proofs.Reports.{stored_finding}
+use borrow.Author.Rules.{rules}
+use Rattle.nest.proofs.report.repeat_missing.Reads as reads
+use Rattle.nest.proofs.report.repeat_missing.Lts as lts
+use Rattle.lent.proofs.put_words.Reads as note-words-reads
+use Rattle.nest.proofs.hang.claim.Reads as claim-reads
+use Rattle.nest.proofs.report.repeat_missing.Goals as goal
+
+pub returns-in-Is : goal.returns-in-Is
+returns-in-Is c = stored_finding _ _ _ _ _ _ _ (lacks_claim _ _ _ c.requires.2 _ c.claim-anchored.ensures _ c.in-Is.is) (missing_some _ _ _ _) c.note_words.ensures
+
+pub returns-in-Nothing : goal.returns-in-Nothing
+returns-in-Nothing c = stored_finding _ _ _ _ _ _ _ (lacks_anchor _ _ _ c.requires.2 _ c.claim-anchored.ensures _ c.in-Nothing.is) (missing_none _ _ _) c.note_words-in-Nothing.ensures

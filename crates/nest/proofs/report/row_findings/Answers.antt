@@ -1,0 +1,24 @@
+use Rattle.nest.proofs.Stored.{numbers_within, row_placed_lem, row_unplaced}
+use Rattle.nest.proofs.Lacking.{stored_as}
+use native.Mathlib.Omega.{arith}
+use mathlib.Core.Path.{sym, ◌∙◌}
+use borrow.Author.Rules.{rules}
+use Rattle.nest.proofs.report.row_findings.Reads as reads
+use Rattle.nest.proofs.report.row_findings.Lts as lts
+use Rattle.nest.proofs.report.contradictions.Reads as contradictions-reads
+use Rattle.nest.proofs.report.missing.Reads as missing-reads
+use Rattle.nest.proofs.row_above.Reads as row-above-reads
+use Rattle.nest.proofs.table_above.Reads as table-above-reads
+use Rattle.nest.proofs.report.row_findings.Goals as goal
+
+pub row_above-above-requires : goal.row_above-above-requires
+row_above-above-requires c = omega (arith, numbers_within _ _ c.requires.1 _ _ _ c.requires.3 c.requires.4)
+
+pub table_above-table-requires : goal.table_above-table-requires
+table_above-table-requires c = numbers_within _ _ c.requires.1 _ _ _ c.requires.3 c.requires.4
+
+pub returns-in-Row : goal.returns-in-Row
+returns-in-Row c = stored_as _ _ _ _ _ _ (row_placed_lem _ _ c.requires.1 _ _ _ c.requires.3 c.requires.4 _ c.row_above-above.ensures _ _ c.in-Row.is c.table_above-table.ensures) c.contradictions.ensures
+
+pub returns-in-Nothing : goal.returns-in-Nothing
+returns-in-Nothing c = stored_as _ _ _ _ _ _ (row_unplaced _ _ c.requires.1 _ _ _ c.requires.3 c.requires.4 _ c.row_above-above.ensures c.in-Nothing.is) c.missing.ensures

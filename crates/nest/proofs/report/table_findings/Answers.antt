@@ -1,0 +1,34 @@
+use Rattle.nest.proofs.Reports.{Reported, reported_none, reported_more, reported_all, reported_length}
+use Rattle.nest.proofs.FindingLaws.{table_all}
+use Rattle.nest.proofs.Bridge.{rows_is}
+use Rattle.nest.specs.OfJob.{outline_of}
+use Rattle.nest.specs.NestFindings.{row_findings}
+use Rattle.nest.specs.Outline.{row_count}
+use native.Mathlib.Omega.{arith}
+use Prim.Native.Nat.{◌-◌, ◌≤◌}
+use mathlib.Core.Path.{sym, ◌∙◌}
+use Rattle.format.specs.Sections.{job_of}
+use borrow.Author.Rules.{rules}
+use Rattle.nest.proofs.report.table_findings.Reads as reads
+use Rattle.nest.proofs.report.table_findings.Lts as lts
+use Rattle.lent.proofs.more.Reads as more-reads
+use Rattle.nest.proofs.report.row_findings.Reads as row-findings-reads
+use Rattle.tables.proofs.data.first_row.Reads as first-row-reads
+use Rattle.tables.proofs.data.row_count.Reads as row-count-reads
+use Rattle.nest.proofs.report.table_findings.Goals as goal
+use Rattle.nest.proofs.report.table_findings.Goals.{Start}
+
+pub loop-r-init : goal.loop-r-init
+loop-r-init c = (reported_none _ _ _ _ _ c.more-next.ensures, omega arith)
+
+pub row_findings-next-requires : goal.row_findings-next-requires
+row_findings-next-requires c = (c.requires.0, c.requires.1, c.requires.2, c.first_row-base.ensures, omega (arith, c.loop-r-test.true, c.row_count-n.ensures, rows_is (job_of c.args.job.now) c.args.t.0))
+
+pub loop-r-preserved : goal.loop-r-preserved
+loop-r-preserved c = (reported_more _ _ _ _ _ _ _ _ _ _ (omega (arith, (goal.at.loop-r-preserved c).Start)) (c.row_count-n.ensures ∙ sym (rows_is _ _)) c.loop-r-test.true c.loop-r.invariant.0 c.row_findings-next.ensures, omega arith)
+
+pub shape_of-findings : goal.shape_of-findings
+shape_of-findings c = reported_length _ _ _ _ _ _ _ c.loop-r.invariant.0
+
+pub returns : goal.returns
+returns c = reported_all _ _ _ _ _ _ _ _ _ (c.row_count-n.ensures ∙ sym (rows_is _ _)) c.loop-r-test.false (table_all _ _) c.loop-r.invariant.0

@@ -1,0 +1,34 @@
+use Rattle.nest.proofs.Placing.{Storing, storing_none, storing_next, storing_end, table_next, before_all}
+use Rattle.nest.proofs.Bridge.{data-count-is}
+use Rattle.nest.proofs.NestLaws.{array_all}
+use Rattle.nest.specs.OfJob.{outline_of}
+use Rattle.nest.specs.Nest.{table_array}
+use lib.ListN.{length}
+use native.Mathlib.Omega.{arith}
+use Prim.Native.Nat.{◌+◌, ◌*◌, ◌-◌, ◌≤◌}
+use mathlib.Core.Path.{◌≡◌, refl, sym, ap, ◌∙◌}
+use Rattle.tables.specs.Parts.{rows_before}
+use Rattle.format.specs.Sections.{job_of}
+use borrow.Author.Rules.{rules}
+use Rattle.nest.proofs.rows.nest_rows.Reads as reads
+use Rattle.nest.proofs.rows.nest_rows.Lts as lts
+use Rattle.nest.proofs.hang.all_depths.Reads as all-depths-reads
+use Rattle.nest.proofs.keys.all_keys.Reads as all-keys-reads
+use Rattle.nest.proofs.rows.nest_table.Reads as nest-table-reads
+use Rattle.tables.proofs.data.data_count.Reads as data-count-reads
+use Rattle.nest.proofs.rows.nest_rows.Goals as goal
+
+pub loop-t-init : goal.loop-t-init
+loop-t-init c = (storing_none _ _ _ _ _ (ap (λ k. k * 3) (before_all _)), omega arith)
+
+pub nest_table-requires : goal.nest_table-requires
+nest_table-requires c = (c.requires.0, c.all_keys-keys.ensures, c.all_depths-depths.ensures, omega (arith, c.loop-t.invariant.0.long, c.requires.1))
+
+pub loop-t-preserved : goal.loop-t-preserved
+loop-t-preserved c = (storing_next _ _ _ _ _ _ _ _ _ _ c.loop-t.invariant.0 (c.data_count-count.ensures ∙ sym (data-count-is _)) c.loop-t-test.true c.nest_table.ensures (table_next _ _), omega arith)
+
+pub shape_of-nest : goal.shape_of-nest
+shape_of-nest c = c.loop-t.invariant.0.long
+
+pub returns : goal.returns
+returns c = storing_end _ _ _ _ _ _ _ _ _ c.loop-t.invariant.0 (c.data_count-count.ensures ∙ sym (data-count-is _)) c.loop-t-test.false (array_all _)

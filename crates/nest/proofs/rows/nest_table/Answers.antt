@@ -1,0 +1,40 @@
+use Rattle.nest.proofs.Placing.{Storing, storing_none, storing_next, storing_end, room_for, stored_row, row_next}
+use lib.Seq.{sets}
+use Rattle.nest.proofs.Bridge.{rows_is}
+use Rattle.nest.proofs.NestLaws.{table_array_all}
+use Rattle.nest.specs.OfJob.{outline_of}
+use Rattle.nest.specs.Nest.{nest_record, table_array}
+use Rattle.nest.specs.Outline.{row_count}
+use lib.ListN.{length}
+use native.Mathlib.Omega.{arith}
+use Prim.Native.Nat.{◌+◌, ◌*◌, ◌-◌, ◌≤◌}
+use mathlib.Core.Path.{◌≡◌, refl, sym, ap, ◌∙◌}
+use Rattle.tables.specs.Parts.{rows_before}
+use Rattle.format.specs.Sections.{job_of}
+use borrow.Author.Rules.{rules}
+use Rattle.nest.proofs.rows.nest_table.Reads as reads
+use Rattle.nest.proofs.rows.nest_table.Lts as lts
+use Rattle.nest.proofs.hang.line_of.Reads as line-of-reads
+use Rattle.nest.proofs.hang.place_of.Reads as place-of-reads
+use Rattle.nest.proofs.put_record.Reads as put-record-reads
+use Rattle.tables.proofs.data.first_row.Reads as first-row-reads
+use Rattle.tables.proofs.data.row_count.Reads as row-count-reads
+use Rattle.nest.proofs.rows.nest_table.Goals as goal
+
+pub loop-r-init : goal.loop-r-init
+loop-r-init c = (storing_none _ _ _ _ _ (omega (arith, c.first_row-first.ensures)), omega arith)
+
+pub overflow_add-first : goal.overflow_add-first
+overflow_add-first c = omega (arith, c.requires.0.tables.few_rows, room_for _ _ _ _ _ c.first_row-first.ensures c.row_count-n.ensures c.loop-r-test.true)
+
+pub put_record-requires : goal.put_record-requires
+put_record-requires c = omega (arith, c.loop-r.invariant.0.long, c.requires.3, room_for _ _ _ _ _ c.first_row-first.ensures c.row_count-n.ensures c.loop-r-test.true)
+
+pub loop-r-preserved : goal.loop-r-preserved
+loop-r-preserved c = (storing_next _ _ _ _ _ _ _ _ _ _ c.loop-r.invariant.0 (c.row_count-n.ensures ∙ sym (rows_is _ _)) c.loop-r-test.true (stored_row _ _ _ _ _ _ _ _ c.place_of-p.ensures refl c.put_record.ensures) (row_next _ _ _ _), omega arith)
+
+pub shape_of-nest : goal.shape_of-nest
+shape_of-nest c = c.loop-r.invariant.0.long
+
+pub returns : goal.returns
+returns c = storing_end _ _ _ _ _ _ _ _ _ c.loop-r.invariant.0 (c.row_count-n.ensures ∙ sym (rows_is _ _)) c.loop-r-test.false (table_array_all _ _)

@@ -1,0 +1,14 @@
+use Prim.Native.Nat.{ℕ}
+use mathlib.Core.Path.{ap}
+use lib.ListN.{take}
+use Rattle.segment.specs.Pen.{one_of}
+use Rattle.segment.proofs.Texts.{any_none}
+use borrow.Author.Rules.{rules}
+use Rattle.segment.proofs.own_holds.Goals as goal
+
+pub returns-then-v-eq0 : goal.returns-then-v-eq0
+returns-then-v-eq0 c =
+    let a = c.args in any_none (one_of a.a a.b a.c a.d) (take a.v.count a.v.bytes) (ap (λ (n : ℕ). take n a.v.bytes) c.if-v-eq0.true)
+
+pub returns : goal.returns
+returns c = c.stretch_holds.ensures

@@ -1,0 +1,17 @@
+use Prim.Native.Nat.{◌≤◌}
+use native.Mathlib.Omega.{arith}
+use lib.ListN.{length, replicate}
+use Rattle.lent.specs.Fit.{cap, stretch}
+use Rattle.lent.proofs.Laws.{stored_append}
+use borrow.Author.Rules.{rules}
+use Rattle.segment.proofs.put_back.Goals as goal
+use Rattle.segment.proofs.put_back.Goals.{Start}
+
+pub returns-then-v-eq0 : goal.returns-then-v-eq0
+returns-then-v-eq0 c = rw c.if-v-eq0.true c.put_run.ensures
+
+pub returns : goal.returns
+returns c =
+    let a = c.args in
+    let h : length a.doc.now ≤ cap = omega (arith, (goal.at.returns c).Start) in
+    stored_append (stretch a.job.now a.v.start a.v.len) (replicate a.v.spaces 32) h c.put_stretch-a.ensures c.put_run-2.ensures

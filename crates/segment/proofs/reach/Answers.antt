@@ -1,0 +1,15 @@
+use Prim.Native.Nat.{◌≤◌}
+use native.Mathlib.Omega.{arith}
+use lib.ListN.{length}
+use Rattle.lent.specs.Fit.{cap}
+use Rattle.segment.proofs.Strokes.{penned_reach}
+use borrow.Author.Rules.{rules}
+use Rattle.segment.proofs.reach.Goals as goal
+use Rattle.segment.proofs.reach.Goals.{Start}
+
+pub returns : goal.returns
+returns c =
+    let a = c.args in
+    let h : length a.doc.now ≤ cap = omega (arith, (goal.at.returns c).Start) in
+    penned_reach a.s a.pen a.p a.c c.components_in-stand.ensures c.less-behind.ensures c.less-m.ensures c.less-n.ensures h
+    c.put_run-a.ensures c.put_run-b.ensures

@@ -1,0 +1,13 @@
+use Prim.Native.Nat.{◌+◌, ◌-◌}
+use mathlib.Core.Path.{◌≡◌}
+use lib.ListN.{length, drop}
+use borrow.Author.Rules.{rules}
+use Rattle.segment.specs.Reading.{run}
+use Rattle.segment.proofs.Placed.{found_here, found_next, found_end}
+use Rattle.segment.proofs.read.find.Given as goal
+
+abbrev pub invariant-loop-i : goal.invariant-loop-i
+invariant-loop-i l = l.at + run l.b (drop l.at l.document) ≡ l.i + run l.b (drop l.i l.document)
+
+abbrev pub decreases-loop-i : goal.decreases-loop-i
+decreases-loop-i l = length l.document - l.i

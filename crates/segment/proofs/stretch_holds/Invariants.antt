@@ -1,0 +1,16 @@
+use Prim.Native.Nat.{◌≤◌, ◌<◌, ◌-◌}
+use mathlib.Core.Path.{◌≡◌, sym, ◌∙◌, refl}
+use native.Mathlib.Omega.{arith}
+use lib.ListN.{length, drop}
+use Rattle.lent.specs.Fit.{stretch}
+use Rattle.lent.proofs.Laws.{length_stretch}
+use Rattle.segment.specs.Pen.{holds_any, one_of}
+use Rattle.segment.proofs.Texts.{any_turn, any_past}
+use borrow.Author.Rules.{rules}
+use Rattle.segment.proofs.stretch_holds.Given as goal
+
+abbrev pub invariant-loop-i : goal.invariant-loop-i
+invariant-loop-i l = (l.i ≤ l.n) × (holds_any (one_of l.a l.b l.c l.d) (stretch l.source l.start l.len) ≡ holds_any (one_of l.a l.b l.c l.d) (drop l.i (stretch l.source l.start l.len)))
+
+abbrev pub decreases-loop-i : goal.decreases-loop-i
+decreases-loop-i l = l.n - l.i
