@@ -1,5 +1,7 @@
 // How many instances the walk enters, up to one more than the limit of refusal 6, and a bound that mostly settles whether they are too many. A level of loops
 // is a level of calls: the instances of a loop and the items of an order are gone through by loops.
+#![tactic(auto)]
+
 ghost use Rattle.std.specs.Prelude.{◌≡◌, true, [], ℕ, ◌+◌, ◌*◌, ◌≤◌, ◌<◌, min, max, length, ltb};
 ghost use Rattle.nest.specs.Rising.{Climbs};
 ghost use Rattle.nest.specs.Outline.{item_loops, order_of};

@@ -1,1 +1,3 @@
 // A complete plan.
+#![tactic(auto)]
+

@@ -1,4 +1,6 @@
 // What data a loop and a segment have.
+#![tactic(auto)]
+
 ghost use Rattle.std.specs.Prelude.{◌≡◌, ◌<◌, ltb, ◌&&◌};
 ghost use Rattle.plan.specs.Answers.{item_of};
 ghost use Rattle.plan.specs.Planned.{PlannedIs};

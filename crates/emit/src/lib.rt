@@ -1,4 +1,6 @@
 // What the steps of the walk write: bytes, segments, findings, stops.
+#![tactic(auto)]
+
 pub mod cells;
 pub mod closer;
 pub mod envelope;

@@ -1,4 +1,6 @@
 // A row is entered: a finding where it is lower than the highest of its table yet entered, and a stop.
+#![tactic(auto)]
+
 ghost use Rattle.std.specs.Prelude.{◌≡◌, List, [], ◌∷◌, ℕ, ◌+◌, ◌*◌, ◌<◌, length};
 ghost use Rattle.lent.specs.Fit.{Noted};
 ghost use Rattle.spec.specs.Answers.{number_of};

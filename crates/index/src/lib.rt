@@ -1,4 +1,6 @@
 // The index of a job that passed: the places of its parts, so that nothing is looked for twice.
+#![tactic(auto)]
+
 ghost use Rattle.std.specs.Prelude.{◌≡◌, ◌≤◌, length};
 ghost use Rattle.format.specs.Passed.{Passed};
 ghost use Rattle.nest.specs.Ready.{Ready};

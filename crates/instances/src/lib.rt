@@ -1,4 +1,6 @@
 // The instances of a loop in a context, one after the other.
+#![tactic(auto)]
+
 ghost use Rattle.std.specs.Prelude.{◌≡◌, not, ◌<◌};
 ghost use Rattle.nest.specs.Lists.{is_empty_lem};
 ghost use Rattle.nest.specs.Ready.{outline_at};

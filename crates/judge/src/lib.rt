@@ -1,4 +1,6 @@
 // Whether a job's plan is complete.
+#![tactic(auto)]
+
 ghost use Rattle.std.specs.Prelude.{◌≡◌, ◌&&◌};
 ghost use Rattle.format.specs.Refusal.{refusal_of};
 ghost use Rattle.format.specs.Sections.{job_of};

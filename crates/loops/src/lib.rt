@@ -1,4 +1,6 @@
 // 4: the loops are no forest that roots, tables and orders fit. `loops` is the place of the spec's loops.
+#![tactic(auto)]
+
 ghost use Rattle.std.specs.Prelude.{◌≡◌, [], ◌++◌, ◌∷◌, List, ◌+◌, ◌<◌, ◌≤◌, ℕ, length, take, eqb, false};
 ghost use Rattle.codec.specs.Codec.{list_c};
 ghost use Rattle.codec.specs.Forms.{num_c, opt_c};

@@ -1,4 +1,6 @@
 // Where each row hangs. Loops, tables and rows have numbers of their own kinds, so that an index into one list can't serve another.
+#![tactic(auto)]
+
 ghost use Rattle.std.specs.Prelude.{◌≡◌, ℕ, ◌+◌, ◌*◌, ◌≤◌, ◌<◌, List, [], ◌∷◌, length};
 ghost use Rattle.std.proofs.lemmas.List.Edits.{sets};
 ghost use Rattle.nest.specs.Lists.{keep, first, up_to};

@@ -1,4 +1,6 @@
 // The plan check, conditions 1 to 4 of document 01.
+#![tactic(auto)]
+
 ghost use Rattle.std.specs.Prelude.{◌≡◌};
 ghost use Rattle.format.specs.Sections.{job_of};
 ghost use Rattle.nest.specs.Ready.{Ready, outline_at};

@@ -1,4 +1,6 @@
 // Condition 5 of a complete plan (document 01): places, separators and codes, judged where the job stands.
+#![tactic(auto)]
+
 mod spots;
 mod triggers;
 

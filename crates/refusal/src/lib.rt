@@ -1,4 +1,6 @@
 // Whether a job is refused, and with which of document 01's numbers 1 to 5: the lowest that applies. Judged where the job stands.
+#![tactic(auto)]
+
 ghost use Rattle.std.specs.Prelude.{◌≡◌};
 ghost use Rattle.format.specs.Refusal.{refusal_of};
 ghost use Rattle.refusal.specs.Answer.{number_of};

@@ -1,4 +1,6 @@
 // Repeat segments: each row of a chunk fills it, with its findings and trace entries; then the segment is written at once.
+#![tactic(auto)]
+
 mod fill;
 mod join;
 mod last;

@@ -1,4 +1,6 @@
 // The repeat segments of an instance.
+#![tactic(auto)]
+
 ghost use Rattle.std.specs.Prelude.{◌≡◌, true, false, ◌&&◌, List, [], ◌∷◌, ◌++◌, ℕ, ◌+◌, ◌≤◌, ◌<◌, max, length, take, set, ltb};
 ghost use Rattle.format.specs.Sections.{job_of};
 ghost use Rattle.lent.specs.Fit.{cap};

@@ -1,4 +1,6 @@
 // A row segment: its bytes, the findings on its cells, its trace.
+#![tactic(auto)]
+
 mod feed;
 mod join;
 mod notes;

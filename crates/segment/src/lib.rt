@@ -1,4 +1,6 @@
 // A segment's bytes, from the texts at its places.
+#![tactic(auto)]
+
 pub mod read;
 
 ghost use Rattle.std.specs.Prelude.{◌≡◌, List, [], ◌++◌, ℕ, ◌+◌, ◌-◌, ◌<◌, take, replicate};

@@ -1,4 +1,6 @@
 // The trigger and the closer of an envelope loop.
+#![tactic(auto)]
+
 ghost use Rattle.std.specs.Prelude.{◌≡◌, List, [], ℕ, ◌<◌};
 ghost use Rattle.std.proofs.Math.Option.{some};
 ghost use Rattle.format.specs.Spec.{Control};

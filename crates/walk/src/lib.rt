@@ -1,4 +1,6 @@
 // The walk through the loops.
+#![tactic(auto)]
+
 ghost use Rattle.std.specs.Prelude.{◌≡◌, ℕ, ◌+◌, ◌≤◌, ◌<◌, min};
 ghost use Rattle.walk.specs.Census.{counted};
 ghost use Rattle.walk.specs.Contexts.{kept_outside, kept_row, kept_piece, row_by, start_by, end_by};

@@ -1,4 +1,6 @@
 // The writer: a job's document, segments, findings and stops, in lists that the caller lends. Of the findings it fills a window, a list that holds those from one number on.
+#![tactic(auto)]
+
 ghost use Rattle.std.specs.Prelude.{◌≡◌, ◌||◌, ◌+◌, ◌-◌, ◌*◌, ◌≤◌, ◌<◌, ◌/◌, [], ◌∷◌, length, get_or, ltb};
 ghost use Rattle.std.proofs.lemmas.List.Edits.{sets};
 ghost use Rattle.codec.specs.Codec.{pick};

@@ -1,17 +1,8 @@
 use native.Mathlib.Omega.{arith}
-use mathlib.Core.Path.{◌≡◌}
-use mathlib.Core.Logic.{⊎_elim}
-use Rattle.format.specs.Sections.{job_of}
-use Rattle.nest.specs.OfJob.{outline_of}
-use Rattle.walk.specs.Instances.{has_data}
-use Rattle.walk.proofs.DataLaws.{data_from}
 use Rattle.due.proofs.Bridge.{child_small}
 use Rattle.due.proofs.Loops.{deep, at_own, below_own, elsewhere, below_here, below_next, below_end}
-use borrow.Author.Rules.{rules}
-use Prim.Native.Nat.{ℕ, ◌<◌, ◌-◌}
 use Rattle.due.proofs.+has_data.Goals as goal
 use Rattle.due.proofs.+has_data.Goals.{then-below+else-found, else-below}
-
 
 pub returns-then-height-eq0 : goal.returns-then-height-eq0
 returns-then-height-eq0 t c = deep _ _ _ _ _ c.if-height-eq0.true
@@ -34,8 +25,9 @@ returns-then-found t c = below_here _ _ _ _ _ _ _ c.child_count-n.ensures c.loop
 pub loop-k-preserved : goal.loop-k-preserved
 loop-k-preserved t c =
     elim c.if-below.branch [
-      then-below+else-found w ↦ below_next _ _ _ _ _ _ _ c.child_count-n.ensures c.loop-k.invariant _ _ c.loop-k-test.true c.child-c.ensures c.inside-below.ensures _ w.if-below.true w.has_data-found.ensures w.if-found.false
-    | else-below w ↦ elsewhere _ _ _ _ _ _ _ c.child_count-n.ensures c.loop-k.invariant _ _ c.loop-k-test.true c.child-c.ensures c.inside-below.ensures w.if-below.false ]
+      | then-below+else-found w ↦ below_next _ _ _ _ _ _ _ c.child_count-n.ensures c.loop-k.invariant _ _ c.loop-k-test.true c.child-c.ensures c.inside-below.ensures _ w.if-below.true w.has_data-found.ensures w.if-found.false
+      | else-below w ↦ elsewhere _ _ _ _ _ _ _ c.child_count-n.ensures c.loop-k.invariant _ _ c.loop-k-test.true c.child-c.ensures c.inside-below.ensures w.if-below.false
+    ]
 
 pub returns : goal.returns
 returns t c = below_end _ _ _ _ _ _ _ c.child_count-n.ensures c.loop-k.invariant c.loop-k-test.false

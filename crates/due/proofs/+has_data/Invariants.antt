@@ -1,14 +1,9 @@
-use native.Mathlib.Omega.{arith}
 use mathlib.Core.Path.{◌≡◌}
-use mathlib.Core.Logic.{⊎_elim}
 use Rattle.format.specs.Sections.{job_of}
 use Rattle.nest.specs.OfJob.{outline_of}
 use Rattle.walk.specs.Instances.{has_data}
 use Rattle.walk.proofs.DataLaws.{data_from}
-use Rattle.due.proofs.Bridge.{child_small}
-use Rattle.due.proofs.Loops.{deep, at_own, below_own, elsewhere, below_here, below_next, below_end}
-use borrow.Author.Rules.{rules}
-use Prim.Native.Nat.{ℕ, ◌<◌, ◌-◌}
+use Prim.Native.Nat.{◌-◌}
 use Rattle.due.proofs.+has_data.Given as goal
 
 abbrev pub decreases-has_data : goal.decreases-has_data

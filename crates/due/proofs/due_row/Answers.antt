@@ -1,7 +1,6 @@
 use Prim.Native.Nat.{◌≤◌}
 use native.Mathlib.Omega.{arith}
 use Rattle.due.proofs.Loops.{due_not, due_always, due_filled}
-use borrow.Author.Rules.{rules}
 use Rattle.due.proofs.due_row.Goals as goal
 
 pub returns-then-n-t : goal.returns-then-n-t

@@ -1,11 +1,6 @@
-use Prim.Native.Nat.{◌-◌}
 use native.Mathlib.Omega.{arith}
 use mathlib.Core.Path.{sym, ◌∙◌}
-use Rattle.format.specs.Sections.{job_of}
-use Rattle.format.specs.Ask.{planned_of}
-use Rattle.due.proofs.Ways.{Searching, filled_some, search_start, search_found, search_next, search_end}
-use Rattle.due.specs.Cells.{has_value}
-use borrow.Author.Rules.{rules}
+use Rattle.due.proofs.Ways.{filled_some, search_start, search_found, search_next, search_end}
 use Rattle.due.proofs.filled.Goals as goal
 
 pub loop-k-init : goal.loop-k-init

@@ -1,5 +1,4 @@
 use Rattle.due.proofs.Loops.{occurs}
-use borrow.Author.Rules.{rules}
 use Rattle.due.proofs.has_occurrence.Goals as goal
 
 pub returns : goal.returns

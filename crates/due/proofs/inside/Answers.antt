@@ -1,5 +1,4 @@
 use Rattle.due.proofs.Loops.{inside_is}
-use borrow.Author.Rules.{rules}
 use Rattle.due.proofs.inside.Goals as goal
 
 pub returns : goal.returns

@@ -1,11 +1,5 @@
-use Prim.Native.Nat.{◌-◌}
-use mathlib.Core.Path.{◌≡◌}
-use Rattle.format.specs.Sections.{job_of}
-use Rattle.nest.specs.OfJob.{outline_of}
-use Rattle.walk.specs.Tour.{opened}
-use Rattle.walk.proofs.TourLaws.{opens_from, opens_all}
+use Rattle.walk.proofs.TourLaws.{opens_all}
 use Rattle.due.proofs.Loops.{opens_here, opens_later, opens_never}
-use borrow.Author.Rules.{rules}
 use Rattle.due.proofs.opened.Goals as goal
 
 pub loop-k-init : goal.loop-k-init

@@ -3,9 +3,7 @@ use mathlib.Core.Path.{◌≡◌}
 use Rattle.format.specs.Sections.{job_of}
 use Rattle.nest.specs.OfJob.{outline_of}
 use Rattle.walk.specs.Tour.{opened}
-use Rattle.walk.proofs.TourLaws.{opens_from, opens_all}
-use Rattle.due.proofs.Loops.{opens_here, opens_later, opens_never}
-use borrow.Author.Rules.{rules}
+use Rattle.walk.proofs.TourLaws.{opens_from}
 use Rattle.due.proofs.opened.Given as goal
 
 abbrev pub invariant-loop-k : goal.invariant-loop-k

@@ -1,5 +1,4 @@
 use Rattle.due.proofs.Loops.{opener_past, opener_is}
-use borrow.Author.Rules.{rules}
 use Rattle.due.proofs.opener_at.Goals as goal
 
 pub returns-then-n-i : goal.returns-then-n-i

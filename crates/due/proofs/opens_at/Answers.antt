@@ -1,5 +1,4 @@
 use Rattle.due.proofs.Loops.{opens_segment}
-use borrow.Author.Rules.{rules}
 use Rattle.due.proofs.opens_at.Goals as goal
 
 pub returns-in-Segment : goal.returns-in-Segment

@@ -1,13 +1,5 @@
-use Prim.Native.Nat.{◌-◌}
-use mathlib.Core.Path.{◌≡◌}
-use borrow.Author.Rules.{rules}
-use Rattle.format.specs.Sections.{job_of}
-use Rattle.nest.specs.Lists.{some_of, up_to}
-use Rattle.nest.specs.Outline.{planned}
-use Rattle.nest.specs.OfJob.{outline_of}
-use Rattle.walk.specs.Instances.{own_data}
 use Rattle.walk.proofs.DataLaws.{own_all}
-use Rattle.due.proofs.Loops.{fills, own_here, own_next, own_end}
+use Rattle.due.proofs.Loops.{own_here, own_next, own_end}
 use Rattle.due.proofs.own_data.Goals as goal
 
 pub loop-i-init : goal.loop-i-init

@@ -1,4 +1,3 @@
-use borrow.Author.Rules.{rules}
 use Rattle.due.proofs.Loops.{fills_by, fills_not}
 use Rattle.due.proofs.row_fills.Goals as goal
 

@@ -1,5 +1,4 @@
 use Rattle.due.proofs.Ways.{chunk_agrees, chunk_apart}
-use borrow.Author.Rules.{rules}
 use Rattle.due.proofs.same_chunk.Goals as goal
 
 pub returns-then-same : goal.returns-then-same

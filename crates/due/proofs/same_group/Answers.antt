@@ -1,14 +1,4 @@
-use Prim.Native.Nat.{◌-◌}
-use mathlib.Core.Path.{◌≡◌}
-use Rattle.format.specs.Sections.{job_of}
-use mathlib.Core.Bool.{not}
-use lib.ListN.{drop}
-use Rattle.format.specs.Ask.{group_columns_of}
-use Rattle.nest.specs.Lists.{some_of}
-use Rattle.nest.specs.OfJob.{outline_of}
-use Rattle.due.specs.Cells.{differ}
 use Rattle.due.proofs.Ways.{group_start, apart_here, apart_not, apart_never}
-use borrow.Author.Rules.{rules}
 use Rattle.due.proofs.same_group.Goals as goal
 
 pub loop-k-init : goal.loop-k-init

@@ -7,8 +7,6 @@ use Rattle.format.specs.Ask.{group_columns_of}
 use Rattle.nest.specs.Lists.{some_of}
 use Rattle.nest.specs.OfJob.{outline_of}
 use Rattle.due.specs.Cells.{differ}
-use Rattle.due.proofs.Ways.{group_start, apart_here, apart_not, apart_never}
-use borrow.Author.Rules.{rules}
 use Rattle.due.proofs.same_group.Given as goal
 
 abbrev pub invariant-loop-k : goal.invariant-loop-k

@@ -1,5 +1,4 @@
 use Rattle.due.proofs.Loops.{shown_as_required, shown_by_data, shown_unknown}
-use borrow.Author.Rules.{rules}
 use Rattle.due.proofs.shown.Goals as goal
 
 pub returns-then-required : goal.returns-then-required

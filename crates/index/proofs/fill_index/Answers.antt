@@ -1,5 +1,4 @@
 use Rattle.index.proofs.Filled.{filled}
-use borrow.Author.Rules.{rules}
 use Rattle.index.proofs.fill_index.Goals as goal
 
 pub returns : goal.returns

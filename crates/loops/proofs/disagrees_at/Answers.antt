@@ -3,7 +3,6 @@ use Rattle.format.specs.Fields.{is_loop}
 use Rattle.format.specs.Refusal.{disagrees}
 use Rattle.says.proofs.Walk.{says_at}
 use Rattle.loops.proofs.Tangle.{third_true, third_false}
-use borrow.Author.Rules.{rules}
 use Rattle.loops.proofs.disagrees_at.Goals as goal
 
 pub returns-then-repeats_at : goal.returns-then-repeats_at

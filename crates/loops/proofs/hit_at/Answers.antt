@@ -1,6 +1,5 @@
 use Rattle.loops.proofs.Tangle.{hit_yes, hit_no}
 use native.Mathlib.Omega.{arith}
-use borrow.Author.Rules.{rules}
 use Rattle.loops.proofs.hit_at.Goals as goal
 
 pub returns-then-same_at : goal.returns-then-same_at

@@ -1,5 +1,4 @@
 use Rattle.loops.proofs.Items.{item_again, item_never}
-use borrow.Author.Rules.{rules}
 use Rattle.loops.proofs.item_again.Goals as goal
 
 pub returns-then-tag_at-eq1 : goal.returns-then-tag_at-eq1

@@ -1,8 +1,6 @@
 use Rattle.format.specs.Layout.{item_c}
 use Rattle.loops.specs.Parts.{member_in}
-use Rattle.says.proofs.Behind.{Still, still_start, still_again, still_found, still_none}
-use Rattle.loops.proofs.Items.{member_in_step, member_in_nil}
-use borrow.Author.Rules.{rules}
+use Rattle.says.proofs.Behind.{Still}
 use Rattle.loops.proofs.item_member_behind.Given as goal
 
 abbrev pub invariant-loop-left : goal.invariant-loop-left

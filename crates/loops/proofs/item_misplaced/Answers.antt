@@ -1,5 +1,4 @@
 use Rattle.tree.proofs.Tree.{item_there, item_not}
-use borrow.Author.Rules.{rules}
 use Rattle.loops.proofs.item_misplaced.Goals as goal
 
 pub returns-then-tag_at-eq1 : goal.returns-then-tag_at-eq1

@@ -1,14 +1,6 @@
-use Rattle.codec.specs.Codec.{list_c}
-use Rattle.codec.specs.Skip.{Is}
-use Rattle.format.specs.Spec.{loop_c, Loop}
-use Rattle.format.specs.Layout.{item_c}
-use Rattle.format.specs.Refusal.{not_child}
-use Rattle.says.proofs.Walk.{NoneYet, some_start, some_again, some_found, some_none}
-use Rattle.tree.specs.Parts.{on_loop}
-use mathlib.Core.List.{List}
+use Rattle.says.proofs.Walk.{some_start, some_again, some_found, some_none}
 use Rattle.says.proofs.Walk.{says_as}
 use Rattle.tree.proofs.Tree.{loops_any}
-use borrow.Author.Rules.{rules}
 use Rattle.loops.proofs.items_misplaced.Goals as goal
 
 pub loop-left-init : goal.loop-left-init

@@ -1,11 +1,8 @@
 use mathlib.Core.Path.{refl}
 use Rattle.format.specs.Words.{repeats}
 use Rattle.says.proofs.Walk.{says_as}
-use Rattle.loops.proofs.ByNumber.{Upto, any_each, below_test, upto_start, upto_again, upto_found, upto_none}
-use Rattle.loops.specs.Parts.{repeats_below}
-use Prim.Native.Nat.{◌-◌}
+use Rattle.loops.proofs.ByNumber.{any_each, below_test, upto_start, upto_again, upto_found, upto_none}
 use native.Mathlib.Omega.{arith}
-use borrow.Author.Rules.{rules}
 use Rattle.loops.proofs.loops_repeat.Goals as goal
 
 pub loop-k-init : goal.loop-k-init

@@ -1,7 +1,6 @@
 use mathlib.Core.Path.{sym, ◌∙◌}
 use Rattle.format.specs.Refusal.{misordered}
 use Rattle.loops.proofs.Tangle.{second_true, second_false}
-use borrow.Author.Rules.{rules}
 use Rattle.loops.proofs.misordered_at.Goals as goal
 
 pub returns-then-order_repeats : goal.returns-then-order_repeats

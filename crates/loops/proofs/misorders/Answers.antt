@@ -1,13 +1,5 @@
-use Rattle.codec.specs.Codec.{list_c}
-use Rattle.codec.specs.Skip.{Is}
-use Rattle.format.specs.Spec.{loop_c, Loop}
-use Rattle.format.specs.Layout.{item_c}
-use Rattle.format.specs.Refusal.{misordered}
-use Rattle.says.proofs.Behind.{NoneUpTo, from_start, from_again, from_found, from_none}
-use Prim.Native.Nat.{◌<◌, ◌+◌}
-use mathlib.Core.List.{List}
+use Rattle.says.proofs.Behind.{from_start, from_again, from_found, from_none}
 use native.Mathlib.Omega.{arith}
-use borrow.Author.Rules.{rules}
 use Rattle.loops.proofs.misorders.Goals as goal
 
 pub loop-left-init : goal.loop-left-init

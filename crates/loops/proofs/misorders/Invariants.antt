@@ -3,11 +3,9 @@ use Rattle.codec.specs.Skip.{Is}
 use Rattle.format.specs.Spec.{loop_c, Loop}
 use Rattle.format.specs.Layout.{item_c}
 use Rattle.format.specs.Refusal.{misordered}
-use Rattle.says.proofs.Behind.{NoneUpTo, from_start, from_again, from_found, from_none}
+use Rattle.says.proofs.Behind.{NoneUpTo}
 use Prim.Native.Nat.{◌<◌, ◌+◌}
 use mathlib.Core.List.{List}
-use native.Mathlib.Omega.{arith}
-use borrow.Author.Rules.{rules}
 use Rattle.loops.proofs.misorders.Given as goal
 
 abbrev pub invariant-loop-left : goal.invariant-loop-left

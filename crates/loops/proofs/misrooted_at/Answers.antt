@@ -1,5 +1,4 @@
 use Rattle.loops.proofs.Tangle.{child_roots, root_roots}
-use borrow.Author.Rules.{rules}
 use Rattle.loops.proofs.misrooted_at.Goals as goal
 
 pub returns-then-tag_at-eq1 : goal.returns-then-tag_at-eq1

@@ -1,13 +1,5 @@
-use Prim.Native.Nat.{ℕ}
-use mathlib.Core.List.{List}
-use Rattle.codec.specs.Codec.{list_c}
-use Rattle.codec.specs.Forms.{num_c}
-use Rattle.codec.specs.Skip.{Is}
-use Rattle.format.specs.Refusal.{misrooted}
-use Rattle.loops.proofs.ByNumber.{Upto, upto_start, upto_again, upto_found, upto_none}
-use Prim.Native.Nat.{◌-◌}
+use Rattle.loops.proofs.ByNumber.{upto_start, upto_again, upto_found, upto_none}
 use native.Mathlib.Omega.{arith}
-use borrow.Author.Rules.{rules}
 use Rattle.loops.proofs.misroots.Goals as goal
 
 pub loop-k-init : goal.loop-k-init

@@ -4,10 +4,8 @@ use Rattle.codec.specs.Codec.{list_c}
 use Rattle.codec.specs.Forms.{num_c}
 use Rattle.codec.specs.Skip.{Is}
 use Rattle.format.specs.Refusal.{misrooted}
-use Rattle.loops.proofs.ByNumber.{Upto, upto_start, upto_again, upto_found, upto_none}
+use Rattle.loops.proofs.ByNumber.{Upto}
 use Prim.Native.Nat.{◌-◌}
-use native.Mathlib.Omega.{arith}
-use borrow.Author.Rules.{rules}
 use Rattle.loops.proofs.misroots.Given as goal
 
 abbrev pub invariant-loop-k : goal.invariant-loop-k

@@ -3,7 +3,6 @@ use native.Mathlib.Omega.{arith}
 use lib.ListN.{length-set}
 use Rattle.loops.proofs.Items.{name_there, name_not}
 use Rattle.tree.proofs.Names.{name_in, name_none}
-use borrow.Author.Rules.{rules}
 use Rattle.loops.proofs.note_name.Goals as goal
 
 pub returns-then-tag_at-eq1 : goal.returns-then-tag_at-eq1

@@ -1,12 +1,7 @@
-use Prim.Native.Nat.{◌≤◌}
-use mathlib.Core.Path.{◌≡◌, refl, ◌∙◌}
+use mathlib.Core.Path.{refl, ◌∙◌}
 use native.Mathlib.Omega.{arith}
-use lib.ListN.{length}
-use Rattle.format.specs.Layout.{item_c}
-use Rattle.format.specs.Refusal.{loops_in}
-use Rattle.tree.proofs.Names.{Noting, noting_start, noting_again, noting_full, noting_done}
+use Rattle.tree.proofs.Names.{noting_start, noting_again, noting_full, noting_done}
 use Rattle.loops.proofs.Items.{loops_first, loops_none}
-use borrow.Author.Rules.{rules}
 use Rattle.loops.proofs.note_names.Goals as goal
 
 pub loop-left-init : goal.loop-left-init

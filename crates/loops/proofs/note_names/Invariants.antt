@@ -1,12 +1,9 @@
 use Prim.Native.Nat.{◌≤◌}
-use mathlib.Core.Path.{◌≡◌, refl, ◌∙◌}
-use native.Mathlib.Omega.{arith}
+use mathlib.Core.Path.{◌≡◌}
 use lib.ListN.{length}
 use Rattle.format.specs.Layout.{item_c}
 use Rattle.format.specs.Refusal.{loops_in}
-use Rattle.tree.proofs.Names.{Noting, noting_start, noting_again, noting_full, noting_done}
-use Rattle.loops.proofs.Items.{loops_first, loops_none}
-use borrow.Author.Rules.{rules}
+use Rattle.tree.proofs.Names.{Noting}
 use Rattle.loops.proofs.note_names.Given as goal
 
 abbrev pub invariant-loop-left : goal.invariant-loop-left

@@ -3,7 +3,6 @@ use Rattle.format.specs.Layout.{item_c}
 use Rattle.format.specs.Refusal.{loops_in}
 use Rattle.loops.proofs.Items.{few_loops}
 use Rattle.tree.proofs.Names.{few_once, noted_once, noted_twice}
-use borrow.Author.Rules.{rules}
 use Rattle.loops.proofs.order_repeats.Goals as goal
 
 pub returns-then-count_at-lt2 : goal.returns-then-count_at-lt2

@@ -1,8 +1,6 @@
 use Rattle.format.specs.Layout.{item_c}
 use Rattle.loops.specs.Parts.{repeats_in}
-use Rattle.says.proofs.Behind.{NoneBehind, behind_start, behind_again, behind_found, behind_none}
-use Rattle.loops.proofs.Items.{repeat_in_step, repeat_in_nil}
-use borrow.Author.Rules.{rules}
+use Rattle.says.proofs.Behind.{NoneBehind}
 use Rattle.loops.proofs.order_searched.Given as goal
 
 abbrev pub invariant-loop-left : goal.invariant-loop-left

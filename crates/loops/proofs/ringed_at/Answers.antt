@@ -1,5 +1,4 @@
-use Rattle.loops.proofs.Tangle.{Climbs, ring_start, ring_again, ring_out, ring_stays}
-use borrow.Author.Rules.{rules}
+use Rattle.loops.proofs.Tangle.{ring_start, ring_again, ring_out, ring_stays}
 use Rattle.loops.proofs.ringed_at.Goals as goal
 
 pub loop-left-init : goal.loop-left-init

@@ -1,5 +1,4 @@
-use Rattle.loops.proofs.Tangle.{Climbs, ring_start, ring_again, ring_out, ring_stays}
-use borrow.Author.Rules.{rules}
+use Rattle.loops.proofs.Tangle.{Climbs}
 use Rattle.loops.proofs.ringed_at.Given as goal
 
 abbrev pub invariant-loop-left : goal.invariant-loop-left

@@ -1,13 +1,10 @@
 use mathlib.Core.List.{List}
-use mathlib.Core.Path.{refl}
 use Rattle.codec.specs.Codec.{list_c}
 use Rattle.codec.specs.Skip.{Is}
 use Rattle.format.specs.Spec.{Loop, loop_c}
 use Rattle.format.specs.Refusal.{ringed}
-use Rattle.loops.proofs.ByNumber.{Upto, upto_start, upto_again, upto_found, upto_none}
+use Rattle.loops.proofs.ByNumber.{Upto}
 use Prim.Native.Nat.{◌-◌}
-use native.Mathlib.Omega.{arith}
-use borrow.Author.Rules.{rules}
 use Rattle.loops.proofs.rings.Given as goal
 
 abbrev pub invariant-loop-k : goal.invariant-loop-k

@@ -4,7 +4,6 @@ use Rattle.format.specs.Fields.{is_spec}
 use Rattle.says.proofs.Walk.{both, only, says_at}
 use Rattle.loops.proofs.Forest.{children_tangle}
 use Rattle.loops.specs.Parts.{tangled_spec}
-use borrow.Author.Rules.{rules}
 use Rattle.loops.proofs.spec_tangled.Goals as goal
 
 pub returns-then-loops_repeat : goal.returns-then-loops_repeat

@@ -1,5 +1,4 @@
 use Rattle.loops.proofs.Tangle.{stranger_says}
-use borrow.Author.Rules.{rules}
 use Rattle.loops.proofs.stranger_at.Goals as goal
 
 pub returns : goal.returns

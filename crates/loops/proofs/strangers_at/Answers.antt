@@ -1,11 +1,4 @@
-use Rattle.codec.specs.Codec.{list_c}
-use Rattle.codec.specs.Forms.{num_c}
-use Rattle.codec.specs.Skip.{Is}
-use Rattle.format.specs.Spec.{loop_c, Loop}
-use Rattle.format.specs.Refusal.{not_parent}
-use Rattle.says.proofs.Walk.{NoneYet, some_start, some_again, some_found, some_none}
-use mathlib.Core.List.{List}
-use borrow.Author.Rules.{rules}
+use Rattle.says.proofs.Walk.{some_start, some_again, some_found, some_none}
 use Rattle.loops.proofs.strangers_at.Goals as goal
 
 pub loop-left-init : goal.loop-left-init

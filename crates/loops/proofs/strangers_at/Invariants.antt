@@ -3,9 +3,8 @@ use Rattle.codec.specs.Forms.{num_c}
 use Rattle.codec.specs.Skip.{Is}
 use Rattle.format.specs.Spec.{loop_c, Loop}
 use Rattle.format.specs.Refusal.{not_parent}
-use Rattle.says.proofs.Walk.{NoneYet, some_start, some_again, some_found, some_none}
+use Rattle.says.proofs.Walk.{NoneYet}
 use mathlib.Core.List.{List}
-use borrow.Author.Rules.{rules}
 use Rattle.loops.proofs.strangers_at.Given as goal
 
 abbrev pub invariant-loop-left : goal.invariant-loop-left

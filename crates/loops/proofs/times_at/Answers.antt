@@ -1,7 +1,5 @@
-use Rattle.loops.proofs.Tangle.{Counting, times_start, times_again, times_done}
-use Prim.Native.Nat.{◌<◌, ◌+◌}
+use Rattle.loops.proofs.Tangle.{times_start, times_again, times_done}
 use native.Mathlib.Omega.{arith}
-use borrow.Author.Rules.{rules}
 use Rattle.loops.proofs.times_at.Goals as goal
 
 pub loop-left-init : goal.loop-left-init

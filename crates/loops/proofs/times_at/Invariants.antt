@@ -1,7 +1,5 @@
-use Rattle.loops.proofs.Tangle.{Counting, times_start, times_again, times_done}
+use Rattle.loops.proofs.Tangle.{Counting}
 use Prim.Native.Nat.{◌<◌, ◌+◌}
-use native.Mathlib.Omega.{arith}
-use borrow.Author.Rules.{rules}
 use Rattle.loops.proofs.times_at.Given as goal
 
 abbrev pub invariant-loop-left : goal.invariant-loop-left

@@ -1,5 +1,4 @@
 use Rattle.loops.proofs.Tangle.{unlisted_says}
-use borrow.Author.Rules.{rules}
 use Rattle.loops.proofs.unlisted_at.Goals as goal
 
 pub returns : goal.returns

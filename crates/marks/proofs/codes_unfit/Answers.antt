@@ -1,8 +1,5 @@
 use mathlib.Core.Path.{refl}
-use Rattle.codec.specs.Forms.{bytes_c}
-use Rattle.format.specs.Refusal.{foreign}
-use Rattle.says.proofs.Pass.{Going, pass_start, pass_again, pass_found, pass_none}
-use borrow.Author.Rules.{rules}
+use Rattle.says.proofs.Pass.{pass_start, pass_again, pass_found, pass_none}
 use Rattle.marks.proofs.codes_unfit.Goals as goal
 
 pub loop-left-init : goal.loop-left-init

@@ -1,8 +1,6 @@
-use mathlib.Core.Path.{refl}
 use Rattle.codec.specs.Forms.{bytes_c}
 use Rattle.format.specs.Refusal.{foreign}
-use Rattle.says.proofs.Pass.{Going, pass_start, pass_again, pass_found, pass_none}
-use borrow.Author.Rules.{rules}
+use Rattle.says.proofs.Pass.{Going}
 use Rattle.marks.proofs.codes_unfit.Given as goal
 
 abbrev pub invariant-loop-left : goal.invariant-loop-left

@@ -1,7 +1,6 @@
 use Rattle.format.specs.Fields.{is_column}
 use Rattle.format.specs.Refusal.{unfit_column}
 use Rattle.marks.proofs.Marks.{scale_int, scale_wide, scale_none}
-use borrow.Author.Rules.{rules}
 use Rattle.marks.proofs.column_unfit.Goals as goal
 
 pub returns-then-t-eq1 : goal.returns-then-t-eq1

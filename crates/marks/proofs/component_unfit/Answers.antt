@@ -4,7 +4,6 @@ use Rattle.format.specs.Fields.{is_component}
 use Rattle.format.specs.Spec.{component_c}
 use Rattle.format.specs.Refusal.{unfit_component}
 use Rattle.says.proofs.Pass.{passes_at}
-use borrow.Author.Rules.{rules}
 use Rattle.marks.proofs.component_unfit.Goals as goal
 
 pub returns : goal.returns

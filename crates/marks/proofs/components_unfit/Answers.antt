@@ -1,9 +1,4 @@
-use Rattle.codec.specs.Codec.{◌⊗◌}
-use Rattle.codec.specs.Forms.{num_c}
-use Rattle.format.specs.Spec.{component_c}
-use Rattle.format.specs.Refusal.{unfit_component}
-use Rattle.says.proofs.Pass.{Going, pass_start, pass_again, pass_found, pass_none}
-use borrow.Author.Rules.{rules}
+use Rattle.says.proofs.Pass.{pass_start, pass_again, pass_found, pass_none}
 use Rattle.marks.proofs.components_unfit.Goals as goal
 
 pub loop-left-init : goal.loop-left-init

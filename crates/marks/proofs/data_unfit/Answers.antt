@@ -1,7 +1,4 @@
-use Rattle.format.specs.Data.{table_data_c}
-use Rattle.format.specs.Refusal.{unfit_table_data}
-use Rattle.says.proofs.Pass.{Going, pass_start, pass_again, pass_found, pass_none}
-use borrow.Author.Rules.{rules}
+use Rattle.says.proofs.Pass.{pass_start, pass_again, pass_found, pass_none}
 use Rattle.marks.proofs.data_unfit.Goals as goal
 
 pub loop-left-init : goal.loop-left-init

@@ -1,7 +1,6 @@
 use Rattle.format.specs.Data.{table_data_c}
 use Rattle.format.specs.Refusal.{unfit_table_data}
-use Rattle.says.proofs.Pass.{Going, pass_start, pass_again, pass_found, pass_none}
-use borrow.Author.Rules.{rules}
+use Rattle.says.proofs.Pass.{Going}
 use Rattle.marks.proofs.data_unfit.Given as goal
 
 abbrev pub invariant-loop-left : goal.invariant-loop-left

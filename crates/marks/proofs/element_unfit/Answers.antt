@@ -8,7 +8,6 @@ use Rattle.format.specs.Spec.{element_c}
 use Rattle.format.specs.Refusal.{unfit_element}
 use Rattle.says.proofs.Walk.{only}
 use Rattle.says.proofs.Pass.{both_then, passes_at, skip_num_map_list}
-use borrow.Author.Rules.{rules}
 use Rattle.marks.proofs.element_unfit.Goals as goal
 
 pub returns : goal.returns

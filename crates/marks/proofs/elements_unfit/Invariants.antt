@@ -2,8 +2,7 @@ use Rattle.codec.specs.Codec.{◌⊗◌}
 use Rattle.codec.specs.Forms.{num_c}
 use Rattle.format.specs.Spec.{element_c}
 use Rattle.format.specs.Refusal.{unfit_element}
-use Rattle.says.proofs.Pass.{Going, pass_start, pass_again, pass_found, pass_none}
-use borrow.Author.Rules.{rules}
+use Rattle.says.proofs.Pass.{Going}
 use Rattle.marks.proofs.elements_unfit.Given as goal
 
 abbrev pub invariant-loop-left : goal.invariant-loop-left

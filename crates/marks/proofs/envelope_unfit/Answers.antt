@@ -1,7 +1,6 @@
 use Rattle.format.specs.Refusal.{unfit_envelope}
 use Rattle.marks.proofs.Marks.{two_first}
 use Rattle.marks.specs.Parts.{marked}
-use borrow.Author.Rules.{rules}
 use Rattle.marks.proofs.envelope_unfit.Goals as goal
 
 pub returns : goal.returns

@@ -1,8 +1,5 @@
-use Rattle.codec.specs.Forms.{byte_c}
-use Rattle.says.proofs.Walk.{NoneYet, some_start, some_again, some_found, some_none}
-use Rattle.marks.specs.Parts.{high}
+use Rattle.says.proofs.Walk.{some_start, some_again, some_found, some_none}
 use Rattle.format.specs.Refusal.{foreign}
-use borrow.Author.Rules.{rules}
 use Rattle.marks.proofs.foreign_at.Goals as goal
 
 pub loop-left-init : goal.loop-left-init

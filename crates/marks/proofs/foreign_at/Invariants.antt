@@ -1,8 +1,6 @@
 use Rattle.codec.specs.Forms.{byte_c}
-use Rattle.says.proofs.Walk.{NoneYet, some_start, some_again, some_found, some_none}
+use Rattle.says.proofs.Walk.{NoneYet}
 use Rattle.marks.specs.Parts.{high}
-use Rattle.format.specs.Refusal.{foreign}
-use borrow.Author.Rules.{rules}
 use Rattle.marks.proofs.foreign_at.Given as goal
 
 abbrev pub invariant-loop-left : goal.invariant-loop-left

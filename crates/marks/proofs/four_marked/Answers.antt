@@ -1,5 +1,4 @@
 use Rattle.marks.proofs.Marks.{four_is}
-use borrow.Author.Rules.{rules}
 use Rattle.marks.proofs.four_marked.Goals as goal
 
 pub returns : goal.returns

@@ -1,7 +1,6 @@
 use mathlib.Core.Path.{refl}
 use Rattle.says.proofs.Walk.{byte_says}
 use Rattle.marks.specs.Parts.{high}
-use borrow.Author.Rules.{rules}
 use Rattle.marks.proofs.high_at.Goals as goal
 
 pub returns : goal.returns

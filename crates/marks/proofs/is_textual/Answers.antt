@@ -1,7 +1,6 @@
 use mathlib.Core.Path.{refl}
 use Rattle.format.specs.Refusal.{upper, digit, textual}
 use Rattle.says.proofs.Walk.{both, only}
-use borrow.Author.Rules.{rules}
 use Rattle.marks.proofs.is_textual.Goals as goal
 
 pub returns : goal.returns

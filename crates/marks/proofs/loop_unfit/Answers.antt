@@ -7,7 +7,6 @@ use Rattle.format.specs.Spec.{loop_c}
 use Rattle.format.specs.Refusal.{unfit_loop}
 use Rattle.says.proofs.Walk.{both, only, says_at}
 use Rattle.says.proofs.Pass.{both_then, passes_at}
-use borrow.Author.Rules.{rules}
 use Rattle.marks.proofs.loop_unfit.Goals as goal
 
 pub returns : goal.returns

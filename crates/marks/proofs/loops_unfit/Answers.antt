@@ -1,7 +1,4 @@
-use Rattle.format.specs.Spec.{loop_c}
-use Rattle.format.specs.Refusal.{unfit_loop}
-use Rattle.says.proofs.Pass.{Going, pass_start, pass_again, pass_found, pass_none}
-use borrow.Author.Rules.{rules}
+use Rattle.says.proofs.Pass.{pass_start, pass_again, pass_found, pass_none}
 use Rattle.marks.proofs.loops_unfit.Goals as goal
 
 pub loop-left-init : goal.loop-left-init

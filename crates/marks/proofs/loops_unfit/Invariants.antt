@@ -1,7 +1,6 @@
 use Rattle.format.specs.Spec.{loop_c}
 use Rattle.format.specs.Refusal.{unfit_loop}
-use Rattle.says.proofs.Pass.{Going, pass_start, pass_again, pass_found, pass_none}
-use borrow.Author.Rules.{rules}
+use Rattle.says.proofs.Pass.{Going}
 use Rattle.marks.proofs.loops_unfit.Given as goal
 
 abbrev pub invariant-loop-left : goal.invariant-loop-left

@@ -1,5 +1,4 @@
 use Rattle.marks.proofs.Marks.{marks_three, marks_four}
-use borrow.Author.Rules.{rules}
 use Rattle.marks.proofs.marks_unfit.Goals as goal
 
 pub returns-then-tag_at-eq1 : goal.returns-then-tag_at-eq1

@@ -1,5 +1,4 @@
 use Rattle.says.proofs.Walk.{opt_there, opt_none}
-use borrow.Author.Rules.{rules}
 use Rattle.marks.proofs.opt_unnamed_at.Goals as goal
 
 pub returns-then-tag_at-eq1 : goal.returns-then-tag_at-eq1

@@ -1,7 +1,6 @@
 use Rattle.codec.specs.Field.{is_pair}
 use Rattle.format.specs.Refusal.{unfit_reference}
 use Rattle.says.proofs.Walk.{says_at}
-use borrow.Author.Rules.{rules}
 use Rattle.marks.proofs.reference_unfit.Goals as goal
 
 pub returns : goal.returns

@@ -1,10 +1,5 @@
 use mathlib.Core.Path.{refl}
-use Rattle.codec.specs.Codec.{◌⊗◌}
-use Rattle.codec.specs.Forms.{num_c, opt_c}
-use Rattle.format.specs.Data.{column_c}
-use Rattle.format.specs.Refusal.{unfit_reference}
-use Rattle.says.proofs.Pass.{Going, pass_start, pass_again, pass_found, pass_none}
-use borrow.Author.Rules.{rules}
+use Rattle.says.proofs.Pass.{pass_start, pass_again, pass_found, pass_none}
 use Rattle.marks.proofs.references_unfit.Goals as goal
 
 pub loop-left-init : goal.loop-left-init

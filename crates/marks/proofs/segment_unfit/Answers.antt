@@ -6,7 +6,6 @@ use Rattle.codec.specs.Field.{is_pair}
 use Rattle.format.specs.Refusal.{unfit_segment}
 use Rattle.says.proofs.Walk.{both, only, says_at}
 use Rattle.says.proofs.Pass.{passes_at, skip_num_map_list}
-use borrow.Author.Rules.{rules}
 use Rattle.marks.proofs.segment_unfit.Goals as goal
 
 pub returns : goal.returns

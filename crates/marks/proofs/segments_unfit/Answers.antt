@@ -1,9 +1,4 @@
-use Rattle.codec.specs.Codec.{◌⊗◌}
-use Rattle.codec.specs.Forms.{bytes_c}
-use Rattle.format.specs.Spec.{segment_c}
-use Rattle.format.specs.Refusal.{unfit_segment}
-use Rattle.says.proofs.Pass.{Going, pass_start, pass_again, pass_found, pass_none}
-use borrow.Author.Rules.{rules}
+use Rattle.says.proofs.Pass.{pass_start, pass_again, pass_found, pass_none}
 use Rattle.marks.proofs.segments_unfit.Goals as goal
 
 pub loop-left-init : goal.loop-left-init

@@ -2,8 +2,7 @@ use Rattle.codec.specs.Codec.{◌⊗◌}
 use Rattle.codec.specs.Forms.{bytes_c}
 use Rattle.format.specs.Spec.{segment_c}
 use Rattle.format.specs.Refusal.{unfit_segment}
-use Rattle.says.proofs.Pass.{Going, pass_start, pass_again, pass_found, pass_none}
-use borrow.Author.Rules.{rules}
+use Rattle.says.proofs.Pass.{Going}
 use Rattle.marks.proofs.segments_unfit.Given as goal
 
 abbrev pub invariant-loop-left : goal.invariant-loop-left

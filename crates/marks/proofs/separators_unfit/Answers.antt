@@ -1,6 +1,5 @@
 use Rattle.codec.specs.Field.{is_at}
 use Rattle.format.specs.Fields.{is_envelope_lem}
-use borrow.Author.Rules.{rules}
 use Rattle.marks.proofs.separators_unfit.Goals as goal
 
 pub returns : goal.returns

@@ -4,7 +4,6 @@ use Rattle.format.specs.Fields.{is_spec}
 use Rattle.format.specs.Refusal.{unfit_spec}
 use Rattle.says.proofs.Walk.{only, says_at}
 use Rattle.says.proofs.Pass.{both_then, passes_at, skip_bytes_map_list}
-use borrow.Author.Rules.{rules}
 use Rattle.marks.proofs.spec_unfit.Goals as goal
 
 pub returns : goal.returns

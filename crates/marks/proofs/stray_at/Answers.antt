@@ -4,7 +4,6 @@ use Rattle.format.specs.Refusal.{upper, digit}
 use Rattle.says.proofs.Walk.{both, only}
 use Rattle.says.proofs.Walk.{byte_says}
 use Rattle.marks.specs.Parts.{stray}
-use borrow.Author.Rules.{rules}
 use Rattle.marks.proofs.stray_at.Goals as goal
 
 pub returns : goal.returns

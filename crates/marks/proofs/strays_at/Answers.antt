@@ -1,7 +1,4 @@
-use Rattle.codec.specs.Forms.{byte_c}
-use Rattle.says.proofs.Walk.{NoneYet, some_start, some_again, some_found, some_none}
-use Rattle.marks.specs.Parts.{stray}
-use borrow.Author.Rules.{rules}
+use Rattle.says.proofs.Walk.{some_start, some_again, some_found, some_none}
 use Rattle.marks.proofs.strays_at.Goals as goal
 
 pub loop-left-init : goal.loop-left-init

@@ -1,7 +1,6 @@
 use Rattle.codec.specs.Forms.{byte_c}
-use Rattle.says.proofs.Walk.{NoneYet, some_start, some_again, some_found, some_none}
+use Rattle.says.proofs.Walk.{NoneYet}
 use Rattle.marks.specs.Parts.{stray}
-use borrow.Author.Rules.{rules}
 use Rattle.marks.proofs.strays_at.Given as goal
 
 abbrev pub invariant-loop-left : goal.invariant-loop-left

@@ -1,7 +1,6 @@
 use mathlib.Core.Path.{refl}
 use Rattle.format.specs.Fields.{is_envelope_lem}
 use Rattle.says.proofs.Walk.{both, only, says_at}
-use borrow.Author.Rules.{rules}
 use Rattle.marks.proofs.strings_unfit.Goals as goal
 
 pub returns : goal.returns

@@ -6,7 +6,6 @@ use Rattle.format.specs.Data.{table_data_c}
 use Rattle.format.specs.Refusal.{unfit_table_data}
 use Rattle.says.proofs.Walk.{both, only, says_at}
 use Rattle.says.proofs.Pass.{both_then, passes_at}
-use borrow.Author.Rules.{rules}
 use Rattle.marks.proofs.table_data_unfit.Goals as goal
 
 pub returns : goal.returns

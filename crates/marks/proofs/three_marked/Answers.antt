@@ -1,5 +1,4 @@
 use Rattle.marks.proofs.Marks.{three_is}
-use borrow.Author.Rules.{rules}
 use Rattle.marks.proofs.three_marked.Goals as goal
 
 pub returns : goal.returns

@@ -4,7 +4,6 @@ use Rattle.format.specs.Decoding.{read_job, sound_of}
 use Rattle.format.specs.Refusal.{unfit}
 use Rattle.says.proofs.Walk.{both, only, section_says}
 use Rattle.says.proofs.Pass.{section_is}
-use borrow.Author.Rules.{rules}
 use Rattle.marks.proofs.unfit_at.Goals as goal
 
 pub spec_unfit-x-requires : goal.spec_unfit-x-requires

@@ -1,5 +1,4 @@
 use Rattle.marks.proofs.Marks.{named_long, named_not}
-use borrow.Author.Rules.{rules}
 use Rattle.marks.proofs.unnamed_at.Goals as goal
 
 pub returns-then-within : goal.returns-then-within

@@ -2,7 +2,6 @@ use mathlib.Core.Path.{refl}
 use Rattle.format.specs.Fields.{is_version}
 use Rattle.format.specs.Refusal.{unfit_version}
 use Rattle.says.proofs.Walk.{both, only, says_at}
-use borrow.Author.Rules.{rules}
 use Rattle.marks.proofs.version_unfit.Goals as goal
 
 pub returns : goal.returns

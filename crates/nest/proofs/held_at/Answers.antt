@@ -1,5 +1,4 @@
 use mathlib.Core.Path.{sym}
-use borrow.Author.Rules.{rules}
 use Rattle.nest.proofs.FoundLaws.{held_yes, held_no}
 use Rattle.nest.proofs.held_at.Goals as goal
 

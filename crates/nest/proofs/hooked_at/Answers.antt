@@ -1,5 +1,4 @@
 use mathlib.Core.Path.{sym, ◌∙◌}
-use borrow.Author.Rules.{rules}
 use Rattle.nest.proofs.FoundLaws.{hooked_yes, hooked_elsewhere, hooked_no}
 use Rattle.nest.proofs.hooked_at.Goals as goal
 

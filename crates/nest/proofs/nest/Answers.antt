@@ -1,7 +1,6 @@
 use Rattle.nest.proofs.Lacking.{findings_both}
 use Rattle.nest.proofs.Stored.{array_in}
 use native.Mathlib.Omega.{arith}
-use borrow.Author.Rules.{rules}
 use Rattle.nest.proofs.nest.Goals as goal
 
 pub all_findings-requires : goal.all_findings-requires

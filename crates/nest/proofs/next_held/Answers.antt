@@ -1,8 +1,5 @@
-use Prim.Native.Nat.{◌-◌}
-use mathlib.Core.Path.{◌≡◌, refl, sym, ap, ◌∙◌}
-use borrow.Author.Rules.{rules}
-use Rattle.nest.specs.Lists.{keep, first, up_to}
-use Rattle.nest.specs.Found.{found_by, held_at}
+use mathlib.Core.Path.{refl, sym, ap, ◌∙◌}
+use Rattle.nest.specs.Found.{found_by}
 use Rattle.nest.proofs.Scan.{first_here, first_next, first_end}
 use Rattle.nest.proofs.next_held.Goals as goal
 

@@ -1,9 +1,7 @@
 use Prim.Native.Nat.{◌-◌}
-use mathlib.Core.Path.{◌≡◌, refl, sym, ap, ◌∙◌}
-use borrow.Author.Rules.{rules}
+use mathlib.Core.Path.{◌≡◌}
 use Rattle.nest.specs.Lists.{keep, first, up_to}
-use Rattle.nest.specs.Found.{found_by, hooked_at}
-use Rattle.nest.proofs.Scan.{first_here, first_next, first_end}
+use Rattle.nest.specs.Found.{hooked_at}
 use Rattle.nest.proofs.next_hooked.Given as goal
 
 abbrev pub invariant-loop-k : goal.invariant-loop-k

@@ -1,7 +1,6 @@
 use native.Mathlib.Numerals.{add-one, add-two}
 use native.Mathlib.Omega.{arith}
 use lib.ListN.{length-set}
-use borrow.Author.Rules.{rules}
 use Rattle.nest.proofs.put_record.Goals as goal
 
 pub bounds-nest-i1 : goal.bounds-nest-i1

@@ -1,5 +1,4 @@
 use mathlib.Core.Path.{sym}
-use borrow.Author.Rules.{rules}
 use Rattle.nest.proofs.FoundLaws.{above_none, above_row}
 use Rattle.nest.proofs.row_above.Goals as goal
 

@@ -1,6 +1,5 @@
 use mathlib.Core.Path.{sym, ◌∙◌}
 use Rattle.format.specs.Passed.{refused_1, refused_2, refused_3, refused_4, refused_5, refused_not}
-use borrow.Author.Rules.{rules}
 use Rattle.refusal.proofs.check.Goals as goal
 
 pub returns-then-broken_at : goal.returns-then-broken_at

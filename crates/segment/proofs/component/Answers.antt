@@ -5,7 +5,6 @@ use lib.ListN.{length}
 use Rattle.lent.specs.Fit.{cap}
 use Rattle.segment.proofs.Strokes.{placed_none, penned_none, penned_text}
 use Rattle.segment.specs.Pen.{value_text}
-use borrow.Author.Rules.{rules}
 use Rattle.segment.proofs.component.Goals as goal
 use Rattle.segment.proofs.component.Goals.{Start}
 

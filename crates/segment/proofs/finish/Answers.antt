@@ -1,5 +1,4 @@
 use Rattle.segment.proofs.Strokes.{finished_none, finished_some, penned_none}
-use borrow.Author.Rules.{rules}
 use Rattle.segment.proofs.finish.Goals as goal
 
 pub returns-then-c-lt2 : goal.returns-then-c-lt2

@@ -1,7 +1,6 @@
 use mathlib.Core.Path.{◌∙◌}
 use Rattle.segment.specs.Pen.{value_text}
 use Rattle.segment.proofs.Texts.{one_byte}
-use borrow.Author.Rules.{rules}
 use Rattle.segment.proofs.holds.Goals as goal
 
 pub returns : goal.returns

@@ -1,7 +1,6 @@
 use mathlib.Core.Path.{sym, ◌∙◌}
 use Rattle.segment.specs.Pen.{one_of}
 use Rattle.segment.proofs.Texts.{in_zeros, in_spaces, in_own, in_held}
-use borrow.Author.Rules.{rules}
 use Rattle.segment.proofs.holds_any.Goals as goal
 
 pub returns-then-run_holds : goal.returns-then-run_holds

@@ -2,7 +2,6 @@ use mathlib.Core.Path.{sym}
 use native.Mathlib.Omega.{arith}
 use Rattle.segment.proofs.Texts.{some_there, none_there, length_value}
 use Rattle.segment.specs.Pen.{value_text}
-use borrow.Author.Rules.{rules}
 use Rattle.segment.proofs.is_empty.Goals as goal
 
 pub returns-then-v-gt0 : goal.returns-then-v-gt0

@@ -3,7 +3,6 @@ use mathlib.Core.Path.{ap}
 use lib.ListN.{take}
 use Rattle.segment.specs.Pen.{one_of}
 use Rattle.segment.proofs.Texts.{any_none}
-use borrow.Author.Rules.{rules}
 use Rattle.segment.proofs.own_holds.Goals as goal
 
 pub returns-then-v-eq0 : goal.returns-then-v-eq0

@@ -4,7 +4,6 @@ use lib.ListN.{length}
 use Rattle.lent.specs.Fit.{cap, stretch}
 use Rattle.segment.proofs.Strokes.{placed_none, penned_none, penned_text}
 use Rattle.segment.proofs.Texts.{some_there, none_there}
-use borrow.Author.Rules.{rules}
 use Rattle.segment.proofs.part.Goals as goal
 use Rattle.segment.proofs.part.Goals.{Start}
 

@@ -3,7 +3,6 @@ use native.Mathlib.Omega.{arith}
 use lib.ListN.{length, replicate}
 use Rattle.lent.specs.Fit.{cap, stretch}
 use Rattle.lent.proofs.Laws.{stored_append}
-use borrow.Author.Rules.{rules}
 use Rattle.segment.proofs.put_back.Goals as goal
 use Rattle.segment.proofs.put_back.Goals.{Start}
 

@@ -5,7 +5,6 @@ use Rattle.lent.specs.Fit.{cap}
 use Rattle.lent.proofs.Laws.{stored_append}
 use Rattle.segment.proofs.Strokes.{ending_break, ending_none}
 use mathlib.Core.List.{[], ◌∷◌}
-use borrow.Author.Rules.{rules}
 use Rattle.segment.proofs.put_ending.Goals as goal
 use Rattle.segment.proofs.put_ending.Goals.{Start}
 

@@ -5,7 +5,6 @@ use lib.ListN.{length, take, replicate}
 use Rattle.lent.specs.Fit.{cap}
 use Rattle.lent.proofs.Laws.{stored_append}
 use Rattle.segment.proofs.Texts.{stored_alone}
-use borrow.Author.Rules.{rules}
 use Rattle.segment.proofs.put_front.Goals as goal
 use Rattle.segment.proofs.put_front.Goals.{Start}
 

@@ -3,7 +3,6 @@ use native.Mathlib.Omega.{arith}
 use lib.ListN.{length}
 use Rattle.lent.specs.Fit.{cap}
 use Rattle.segment.proofs.Strokes.{penned_reach}
-use borrow.Author.Rules.{rules}
 use Rattle.segment.proofs.reach.Goals as goal
 use Rattle.segment.proofs.reach.Goals.{Start}
 

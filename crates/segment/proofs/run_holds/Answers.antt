@@ -3,7 +3,6 @@ use mathlib.Core.Path.{ap, ◌∙◌}
 use lib.ListN.{replicate}
 use Rattle.segment.specs.Pen.{one_of}
 use Rattle.segment.proofs.Texts.{any_none, any_run}
-use borrow.Author.Rules.{rules}
 use Rattle.segment.proofs.run_holds.Goals as goal
 
 pub returns-then-n-eq0 : goal.returns-then-n-eq0

@@ -1,10 +1,10 @@
-use Prim.Native.Nat.{◌≤◌, ◌<◌, ◌-◌}
-use mathlib.Core.Path.{◌≡◌, sym, ◌∙◌, refl}
+use Prim.Native.Nat.{◌<◌}
+use mathlib.Core.Path.{sym, ◌∙◌, refl}
 use native.Mathlib.Omega.{arith}
-use lib.ListN.{length, drop}
+use lib.ListN.{length}
 use Rattle.lent.specs.Fit.{stretch}
 use Rattle.lent.proofs.Laws.{length_stretch}
-use Rattle.segment.specs.Pen.{holds_any, one_of}
+use Rattle.segment.specs.Pen.{one_of}
 use Rattle.segment.proofs.Texts.{any_turn, any_past}
 use borrow.Author.Rules.{rules}
 use Rattle.segment.proofs.stretch_holds.Goals as goal

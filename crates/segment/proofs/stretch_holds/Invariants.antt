@@ -1,12 +1,8 @@
-use Prim.Native.Nat.{◌≤◌, ◌<◌, ◌-◌}
-use mathlib.Core.Path.{◌≡◌, sym, ◌∙◌, refl}
-use native.Mathlib.Omega.{arith}
-use lib.ListN.{length, drop}
+use Prim.Native.Nat.{◌≤◌, ◌-◌}
+use mathlib.Core.Path.{◌≡◌}
+use lib.ListN.{drop}
 use Rattle.lent.specs.Fit.{stretch}
-use Rattle.lent.proofs.Laws.{length_stretch}
 use Rattle.segment.specs.Pen.{holds_any, one_of}
-use Rattle.segment.proofs.Texts.{any_turn, any_past}
-use borrow.Author.Rules.{rules}
 use Rattle.segment.proofs.stretch_holds.Given as goal
 
 abbrev pub invariant-loop-i : goal.invariant-loop-i

@@ -1,5 +1,4 @@
 use mathlib.Core.Path.{sym}
-use borrow.Author.Rules.{rules}
 use Rattle.walk.proofs.ContextLaws.{row_none, row_some}
 use Rattle.walk.proofs.row_in.Goals as goal
 

@@ -1,11 +1,8 @@
 use Prim.Native.Nat.{◌-◌}
-use native.Mathlib.Omega.{arith}
-use mathlib.Core.Path.{sym, ◌∙◌}
 use Rattle.format.specs.Sections.{job_of}
 use Rattle.format.specs.Ask.{planned_of}
-use Rattle.due.proofs.Ways.{Searching, columns_some, search_start, search_found, search_next, search_end}
+use Rattle.due.proofs.Ways.{Searching}
 use Rattle.due.specs.Cells.{differ}
-use borrow.Author.Rules.{rules}
 use Rattle.due.proofs.cells.columns_differ.Given as goal
 
 abbrev pub invariant-loop-k : goal.invariant-loop-k

@@ -1,5 +1,4 @@
 use Rattle.due.proofs.Ways.{apart}
-use borrow.Author.Rules.{rules}
 use Rattle.due.proofs.cells.differs.Goals as goal
 
 pub returns : goal.returns

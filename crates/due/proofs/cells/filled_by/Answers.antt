@@ -1,5 +1,4 @@
 use Rattle.due.proofs.Loops.{row_of}
-use borrow.Author.Rules.{rules}
 use Rattle.due.proofs.cells.filled_by.Goals as goal
 
 pub returns-in-Row : goal.returns-in-Row

@@ -1,5 +1,4 @@
 use Rattle.due.proofs.Ways.{has_value_lem}
-use borrow.Author.Rules.{rules}
 use Rattle.due.proofs.cells.has_value.Goals as goal
 
 pub returns : goal.returns

@@ -1,4 +1,3 @@
-use borrow.Author.Rules.{rules}
 use Rattle.due.proofs.cells.same_segment.Goals as goal
 
 pub returns : goal.returns

@@ -1,5 +1,4 @@
 use Rattle.due.proofs.Ways.{column_value}
-use borrow.Author.Rules.{rules}
 use Rattle.due.proofs.cells.sets_apart.Goals as goal
 
 pub returns-in-Column : goal.returns-in-Column

@@ -1,5 +1,4 @@
 use Rattle.due.proofs.Loops.{inside_row}
-use borrow.Author.Rules.{rules}
 use Rattle.due.proofs.cells.stands_inside.Goals as goal
 
 pub returns-in-Inside : goal.returns-in-Inside

@@ -2,7 +2,6 @@ use Prim.Native.Nat.{◌≤◌}
 use Rattle.emit.specs.Written.{scale_in}
 use Rattle.emit.proofs.ScaleLaws.{scale_read, scales_low}
 use Rattle.emit.proofs.CellLaws.{cell_outcome_lem}
-use borrow.Author.Rules.{rules}
 use Rattle.emit.proofs.cells.cell_text.Goals as goal
 
 pub read_text-requires : goal.read_text-requires

@@ -1,5 +1,4 @@
 use Rattle.spec.specs.Answers.{stretch_of}
-use borrow.Author.Rules.{rules}
 use Rattle.emit.proofs.cells.code_text.Goals as goal
 
 pub returns : goal.returns

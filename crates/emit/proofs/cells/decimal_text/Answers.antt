@@ -2,7 +2,6 @@ use Rattle.emit.proofs.TextLaws.{halves}
 use mathlib.Core.Path.{◌≡◌}
 use native.Mathlib.Omega.{arith}
 use Prim.Native.Nat.{min}
-use borrow.Author.Rules.{rules}
 use Rattle.emit.proofs.cells.decimal_text.Goals as goal
 
 pub returns : goal.returns

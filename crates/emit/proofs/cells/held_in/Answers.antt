@@ -2,7 +2,6 @@ use mathlib.Core.Path.{sym}
 use mathlib.Core.Bool.{false≢true}
 use Rattle.column.specs.Answers.{cell_at}
 use Rattle.emit.specs.Puts.{cell_text}
-use borrow.Author.Rules.{rules}
 use Rattle.emit.proofs.cells.held_in.Goals as goal
 
 pub returns-in-None : goal.returns-in-None

@@ -4,7 +4,6 @@ use Rattle.texts.specs.Number.{int_text}
 use Rattle.texts.specs.Held.{held}
 use lib.IntN.{ℤ}
 use mathlib.Core.Path.{◌≡◌, subst}
-use borrow.Author.Rules.{rules}
 use Rattle.emit.proofs.cells.int_text.Goals as goal
 
 pub returns : goal.returns

@@ -1,6 +1,5 @@
 use mathlib.Core.Path.{ap, ◌∙◌}
 use Rattle.emit.specs.Puts.{max_in}
-use borrow.Author.Rules.{rules}
 use Rattle.emit.proofs.cells.max_at.Goals as goal
 
 pub returns : goal.returns

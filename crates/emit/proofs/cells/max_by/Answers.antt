@@ -1,4 +1,3 @@
-use borrow.Author.Rules.{rules}
 use Rattle.emit.proofs.cells.max_by.Goals as goal
 
 pub returns-in-Is : goal.returns-in-Is

@@ -1,5 +1,4 @@
 use mathlib.Core.Path.{◌∙◌}
-use borrow.Author.Rules.{rules}
 use Rattle.emit.proofs.cells.of_said.Goals as goal
 
 pub returns : goal.returns

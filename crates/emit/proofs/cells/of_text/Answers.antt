@@ -1,5 +1,4 @@
 use Rattle.emit.proofs.TextLaws.{writes_own}
-use borrow.Author.Rules.{rules}
 use Rattle.emit.proofs.cells.of_text.Goals as goal
 
 pub returns : goal.returns

@@ -1,7 +1,6 @@
 use mathlib.Core.Bool.{false≢true}
 use Rattle.column.specs.Answers.{cell_at}
 use Rattle.emit.specs.Puts.{cell_text}
-use borrow.Author.Rules.{rules}
 use Rattle.emit.proofs.cells.own_text.Goals as goal
 
 pub said_decimal-requires : goal.said_decimal-requires

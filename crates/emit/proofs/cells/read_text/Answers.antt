@@ -1,5 +1,4 @@
 use Rattle.emit.proofs.CellLaws.{writes_as}
-use borrow.Author.Rules.{rules}
 use Rattle.emit.proofs.cells.read_text.Goals as goal
 
 pub returns-then-h : goal.returns-then-h

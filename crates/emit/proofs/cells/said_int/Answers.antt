@@ -1,5 +1,4 @@
 use mathlib.Core.Path.{refl}
-use borrow.Author.Rules.{rules}
 use Rattle.emit.proofs.cells.said_int.Goals as goal
 
 pub returns : goal.returns

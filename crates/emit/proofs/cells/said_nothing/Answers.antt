@@ -1,6 +1,5 @@
 use mathlib.Core.Path.{refl}
 use Rattle.texts.specs.Held.{held}
-use borrow.Author.Rules.{rules}
 use Rattle.emit.proofs.cells.said_nothing.Goals as goal
 
 pub returns : goal.returns

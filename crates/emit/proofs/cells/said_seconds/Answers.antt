@@ -4,7 +4,6 @@ use Rattle.texts.specs.Clock.{time_text}
 use Rattle.texts.specs.Reason.{Says}
 use lib.IntN.{ℤ}
 use mathlib.Core.Path.{subst}
-use borrow.Author.Rules.{rules}
 use Rattle.emit.proofs.cells.said_seconds.Goals as goal
 
 pub returns : goal.returns

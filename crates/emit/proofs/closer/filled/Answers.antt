@@ -1,4 +1,3 @@
-use borrow.Author.Rules.{rules}
 use Rattle.emit.proofs.closer.filled.Goals as goal
 
 pub returns-then-is_empty : goal.returns-then-is_empty

@@ -7,7 +7,6 @@ use mathlib.Core.Option.{none}
 use mathlib.Core.List.{[], ◌∷◌}
 use Prim.Native.Nat.{◌≤◌}
 use Rattle.segment.specs.Pen.{value_text}
-use borrow.Author.Rules.{rules}
 use Rattle.emit.proofs.closer.join_two.Goals as goal
 use Rattle.emit.proofs.closer.join_two.Goals.{Start}
 

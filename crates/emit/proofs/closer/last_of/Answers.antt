@@ -2,7 +2,6 @@ use Rattle.emit.proofs.JoinLaws.{last_of_two}
 use native.Mathlib.Nat.{max-eq_left, max-eq_right, le_of_lt}
 use mathlib.Core.Path.{sym, ◌∙◌}
 use Rattle.segment.specs.Pen.{value_text}
-use borrow.Author.Rules.{rules}
 use Rattle.emit.proofs.closer.last_of.Goals as goal
 
 pub returns-then-a-b : goal.returns-then-a-b

@@ -1,7 +1,6 @@
 use Rattle.emit.proofs.JoinLaws.{closer_count_first, closer_control_first}
 use Rattle.segment.specs.Pen.{value_text}
 use Rattle.lent.specs.Fit.{stretch}
-use borrow.Author.Rules.{rules}
 use Rattle.emit.proofs.closer.put_closer.Goals as goal
 
 pub returns-then-count-closer : goal.returns-then-count-closer

@@ -1,7 +1,6 @@
 use Rattle.emit.proofs.JoinLaws.{two_stuck, two_same, two_apart, apart}
 use Rattle.segment.specs.Pen.{value_text}
 use Prim.Native.Nat.{◌<◌}
-use borrow.Author.Rules.{rules}
 use Rattle.emit.proofs.closer.put_two.Goals as goal
 
 pub returns-then-p-lt1 : goal.returns-then-p-lt1

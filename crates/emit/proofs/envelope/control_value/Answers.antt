@@ -1,5 +1,4 @@
 use Rattle.emit.proofs.TextLaws.{control_text_lem}
-use borrow.Author.Rules.{rules}
 use Rattle.emit.proofs.envelope.control_value.Goals as goal
 
 pub returns : goal.returns

@@ -1,6 +1,5 @@
 use Rattle.emit.proofs.TextLaws.{held_text}
 use mathlib.Core.Path.{◌∙◌}
-use borrow.Author.Rules.{rules}
 use Rattle.emit.proofs.envelope.count_value.Goals as goal
 
 pub returns : goal.returns

@@ -1,6 +1,5 @@
 use mathlib.Core.Path.{◌∙◌}
 use Rattle.emit.proofs.TableLaws.{in_table, none_at_zero, none_deeper}
-use borrow.Author.Rules.{rules}
 use Rattle.emit.proofs.envelope.field_at.Goals as goal
 
 pub returns-then-position-eq0 : goal.returns-then-position-eq0

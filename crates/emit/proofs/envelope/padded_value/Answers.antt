@@ -1,6 +1,5 @@
 use Rattle.emit.proofs.TextLaws.{lengths_fit, padded_text}
 use native.Mathlib.Omega.{arith}
-use borrow.Author.Rules.{rules}
 use Rattle.emit.proofs.envelope.padded_value.Goals as goal
 
 pub overflow_add-own : goal.overflow_add-own

@@ -1,8 +1,7 @@
-use Prim.Native.Nat.{◌≤◌, ◌-◌}
-use mathlib.Core.Path.{◌≡◌, refl, sym, ap, ◌∙◌}
+use mathlib.Core.Path.{refl, sym, ap, ◌∙◌}
 use mathlib.Core.List.{[]}
 use lib.ListN.{get_or}
-use Rattle.emit.specs.Table.{table, searched}
+use Rattle.emit.specs.Table.{table}
 use Rattle.emit.proofs.TableLaws.{search_next, search_found, search_none}
 use mathlib.Core.Option.{some}
 use borrow.Author.Rules.{rules}

@@ -1,11 +1,8 @@
 use Prim.Native.Nat.{◌≤◌, ◌-◌}
-use mathlib.Core.Path.{◌≡◌, refl, sym, ap, ◌∙◌}
+use mathlib.Core.Path.{◌≡◌}
 use mathlib.Core.List.{[]}
 use lib.ListN.{get_or}
 use Rattle.emit.specs.Table.{table, searched}
-use Rattle.emit.proofs.TableLaws.{search_next, search_found, search_none}
-use mathlib.Core.Option.{some}
-use borrow.Author.Rules.{rules}
 use Rattle.emit.proofs.envelope.search.Given as goal
 
 abbrev pub invariant-loop-i : goal.invariant-loop-i

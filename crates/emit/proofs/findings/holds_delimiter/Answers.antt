@@ -2,7 +2,6 @@ use mathlib.Core.Path.{sym, ◌∙◌}
 use Rattle.emit.specs.declared.findings.Repetition.TheVariants.{Absent, Byte}
 use Rattle.emit.proofs.FindingLaws.{none_held}
 use Rattle.segment.specs.Pen.{value_text}
-use borrow.Author.Rules.{rules}
 use Rattle.emit.proofs.findings.holds_delimiter.Goals as goal
 
 pub returns-in-Absent : goal.returns-in-Absent

@@ -1,5 +1,4 @@
 use Rattle.emit.proofs.FindingLaws.{stored_reason, stored_no_reason}
-use borrow.Author.Rules.{rules}
 use Rattle.emit.proofs.findings.note_reason.Goals as goal
 
 pub returns-then-reason-gt0 : goal.returns-then-reason-gt0

@@ -2,7 +2,6 @@ use mathlib.Core.Bool.{false≢true}
 use Rattle.emit.specs.Written.{tried}
 use Rattle.segment.specs.Pen.{value_text}
 use Rattle.emit.proofs.FindingLaws.{none_found}
-use borrow.Author.Rules.{rules}
 use Rattle.emit.proofs.findings.silent.Goals as goal
 
 pub returns-then-x-gt0 : goal.returns-then-x-gt0

@@ -2,7 +2,6 @@ use mathlib.Core.Path.{sym, ◌∙◌}
 use Rattle.emit.specs.declared.findings.Repetition.TheVariants.{Absent, Byte}
 use Rattle.emit.proofs.FindingLaws.{none_held}
 use Rattle.lent.specs.Fit.{stretch}
-use borrow.Author.Rules.{rules}
 use Rattle.emit.proofs.findings.stretch_holds.Goals as goal
 
 pub returns-in-Absent : goal.returns-in-Absent

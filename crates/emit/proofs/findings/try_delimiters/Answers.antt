@@ -1,5 +1,4 @@
 use Rattle.emit.proofs.FindingLaws.{none_stored}
-use borrow.Author.Rules.{rules}
 use Rattle.emit.proofs.findings.try_delimiters.Goals as goal
 
 pub returns : goal.returns

@@ -5,7 +5,6 @@ use lib.ListN.{length}
 use native.Mathlib.Omega.{arith}
 use Prim.Native.Nat.{◌≤◌}
 use Rattle.segment.specs.Pen.{value_text}
-use borrow.Author.Rules.{rules}
 use Rattle.emit.proofs.findings.try_from_segment.Goals as goal
 use Rattle.emit.proofs.findings.try_from_segment.Goals.{Start}
 

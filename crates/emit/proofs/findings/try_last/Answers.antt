@@ -1,6 +1,5 @@
 use Rattle.emit.proofs.FindingLaws.{none_tried}
 use Rattle.segment.specs.Pen.{value_text}
-use borrow.Author.Rules.{rules}
 use Rattle.emit.proofs.findings.try_last.Goals as goal
 
 pub returns-in-Absent : goal.returns-in-Absent

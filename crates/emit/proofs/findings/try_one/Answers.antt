@@ -1,7 +1,6 @@
 use Rattle.segment.specs.Pen.{value_text}
 use mathlib.Core.Path.{sym, ◌∙◌}
 use Rattle.emit.proofs.FindingLaws.{stored_held, stored_not_held}
-use borrow.Author.Rules.{rules}
 use Rattle.emit.proofs.findings.try_one.Goals as goal
 
 pub returns-then-holds : goal.returns-then-holds

@@ -1,5 +1,4 @@
 use native.Mathlib.Omega.{arith}
-use borrow.Author.Rules.{rules}
 use Rattle.emit.proofs.signs.component_word.Goals as goal
 
 pub returns-in-Is : goal.returns-in-Is

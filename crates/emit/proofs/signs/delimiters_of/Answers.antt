@@ -1,5 +1,4 @@
 use Rattle.emit.proofs.FindingLaws.{tried_separators}
-use borrow.Author.Rules.{rules}
 use Rattle.emit.proofs.signs.delimiters_of.Goals as goal
 
 pub returns : goal.returns

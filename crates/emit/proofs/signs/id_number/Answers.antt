@@ -1,6 +1,5 @@
 use native.Mathlib.Omega.{arith}
 use Rattle.emit.proofs.NameLaws.{name_none, name_one, name_two, name_three}
-use borrow.Author.Rules.{rules}
 use Rattle.emit.proofs.signs.id_number.Goals as goal
 
 pub returns-then-len-eq0 : goal.returns-then-len-eq0

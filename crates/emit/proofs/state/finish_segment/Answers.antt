@@ -1,7 +1,6 @@
 use Rattle.emit.specs.Did.{row_in}
 use Rattle.emit.proofs.StateLaws.{traced_one}
 use mathlib.Core.Path.{refl}
-use borrow.Author.Rules.{rules}
 use Rattle.emit.proofs.state.finish_segment.Goals as goal
 
 pub returns : goal.returns

@@ -1,6 +1,5 @@
 use Rattle.emit.proofs.FindingLaws.{words_one}
 use Rattle.nest.specs.Finding.{out_of_order, record_of}
-use borrow.Author.Rules.{rules}
 use Rattle.emit.proofs.state.note_order.Goals as goal
 
 pub returns : goal.returns

@@ -1,5 +1,4 @@
 use native.Mathlib.Numerals.{add-one}
-use borrow.Author.Rules.{rules}
 use Rattle.emit.proofs.state.trace_words.Goals as goal
 
 pub returns-in-Envelope : goal.returns-in-Envelope

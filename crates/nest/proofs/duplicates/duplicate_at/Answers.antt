@@ -1,12 +1,4 @@
 use Rattle.nest.proofs.Reports.{stored_nothing, stored_finding, duplicate_no, duplicate_own, duplicate_yes, duplicate_words}
-use native.Mathlib.Omega.{arith}
-use borrow.Author.Rules.{rules}
-use Rattle.nest.proofs.duplicates.duplicate_at.Reads as reads
-use Rattle.nest.proofs.duplicates.duplicate_at.Lts as lts
-use Rattle.lent.proofs.more.Reads as more-reads
-use Rattle.lent.proofs.put_words.Reads as note-words-reads
-use Rattle.nest.proofs.keys.first_with.Reads as first-with-reads
-use Rattle.tables.proofs.data.key.Reads as key_reads
 use Rattle.nest.proofs.duplicates.duplicate_at.Goals as goal
 
 pub returns-then-f-r : goal.returns-then-f-r

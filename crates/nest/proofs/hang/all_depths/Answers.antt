@@ -1,12 +1,5 @@
-use Rattle.nest.proofs.Claiming.{Sounded, sounded_none, sounded_next, sounded_end, depth_fits}
-use Rattle.nest.specs.OfJob.{outline_of}
+use Rattle.nest.proofs.Claiming.{sounded_none, sounded_next, sounded_end, depth_fits}
 use native.Mathlib.Omega.{arith}
-use Prim.Native.Nat.{◌-◌, ◌≤◌}
-use Rattle.format.specs.Sections.{job_of}
-use borrow.Author.Rules.{rules}
-use Rattle.nest.proofs.hang.all_depths.Reads as reads
-use Rattle.nest.proofs.hang.all_depths.Lts as lts
-use Rattle.nest.proofs.hang.depth.Reads as depth-reads
 use Rattle.nest.proofs.hang.all_depths.Goals as goal
 
 pub loop-l-init : goal.loop-l-init

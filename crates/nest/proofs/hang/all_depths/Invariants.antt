@@ -1,12 +1,7 @@
-use Rattle.nest.proofs.Claiming.{Sounded, sounded_none, sounded_next, sounded_end, depth_fits}
+use Rattle.nest.proofs.Claiming.{Sounded}
 use Rattle.nest.specs.OfJob.{outline_of}
-use native.Mathlib.Omega.{arith}
 use Prim.Native.Nat.{◌-◌, ◌≤◌}
 use Rattle.format.specs.Sections.{job_of}
-use borrow.Author.Rules.{rules}
-use Rattle.nest.proofs.hang.all_depths.Reads as reads
-use Rattle.nest.proofs.hang.all_depths.Lts as lts
-use Rattle.nest.proofs.hang.depth.Reads as depth-reads
 use Rattle.nest.proofs.hang.all_depths.Given as goal
 
 abbrev pub invariant-loop-l : goal.invariant-loop-l

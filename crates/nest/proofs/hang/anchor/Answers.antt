@@ -1,11 +1,5 @@
 use Rattle.nest.proofs.Claiming.{anchor_here, anchor_elsewhere}
 use mathlib.Core.Path.{◌∙◌}
-use borrow.Author.Rules.{rules}
-use Rattle.nest.proofs.hang.anchor.Reads as reads
-use Rattle.nest.proofs.hang.anchor.Lts as lts
-use Rattle.nest.proofs.hang.depth_at.Reads as depth-at-reads
-use Rattle.nest.proofs.hang.row_table.Reads as row-table-reads
-use Rattle.plan.proofs.planned.instances.Reads as instances-reads
 use Rattle.nest.proofs.hang.anchor.Goals as goal
 
 pub returns-then-n-d : goal.returns-then-n-d

@@ -1,21 +1,9 @@
-use Rattle.nest.proofs.Claiming.{loop_small, all_left, left_here, left_passed, left_lower, left_over, Tried, tried_none, tried_on, tried_here, tried_next, tried_end, less_down}
+use Rattle.nest.proofs.Claiming.{Tried}
 use Rattle.nest.proofs.Anchors.{left}
 use Rattle.nest.specs.Outline.{table_of}
 use Rattle.nest.specs.OfJob.{outline_of}
-use Rattle.nest.proofs.Ways.{refers, refers_not}
-use Rattle.spec.specs.Answers.{number_of}
-use native.Mathlib.Omega.{arith}
-use Prim.Native.Nat.{suc, ◌+◌, ◌*◌, ◌-◌, ◌≤◌}
-use mathlib.Core.Path.{sym, ap, ◌∙◌}
+use Prim.Native.Nat.{suc, ◌+◌, ◌*◌, ◌-◌}
 use Rattle.format.specs.Sections.{job_of}
-use borrow.Author.Rules.{rules}
-use Rattle.nest.proofs.hang.claim.Reads as reads
-use Rattle.nest.proofs.hang.claim.Lts as lts
-use Rattle.nest.proofs.hang.anchor.Reads as anchor-reads
-use Rattle.nest.proofs.hang.deepest.Reads as deepest-reads
-use Rattle.spec.proofs.tables.table_loop.Reads as table-loop-reads
-use Rattle.spec.proofs.tables.table_loop_count.Reads as table-loop-count-reads
-use Rattle.tables.proofs.data.reference.Reads as reference-reads
 use Rattle.nest.proofs.hang.claim.Given as goal
 
 abbrev pub invariant-loop-i : goal.invariant-loop-i

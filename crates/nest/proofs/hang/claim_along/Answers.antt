@@ -1,17 +1,8 @@
-use Rattle.nest.proofs.Claiming.{Tried, tried_none, tried_here, tried_next, tried_end}
+use Rattle.nest.proofs.Claiming.{tried_none, tried_here, tried_next, tried_end}
 use Rattle.nest.proofs.Lining.{lined_end}
 use Rattle.nest.proofs.Ways.{refers, refers_not}
-use Rattle.nest.specs.Nest.{anchors}
-use Rattle.nest.specs.OfJob.{outline_of}
-use lib.ListN.{drop}
 use native.Mathlib.Omega.{arith}
-use Prim.Native.Nat.{◌-◌, ◌≤◌}
 use mathlib.Core.Path.{refl}
-use Rattle.format.specs.Sections.{job_of}
-use borrow.Author.Rules.{rules}
-use Rattle.nest.proofs.hang.claim_along.Reads as reads
-use Rattle.nest.proofs.hang.claim_along.Lts as lts
-use Rattle.tables.proofs.data.reference.Reads as reference-reads
 use Rattle.nest.proofs.hang.claim_along.Goals as goal
 
 pub loop-k-init : goal.loop-k-init

@@ -1,11 +1,6 @@
 use Rattle.nest.proofs.Claiming.{loop_small, within_none, within_next, within_all}
-use Rattle.nest.specs.Keys.{Within}
-use Rattle.nest.specs.OfJob.{outline_of}
-use Rattle.format.specs.Sections.{job_of}
 use native.Mathlib.Omega.{arith}
-use Prim.Native.Nat.{◌-◌, ◌≤◌}
 use mathlib.Core.Path.{◌∙◌}
-use borrow.Author.Rules.{rules}
 use Rattle.nest.proofs.hang.deepest.Goals as goal
 
 pub loop-i-init : goal.loop-i-init

@@ -1,15 +1,5 @@
 use Rattle.nest.proofs.Ways.{climb_start, climb_up, climb_top, climb_end}
-use Rattle.nest.specs.OfJob.{outline_of}
-use Rattle.nest.specs.Nest.{depth, depth_of}
 use native.Mathlib.Omega.{arith}
-use Prim.Native.Nat.{◌+◌, ◌≤◌}
-use mathlib.Core.Path.{◌≡◌}
-use Rattle.format.specs.Sections.{job_of}
-use borrow.Author.Rules.{rules}
-use Rattle.nest.proofs.hang.depth.Reads as reads
-use Rattle.nest.proofs.hang.depth.Lts as lts
-use Rattle.spec.proofs.loops.loop_count.Reads as loop-count-reads
-use Rattle.spec.proofs.loops.loop_parent.Reads as loop-parent-reads
 use Rattle.nest.proofs.hang.depth.Goals as goal
 
 pub loop-left-init : goal.loop-left-init

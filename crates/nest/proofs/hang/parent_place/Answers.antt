@@ -1,10 +1,5 @@
 use Rattle.nest.proofs.Placing.{referred_small, hung_top, hung_parent, hung_lost}
 use native.Mathlib.Omega.{arith}
-use borrow.Author.Rules.{rules}
-use Rattle.nest.proofs.hang.parent_place.Reads as reads
-use Rattle.nest.proofs.hang.parent_place.Lts as lts
-use Rattle.nest.proofs.keys.referred.Reads as referred-reads
-use Rattle.spec.proofs.tables.table_parent.Reads as table-parent-reads
 use Rattle.nest.proofs.hang.parent_place.Goals as goal
 
 pub overflow_add-result : goal.overflow_add-result

@@ -1,11 +1,5 @@
 use Rattle.nest.proofs.Placing.{repeats_is}
 use mathlib.Core.Path.{sym, ◌∙◌}
-use borrow.Author.Rules.{rules}
-use Rattle.nest.proofs.hang.place_of.Reads as reads
-use Rattle.nest.proofs.hang.place_of.Lts as lts
-use Rattle.nest.proofs.hang.parent_place.Reads as parent-place-reads
-use Rattle.nest.proofs.hang.repeat_place.Reads as repeat-place-reads
-use Rattle.spec.proofs.tables.repeats.Reads as repeats-reads
 use Rattle.nest.proofs.hang.place_of.Goals as goal
 
 pub repeat_place-requires : goal.repeat_place-requires

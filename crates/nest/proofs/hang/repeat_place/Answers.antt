@@ -1,10 +1,5 @@
 use Rattle.nest.proofs.Placing.{first_small, hung_hooked, hung_unhooked, hung_unclaimed}
 use native.Mathlib.Omega.{arith}
-use borrow.Author.Rules.{rules}
-use Rattle.nest.proofs.hang.repeat_place.Reads as reads
-use Rattle.nest.proofs.hang.repeat_place.Lts as lts
-use Rattle.nest.proofs.hang.claim_by.Reads as claim-by-reads
-use Rattle.nest.proofs.keys.first_row.Reads as first-row-reads
 use Rattle.nest.proofs.hang.repeat_place.Goals as goal
 
 pub overflow_add-result : goal.overflow_add-result

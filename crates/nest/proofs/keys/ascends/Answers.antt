@@ -1,13 +1,5 @@
-use Rattle.nest.proofs.Rising.{Climbing, climbing_first, climbing_next, climbing_end}
-use Rattle.nest.specs.OfJob.{outline_of}
-use Prim.Native.Nat.{◌-◌}
+use Rattle.nest.proofs.Rising.{climbing_first, climbing_next, climbing_end}
 use mathlib.Core.Bool.{false≢true}
-use Rattle.format.specs.Sections.{job_of}
-use borrow.Author.Rules.{rules}
-use Rattle.nest.proofs.keys.ascends.Reads as reads
-use Rattle.nest.proofs.keys.ascends.Lts as lts
-use Rattle.tables.proofs.data.key.Reads as key_reads
-use Rattle.tables.proofs.data.row_count.Reads as row-count-reads
 use Rattle.nest.proofs.keys.ascends.Goals as goal
 
 pub loop-k-init : goal.loop-k-init

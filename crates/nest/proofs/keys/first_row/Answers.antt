@@ -1,10 +1,4 @@
 use Rattle.nest.proofs.Rising.{known_none, known_any, known_rises, known_rising}
-use borrow.Author.Rules.{rules}
-use Rattle.nest.proofs.keys.first_row.Reads as reads
-use Rattle.nest.proofs.keys.first_row.Lts as lts
-use Rattle.nest.proofs.keys.first_with.Reads as first-with-reads
-use Rattle.nest.proofs.keys.known.Reads as known-reads
-use Rattle.nest.proofs.keys.search_near.Reads as search-near-reads
 use Rattle.nest.proofs.keys.first_row.Goals as goal
 
 pub search_near-requires : goal.search_near-requires

@@ -1,13 +1,6 @@
-use Rattle.nest.proofs.Ways.{sought, row_here, row_not, row_nowhere}
+use Rattle.nest.proofs.Ways.{row_here, row_not, row_nowhere}
 use native.Mathlib.Omega.{arith}
-use Prim.Native.Nat.{◌-◌, ◌≤◌}
-use mathlib.Core.Path.{◌≡◌, refl}
-use Rattle.format.specs.Sections.{job_of}
-use borrow.Author.Rules.{rules}
-use Rattle.nest.proofs.keys.first_with.Reads as reads
-use Rattle.nest.proofs.keys.first_with.Lts as lts
-use Rattle.tables.proofs.data.key.Reads as key_reads
-use Rattle.tables.proofs.data.row_count.Reads as row-count-reads
+use mathlib.Core.Path.{refl}
 use Rattle.nest.proofs.keys.first_with.Goals as goal
 
 pub loop-k-init : goal.loop-k-init

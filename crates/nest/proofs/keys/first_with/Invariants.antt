@@ -1,13 +1,7 @@
-use Rattle.nest.proofs.Ways.{sought, row_here, row_not, row_nowhere}
-use native.Mathlib.Omega.{arith}
+use Rattle.nest.proofs.Ways.{sought}
 use Prim.Native.Nat.{◌-◌, ◌≤◌}
-use mathlib.Core.Path.{◌≡◌, refl}
+use mathlib.Core.Path.{◌≡◌}
 use Rattle.format.specs.Sections.{job_of}
-use borrow.Author.Rules.{rules}
-use Rattle.nest.proofs.keys.first_with.Reads as reads
-use Rattle.nest.proofs.keys.first_with.Lts as lts
-use Rattle.tables.proofs.data.key.Reads as key_reads
-use Rattle.tables.proofs.data.row_count.Reads as row-count-reads
 use Rattle.nest.proofs.keys.first_with.Given as goal
 
 abbrev pub invariant-loop-k : goal.invariant-loop-k

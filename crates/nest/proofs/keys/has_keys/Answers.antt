@@ -1,16 +1,5 @@
 use Rattle.nest.proofs.Ways.{keys_start, keys_yes, keys_no, keys_none}
-use Rattle.nest.proofs.NestLaws.{keys_from}
-use Rattle.nest.specs.OfJob.{outline_of}
-use Rattle.nest.specs.Nest.{has_keys}
 use native.Mathlib.Omega.{arith}
-use Prim.Native.Nat.{◌-◌, ◌≤◌}
-use mathlib.Core.Path.{◌≡◌, refl}
-use Rattle.format.specs.Sections.{job_of}
-use borrow.Author.Rules.{rules}
-use Rattle.nest.proofs.keys.has_keys.Reads as reads
-use Rattle.nest.proofs.keys.has_keys.Lts as lts
-use Rattle.nest.proofs.keys.names.Reads as names-reads
-use Rattle.spec.proofs.tables.table_count.Reads as table-count-reads
 use Rattle.nest.proofs.keys.has_keys.Goals as goal
 
 pub loop-i-init : goal.loop-i-init

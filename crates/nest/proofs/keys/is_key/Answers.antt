@@ -1,10 +1,5 @@
 use Rattle.nest.proofs.Rising.{key_there}
 use mathlib.Core.Bool.{false≢true}
-use borrow.Author.Rules.{rules}
-use Rattle.nest.proofs.keys.is_key.Reads as reads
-use Rattle.nest.proofs.keys.is_key.Lts as lts
-use Rattle.tables.proofs.data.key.Reads as key_reads
-use Rattle.tables.proofs.data.row_count.Reads as row-count-reads
 use Rattle.nest.proofs.keys.is_key.Goals as goal
 
 pub returns-then-key-v : goal.returns-then-key-v

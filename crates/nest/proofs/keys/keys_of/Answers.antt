@@ -1,10 +1,5 @@
 use Rattle.nest.proofs.NestLaws.{keyless}
 use mathlib.Core.Path.{sym, ◌∙◌}
-use borrow.Author.Rules.{rules}
-use Rattle.nest.proofs.keys.keys_of.Reads as reads
-use Rattle.nest.proofs.keys.keys_of.Lts as lts
-use Rattle.nest.proofs.keys.ascends.Reads as ascends-reads
-use Rattle.nest.proofs.keys.has_keys.Reads as has-keys-reads
 use Rattle.nest.proofs.keys.keys_of.Goals as goal
 
 pub returns-then-rising : goal.returns-then-rising

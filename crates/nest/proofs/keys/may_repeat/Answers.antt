@@ -1,8 +1,4 @@
 use Rattle.nest.proofs.Rising.{known_are, may_none, may_any, may_rising}
-use borrow.Author.Rules.{rules}
-use Rattle.nest.proofs.keys.may_repeat.Reads as reads
-use Rattle.nest.proofs.keys.may_repeat.Lts as lts
-use Rattle.nest.proofs.keys.known.Reads as known-reads
 use Rattle.nest.proofs.keys.may_repeat.Goals as goal
 
 pub returns-in-None : goal.returns-in-None

@@ -1,13 +1,6 @@
-use Rattle.nest.proofs.Ways.{named, names_yes, names_no, names_end}
+use Rattle.nest.proofs.Ways.{names_yes, names_no, names_end}
 use native.Mathlib.Omega.{arith}
-use Prim.Native.Nat.{◌-◌, ◌≤◌}
-use mathlib.Core.Path.{◌≡◌, refl}
-use Rattle.format.specs.Sections.{job_of}
-use borrow.Author.Rules.{rules}
-use Rattle.nest.proofs.keys.names.Reads as reads
-use Rattle.nest.proofs.keys.names.Lts as lts
-use Rattle.spec.proofs.tables.ancestor.Reads as ancestor-reads
-use Rattle.spec.proofs.tables.ancestor_count.Reads as ancestor-count-reads
+use mathlib.Core.Path.{refl}
 use Rattle.nest.proofs.keys.names.Goals as goal
 
 pub loop-k-init : goal.loop-k-init

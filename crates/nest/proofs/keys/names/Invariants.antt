@@ -1,13 +1,7 @@
-use Rattle.nest.proofs.Ways.{named, names_yes, names_no, names_end}
-use native.Mathlib.Omega.{arith}
+use Rattle.nest.proofs.Ways.{named}
 use Prim.Native.Nat.{◌-◌, ◌≤◌}
-use mathlib.Core.Path.{◌≡◌, refl}
+use mathlib.Core.Path.{◌≡◌}
 use Rattle.format.specs.Sections.{job_of}
-use borrow.Author.Rules.{rules}
-use Rattle.nest.proofs.keys.names.Reads as reads
-use Rattle.nest.proofs.keys.names.Lts as lts
-use Rattle.spec.proofs.tables.ancestor.Reads as ancestor-reads
-use Rattle.spec.proofs.tables.ancestor_count.Reads as ancestor-count-reads
 use Rattle.nest.proofs.keys.names.Given as goal
 
 abbrev pub invariant-loop-k : goal.invariant-loop-k

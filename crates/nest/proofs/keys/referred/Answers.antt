@@ -1,9 +1,4 @@
 use Rattle.nest.proofs.Ways.{referred_row, referred_none}
-use borrow.Author.Rules.{rules}
-use Rattle.nest.proofs.keys.referred.Reads as reads
-use Rattle.nest.proofs.keys.referred.Lts as lts
-use Rattle.nest.proofs.keys.first_row.Reads as first-row-reads
-use Rattle.tables.proofs.data.reference.Reads as reference-reads
 use Rattle.nest.proofs.keys.referred.Goals as goal
 
 pub returns-in-Number : goal.returns-in-Number

@@ -1,13 +1,7 @@
-use Rattle.nest.proofs.Rising.{Between, between_all, between_low, between_high, between_here, between_none}
+use Rattle.nest.proofs.Rising.{Between}
 use Rattle.nest.specs.OfJob.{outline_of}
-use native.Mathlib.Omega.{arith}
 use Prim.Native.Nat.{◌-◌, ◌≤◌}
 use Rattle.format.specs.Sections.{job_of}
-use borrow.Author.Rules.{rules}
-use Rattle.nest.proofs.keys.search.Reads as reads
-use Rattle.nest.proofs.keys.search.Lts as lts
-use Rattle.tables.proofs.data.key.Reads as key_reads
-use Rattle.tables.proofs.data.row_count.Reads as row-count-reads
 use Rattle.nest.proofs.keys.search.Given as goal
 
 abbrev pub invariant-loop-low : goal.invariant-loop-low

@@ -1,9 +1,4 @@
 use Rattle.nest.proofs.Rising.{key_here}
-use borrow.Author.Rules.{rules}
-use Rattle.nest.proofs.keys.search_near.Reads as reads
-use Rattle.nest.proofs.keys.search_near.Lts as lts
-use Rattle.nest.proofs.keys.is_key.Reads as is-key-reads
-use Rattle.nest.proofs.keys.search.Reads as search-reads
 use Rattle.nest.proofs.keys.search_near.Goals as goal
 
 pub returns-then-same : goal.returns-then-same

@@ -1,13 +1,6 @@
-use Prim.Native.Nat.{ℕ, ◌-◌, ◌≤◌}
-use mathlib.Core.Path.{◌≡◌, refl}
+use mathlib.Core.Path.{refl}
 use native.Mathlib.Omega.{arith}
-use Rattle.format.specs.Sections.{job_of}
-use Rattle.format.specs.Ask as A
-use Rattle.tables.specs.Parts as T
-use Rattle.nest.specs.OfJob.{outline_of}
-use Rattle.nest.specs.Rising.{falls}
-use Rattle.nest.proofs.RisingRows.{falls_from, falls_start, place_within, falls_yes, falls_no, falls_never}
-use borrow.Author.Rules.{rules}
+use Rattle.nest.proofs.RisingRows.{falls_start, place_within, falls_yes, falls_no, falls_never}
 use Rattle.nest.proofs.order.falls.Goals as goal
 
 pub loop-k-init : goal.loop-k-init

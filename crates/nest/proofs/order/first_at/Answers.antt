@@ -1,8 +1,6 @@
 use native.Mathlib.Omega.{arith}
-use Prim.Native.Nat.{◌-◌}
 use mathlib.Core.Path.{refl}
-use Rattle.nest.proofs.RisingRows.{Between, between_all, between_low, between_high, parted}
-use borrow.Author.Rules.{rules}
+use Rattle.nest.proofs.RisingRows.{between_all, between_low, between_high, parted}
 use Rattle.nest.proofs.order.first_at.Goals as goal
 
 pub loop-low-init : goal.loop-low-init

@@ -1,8 +1,5 @@
-use native.Mathlib.Omega.{arith}
 use Prim.Native.Nat.{◌-◌}
-use mathlib.Core.Path.{refl}
-use Rattle.nest.proofs.RisingRows.{Between, between_all, between_low, between_high, parted}
-use borrow.Author.Rules.{rules}
+use Rattle.nest.proofs.RisingRows.{Between}
 use Rattle.nest.proofs.order.first_at.Given as goal
 
 abbrev pub invariant-loop-low : goal.invariant-loop-low

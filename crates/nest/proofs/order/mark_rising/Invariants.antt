@@ -1,15 +1,10 @@
 use Prim.Native.Nat.{◌+◌, ◌-◌, ◌≤◌}
-use mathlib.Core.Path.{sym, ◌∙◌}
-use native.Mathlib.Omega.{arith}
 use lib.ListN.{length}
 use Rattle.format.specs.Sections.{job_of}
 use Rattle.nest.specs.Found.{ArrayIs}
 use Rattle.nest.specs.OfJob.{outline_of}
 use Rattle.nest.specs.Rising.{rising_flag}
-use Rattle.nest.proofs.Bridge.{data-count-is}
-use Rattle.nest.proofs.Placing.{Storing, storing_none, storing_next, storing_end}
-use Rattle.nest.proofs.RisingRows.{flagged, flags_all, array_kept}
-use borrow.Author.Rules.{rules}
+use Rattle.nest.proofs.Placing.{Storing}
 use Rattle.nest.proofs.order.mark_rising.Given as goal
 
 abbrev pub invariant-loop-t : goal.invariant-loop-t

@@ -1,4 +1,3 @@
-use borrow.Author.Rules.{rules}
 use Rattle.nest.proofs.order.put_flag.Goals as goal
 
 pub returns-then-down : goal.returns-then-down

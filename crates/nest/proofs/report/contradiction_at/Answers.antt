@@ -1,11 +1,5 @@
 use Rattle.nest.proofs.Lacking.{agrees_null, agrees_above, agrees_same, differs, mismatch_words}
 use Rattle.nest.proofs.Reports.{stored_nothing, stored_finding}
-use borrow.Author.Rules.{rules}
-use Rattle.nest.proofs.report.contradiction_at.Reads as reads
-use Rattle.nest.proofs.report.contradiction_at.Lts as lts
-use Rattle.lent.proofs.more.Reads as more-reads
-use Rattle.lent.proofs.put_words.Reads as note-words-reads
-use Rattle.tables.proofs.data.reference.Reads as reference-reads
 use Rattle.nest.proofs.report.contradiction_at.Goals as goal
 
 pub returns-then-v-w : goal.returns-then-v-w

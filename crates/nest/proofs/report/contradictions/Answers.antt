@@ -1,17 +1,6 @@
-use Rattle.nest.proofs.Lacking.{against, against_all, against_one}
-use Rattle.nest.proofs.Reports.{Reported, reported_none, reported_more, reported_all, reported_length}
-use lib.ListN.{length}
+use Rattle.nest.proofs.Lacking.{against_all, against_one}
+use Rattle.nest.proofs.Reports.{reported_none, reported_more, reported_all, reported_length}
 use native.Mathlib.Omega.{arith}
-use Prim.Native.Nat.{◌-◌, ◌≤◌}
-use Rattle.format.specs.Ask as A
-use Rattle.format.specs.Sections.{job_of}
-use borrow.Author.Rules.{rules}
-use Rattle.nest.proofs.report.contradictions.Reads as reads
-use Rattle.nest.proofs.report.contradictions.Lts as lts
-use Rattle.lent.proofs.more.Reads as more-reads
-use Rattle.nest.proofs.report.contradiction_at.Reads as contradiction-at-reads
-use Rattle.spec.proofs.tables.ancestor.Reads as ancestor-reads
-use Rattle.spec.proofs.tables.ancestor_count.Reads as ancestor-count-reads
 use Rattle.nest.proofs.report.contradictions.Goals as goal
 use Rattle.nest.proofs.report.contradictions.Goals.{Start}
 

@@ -1,17 +1,9 @@
-use Rattle.nest.proofs.Lacking.{against, against_all, against_one}
-use Rattle.nest.proofs.Reports.{Reported, reported_none, reported_more, reported_all, reported_length}
+use Rattle.nest.proofs.Lacking.{against}
+use Rattle.nest.proofs.Reports.{Reported}
 use lib.ListN.{length}
-use native.Mathlib.Omega.{arith}
 use Prim.Native.Nat.{◌-◌, ◌≤◌}
 use Rattle.format.specs.Ask as A
 use Rattle.format.specs.Sections.{job_of}
-use borrow.Author.Rules.{rules}
-use Rattle.nest.proofs.report.contradictions.Reads as reads
-use Rattle.nest.proofs.report.contradictions.Lts as lts
-use Rattle.lent.proofs.more.Reads as more-reads
-use Rattle.nest.proofs.report.contradiction_at.Reads as contradiction-at-reads
-use Rattle.spec.proofs.tables.ancestor.Reads as ancestor-reads
-use Rattle.spec.proofs.tables.ancestor_count.Reads as ancestor-count-reads
 use Rattle.nest.proofs.report.contradictions.Given as goal
 
 abbrev pub invariant-loop-k : goal.invariant-loop-k

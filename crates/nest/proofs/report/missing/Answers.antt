@@ -1,11 +1,5 @@
 use Rattle.nest.proofs.Placing.{repeats_is}
 use mathlib.Core.Path.{sym, ◌∙◌}
-use borrow.Author.Rules.{rules}
-use Rattle.nest.proofs.report.missing.Reads as reads
-use Rattle.nest.proofs.report.missing.Lts as lts
-use Rattle.nest.proofs.report.parent_missing.Reads as parent-missing-reads
-use Rattle.nest.proofs.report.repeat_missing.Reads as repeat-missing-reads
-use Rattle.spec.proofs.tables.repeats.Reads as repeats-reads
 use Rattle.nest.proofs.report.missing.Goals as goal
 
 pub repeat_missing-requires : goal.repeat_missing-requires

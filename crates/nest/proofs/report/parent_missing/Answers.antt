@@ -1,12 +1,5 @@
 use Rattle.nest.proofs.Lacking.{lacks_top, lacks_value, lacks_null, missing_some, missing_none}
 use Rattle.nest.proofs.Reports.{stored_nothing, stored_finding}
-use borrow.Author.Rules.{rules}
-use Rattle.nest.proofs.report.parent_missing.Reads as reads
-use Rattle.nest.proofs.report.parent_missing.Lts as lts
-use Rattle.lent.proofs.more.Reads as more-reads
-use Rattle.lent.proofs.put_words.Reads as note-words-reads
-use Rattle.spec.proofs.tables.table_parent.Reads as table-parent-reads
-use Rattle.tables.proofs.data.reference.Reads as reference-reads
 use Rattle.nest.proofs.report.parent_missing.Goals as goal
 
 pub returns-in-Number : goal.returns-in-Number

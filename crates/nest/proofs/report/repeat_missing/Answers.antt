@@ -1,10 +1,5 @@
 use Rattle.nest.proofs.Lacking.{lacks_claim, lacks_anchor, missing_some, missing_none}
 use Rattle.nest.proofs.Reports.{stored_finding}
-use borrow.Author.Rules.{rules}
-use Rattle.nest.proofs.report.repeat_missing.Reads as reads
-use Rattle.nest.proofs.report.repeat_missing.Lts as lts
-use Rattle.lent.proofs.put_words.Reads as note-words-reads
-use Rattle.nest.proofs.hang.claim.Reads as claim-reads
 use Rattle.nest.proofs.report.repeat_missing.Goals as goal
 
 pub returns-in-Is : goal.returns-in-Is

@@ -1,14 +1,6 @@
 use Rattle.nest.proofs.Stored.{numbers_within, row_placed_lem, row_unplaced}
 use Rattle.nest.proofs.Lacking.{stored_as}
 use native.Mathlib.Omega.{arith}
-use mathlib.Core.Path.{sym, ◌∙◌}
-use borrow.Author.Rules.{rules}
-use Rattle.nest.proofs.report.row_findings.Reads as reads
-use Rattle.nest.proofs.report.row_findings.Lts as lts
-use Rattle.nest.proofs.report.contradictions.Reads as contradictions-reads
-use Rattle.nest.proofs.report.missing.Reads as missing-reads
-use Rattle.nest.proofs.row_above.Reads as row-above-reads
-use Rattle.nest.proofs.table_above.Reads as table-above-reads
 use Rattle.nest.proofs.report.row_findings.Goals as goal
 
 pub row_above-above-requires : goal.row_above-above-requires

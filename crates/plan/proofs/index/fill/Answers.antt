@@ -1,5 +1,4 @@
 use Rattle.plan.proofs.Filled.{filled}
-use borrow.Author.Rules.{rules}
 use Rattle.plan.proofs.index.fill.Goals as goal
 
 pub returns : goal.returns

@@ -1,5 +1,4 @@
 use Rattle.plan.proofs.Filled.{layout_into}
-use borrow.Author.Rules.{rules}
 use Rattle.plan.proofs.index.layout_into.Goals as goal
 
 pub returns : goal.returns

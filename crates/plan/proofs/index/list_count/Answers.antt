@@ -1,6 +1,5 @@
 use Rattle.codec.specs.Codec.{le}
 use mathlib.Core.Path.{ap, ◌∙◌}
-use borrow.Author.Rules.{rules}
 use Rattle.plan.proofs.index.list_count.Goals as goal
 
 pub returns : goal.returns

@@ -1,6 +1,5 @@
 use Rattle.spec.proofs.Storing.{lists_past}
 use Rattle.plan.proofs.Filled.{loop_plan_more}
-use borrow.Author.Rules.{rules}
 use Rattle.plan.proofs.index.loop_plan_into.Goals as goal
 
 pub returns-then-l-lt32 : goal.returns-then-l-lt32

@@ -1,10 +1,7 @@
-use Prim.Native.Nat.{◌-◌, ◌≤◌}
 use mathlib.Core.Path.{refl}
 use native.Mathlib.Omega.{arith}
 use Rattle.spec.proofs.Storing.{lists_none}
-use Rattle.plan.specs.Filling.{PlanLists}
 use Rattle.plan.proofs.Filled.{plan_into}
-use borrow.Author.Rules.{rules}
 use Rattle.plan.proofs.index.plan_into.Goals as goal
 
 pub loop-l-init : goal.loop-l-init

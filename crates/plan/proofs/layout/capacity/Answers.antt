@@ -1,5 +1,4 @@
 use Rattle.plan.proofs.Asking.{capacity_lacks, capacity_is}
-use borrow.Author.Rules.{rules}
 use Rattle.plan.proofs.layout.capacity.Goals as goal
 
 pub returns-then-n-t : goal.returns-then-n-t

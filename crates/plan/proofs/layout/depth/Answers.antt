@@ -1,5 +1,4 @@
 use Rattle.plan.proofs.Asking.{depth_lacks, depth_none, depth_some}
-use borrow.Author.Rules.{rules}
 use Rattle.plan.proofs.layout.depth.Goals as goal
 
 pub returns-then-n-i : goal.returns-then-n-i

@@ -1,5 +1,4 @@
 use Rattle.plan.proofs.Asking.{forced_lacks, forced_is}
-use borrow.Author.Rules.{rules}
 use Rattle.plan.proofs.layout.forced.Goals as goal
 
 pub returns-then-n-i : goal.returns-then-n-i

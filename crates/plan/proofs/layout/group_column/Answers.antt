@@ -1,5 +1,4 @@
 use Rattle.plan.proofs.Asking.{column_lacks, column_is}
-use borrow.Author.Rules.{rules}
 use Rattle.plan.proofs.layout.group_column.Goals as goal
 
 pub returns-then-n-k : goal.returns-then-n-k

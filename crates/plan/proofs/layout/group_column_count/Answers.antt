@@ -1,5 +1,4 @@
 use Rattle.plan.proofs.Asking.{column_count}
-use borrow.Author.Rules.{rules}
 use Rattle.plan.proofs.layout.group_column_count.Goals as goal
 
 pub returns : goal.returns

@@ -1,5 +1,4 @@
 use Rattle.plan.proofs.Asking.{order_lacks}
-use borrow.Author.Rules.{rules}
 use Rattle.plan.proofs.layout.item.Goals as goal
 
 pub returns-then-o-k : goal.returns-then-o-k

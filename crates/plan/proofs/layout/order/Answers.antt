@@ -1,6 +1,5 @@
 use mathlib.Core.Path.{refl}
 use Rattle.plan.proofs.Asking.{order_at}
-use borrow.Author.Rules.{rules}
 use Rattle.plan.proofs.layout.order.Goals as goal
 
 pub returns : goal.returns

@@ -1,5 +1,4 @@
 use Rattle.plan.proofs.Asking.{order_count}
-use borrow.Author.Rules.{rules}
 use Rattle.plan.proofs.layout.order_count.Goals as goal
 
 pub returns : goal.returns

@@ -1,4 +1,3 @@
-use borrow.Author.Rules.{rules}
 use Rattle.plan.proofs.layout.order_item.Goals as goal
 
 pub returns : goal.returns

@@ -3,7 +3,6 @@ use native.Mathlib.Omega.{arith}
 use Rattle.plan.proofs.Reading.{plan_room}
 use Rattle.plan.proofs.Asking.{plan_lacks, plan_is}
 use mathlib.Core.Path.{ap}
-use borrow.Author.Rules.{rules}
 use Rattle.plan.proofs.planned.instances.Goals as goal
 
 pub returns-then-n-i : goal.returns-then-n-i

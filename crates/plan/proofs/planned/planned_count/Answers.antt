@@ -2,7 +2,6 @@ use Rattle.format.specs.Plan.{LoopPlan}
 use lib.ListN.{length}
 use Rattle.plan.proofs.Asking.{plan_lacks, planned_are}
 use mathlib.Core.Path.{ap}
-use borrow.Author.Rules.{rules}
 use Rattle.plan.proofs.planned.planned_count.Goals as goal
 
 pub returns-then-n-i : goal.returns-then-n-i

@@ -1,5 +1,4 @@
 use Rattle.plan.proofs.Asking.{unplanned_is, planned_is, planned_read}
-use borrow.Author.Rules.{rules}
 use Rattle.plan.proofs.planned.segment.Goals as goal
 
 pub returns-then-n-i : goal.returns-then-n-i

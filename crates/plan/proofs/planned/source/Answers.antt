@@ -1,7 +1,6 @@
 use Rattle.format.specs.Plan.{SegmentPlan}
 use Rattle.plan.proofs.Asking.{planned_lacks, source_is}
 use mathlib.Core.Path.{ap}
-use borrow.Author.Rules.{rules}
 use Rattle.plan.proofs.planned.source.Goals as goal
 
 pub returns-then-n-i : goal.returns-then-n-i

@@ -1,5 +1,4 @@
 use Rattle.plan.proofs.Reading.{element_0, element_1, element_past, element_cut}
-use borrow.Author.Rules.{rules}
 use Rattle.plan.proofs.read.element_at.Goals as goal
 
 pub returns-then-job-at : goal.returns-then-job-at

@@ -1,5 +1,4 @@
 use Rattle.plan.proofs.Asking.{inner_none, inner_some}
-use borrow.Author.Rules.{rules}
 use Rattle.plan.proofs.read.inner_count.Goals as goal
 
 pub returns-then-n-l : goal.returns-then-n-l

@@ -1,6 +1,5 @@
 use Rattle.plan.proofs.Reading.{instances_case_lem, instances_else}
 use native.Mathlib.Omega.{arith}
-use borrow.Author.Rules.{rules}
 use Rattle.plan.proofs.read.instances_at.Goals as goal
 
 pub returns-then-job-at : goal.returns-then-job-at

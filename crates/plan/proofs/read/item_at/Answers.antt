@@ -1,5 +1,4 @@
 use Rattle.plan.proofs.Reading.{item_past, item_0, item_1}
-use borrow.Author.Rules.{rules}
 use Rattle.plan.proofs.read.item_at.Goals as goal
 
 pub returns-then-job-at : goal.returns-then-job-at

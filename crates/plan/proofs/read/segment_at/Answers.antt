@@ -1,5 +1,4 @@
 use Rattle.plan.proofs.Reading.{segment_past, segment_cut, segment_0, segment_1, segment_2}
-use borrow.Author.Rules.{rules}
 use Rattle.plan.proofs.read.segment_at.Goals as goal
 
 pub returns-then-job-at : goal.returns-then-job-at

@@ -1,5 +1,4 @@
 use Rattle.plan.proofs.Reading.{source_0, source_1, source_2}
-use borrow.Author.Rules.{rules}
 use Rattle.plan.proofs.read.source_at.Goals as goal
 
 pub returns-then-t-eq0 : goal.returns-then-t-eq0

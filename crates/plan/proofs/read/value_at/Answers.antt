@@ -1,6 +1,5 @@
 use Rattle.plan.proofs.Reading.{value_0, value_1, value_2}
 use mathlib.Core.Path.{refl}
-use borrow.Author.Rules.{rules}
 use Rattle.plan.proofs.read.value_at.Goals as goal
 
 pub returns-then-t-eq0 : goal.returns-then-t-eq0

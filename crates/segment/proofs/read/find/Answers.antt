@@ -1,8 +1,3 @@
-use Prim.Native.Nat.{◌+◌, ◌-◌}
-use mathlib.Core.Path.{◌≡◌}
-use lib.ListN.{length, drop}
-use borrow.Author.Rules.{rules}
-use Rattle.segment.specs.Reading.{run}
 use Rattle.segment.proofs.Placed.{found_here, found_next, found_end}
 use Rattle.segment.proofs.read.find.Goals as goal
 

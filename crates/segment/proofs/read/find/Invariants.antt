@@ -1,9 +1,7 @@
 use Prim.Native.Nat.{◌+◌, ◌-◌}
 use mathlib.Core.Path.{◌≡◌}
 use lib.ListN.{length, drop}
-use borrow.Author.Rules.{rules}
 use Rattle.segment.specs.Reading.{run}
-use Rattle.segment.proofs.Placed.{found_here, found_next, found_end}
 use Rattle.segment.proofs.read.find.Given as goal
 
 abbrev pub invariant-loop-i : goal.invariant-loop-i

@@ -1,5 +1,4 @@
 use mathlib.Core.Path.{sym}
-use borrow.Author.Rules.{rules}
 use Rattle.segment.proofs.Placed.{feed_end, feed_here}
 use Rattle.segment.proofs.read.line_feed_at.Goals as goal
 

@@ -1,5 +1,4 @@
 use mathlib.Core.Path.{sym, ◌∙◌}
-use borrow.Author.Rules.{rules}
 use Rattle.segment.proofs.Placed.{at_end, at_unended, at_line_feed, at_unfed, at_plain}
 use Rattle.segment.proofs.read.read_segment.Goals as goal
 

@@ -1,5 +1,4 @@
 use mathlib.Core.Path.{sym}
-use borrow.Author.Rules.{rules}
 use Rattle.segment.proofs.Placed.{name_nothing, name_none, name_some}
 use Rattle.segment.proofs.read.with_name.Goals as goal
 

@@ -1,12 +1,5 @@
 use native.Mathlib.Omega.{arith}
 use Rattle.tables.proofs.Asking.{past_table, column_there, column_past, none_cell}
-use borrow.Author.Rules.{rules}
-use Rattle.tables.proofs.data.cell.Reads as reads
-use Rattle.tables.proofs.data.cell.Lts as lts
-use Rattle.codec.proofs.num.Reads as num_reads
-use Rattle.codec.proofs.place.Reads as place-reads
-use Rattle.column.proofs.data.cell.Reads as cell-reads
-use Rattle.tables.proofs.data.data_count.Reads as data-count-reads
 use Rattle.tables.proofs.data.cell.Goals as goal
 
 pub returns-then-n-t : goal.returns-then-n-t

@@ -1,9 +1,4 @@
 use Rattle.tables.proofs.Asking.{first_there, first_past}
-use borrow.Author.Rules.{rules}
-use Rattle.tables.proofs.data.first_row.Reads as reads
-use Rattle.tables.proofs.data.first_row.Lts as lts
-use Rattle.codec.proofs.place.Reads as place-reads
-use Rattle.tables.proofs.data.data_count.Reads as data-count-reads
 use Rattle.tables.proofs.data.first_row.Goals as goal
 
 pub returns-then-n-t : goal.returns-then-n-t

@@ -1,10 +1,5 @@
 use native.Mathlib.Omega.{arith}
 use Rattle.tables.proofs.Asking.{at_num, at_nothing, num_small, row_there, none_key}
-use borrow.Author.Rules.{rules}
-use Rattle.tables.proofs.data.key.Reads as reads
-use Rattle.tables.proofs.data.key.Lts as lts
-use Rattle.column.proofs.data.key.Reads as key_reads
-use Rattle.tables.proofs.data.table_at.Reads as table-at-reads
 use Rattle.tables.proofs.data.key.Goals as goal
 
 pub overflow_add-p : goal.overflow_add-p

@@ -1,6 +1,5 @@
 use native.Mathlib.Omega.{arith}
 use Rattle.tables.proofs.Asking.{past_table, refs_there, none_reference}
-use borrow.Author.Rules.{rules}
 use Rattle.tables.proofs.data.reference.Goals as goal
 
 pub returns-then-n-t : goal.returns-then-n-t

@@ -1,10 +1,5 @@
 use native.Mathlib.Omega.{arith}
 use Rattle.tables.proofs.Asking.{at_num, at_nothing, num_small, rows_is, none_rows}
-use borrow.Author.Rules.{rules}
-use Rattle.tables.proofs.data.row_count.Reads as reads
-use Rattle.tables.proofs.data.row_count.Lts as lts
-use Rattle.codec.proofs.num.Reads as num_reads
-use Rattle.tables.proofs.data.table_at.Reads as table-at-reads
 use Rattle.tables.proofs.data.row_count.Goals as goal
 
 pub num-requires : goal.num-requires

@@ -1,11 +1,5 @@
 use native.Mathlib.Omega.{arith}
 use Rattle.tables.proofs.Asking.{at_num, at_nothing, num_small, segment_there, segment_in, none_segment}
-use borrow.Author.Rules.{rules}
-use Rattle.tables.proofs.data.segment_cell.Reads as reads
-use Rattle.tables.proofs.data.segment_cell.Lts as lts
-use Rattle.column.proofs.data.after_opt.Reads as after-opt-reads
-use Rattle.column.proofs.data.opt_get.Reads as opt-get-reads
-use Rattle.tables.proofs.data.table_at.Reads as table-at-reads
 use Rattle.tables.proofs.data.segment_cell.Goals as goal
 
 pub overflow_add-p : goal.overflow_add-p

@@ -1,6 +1,5 @@
 use native.Mathlib.Omega.{arith}
 use Rattle.tables.proofs.Filled.{few_counted, filled}
-use borrow.Author.Rules.{rules}
 use Rattle.tables.proofs.fill.fill.Goals as goal
 
 pub tables_into-requires : goal.tables_into-requires

@@ -1,12 +1,5 @@
-use Prim.Native.Nat.{◌-◌, ◌≤◌}
 use native.Mathlib.Omega.{arith}
-use Rattle.tables.proofs.Filled.{Firsts, firsts_none, firsts_all, firsts_more}
-use borrow.Author.Rules.{rules}
-use Rattle.tables.proofs.fill.firsts_into.Reads as reads
-use Rattle.tables.proofs.fill.firsts_into.Lts as lts
-use Rattle.codec.proofs.num.Reads as num_reads
-use Rattle.codec.proofs.place.Reads as place-reads
-use Rattle.codec.proofs.put.Reads as put_reads
+use Rattle.tables.proofs.Filled.{firsts_none, firsts_all, firsts_more}
 use Rattle.tables.proofs.fill.firsts_into.Goals as goal
 
 pub loop-t-init : goal.loop-t-init

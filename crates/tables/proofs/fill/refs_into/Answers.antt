@@ -1,7 +1,5 @@
-use Prim.Native.Nat.{◌-◌, ◌≤◌}
 use native.Mathlib.Omega.{arith}
-use Rattle.tables.proofs.Filled.{Refs, refs_none, refs_more, refs_all}
-use borrow.Author.Rules.{rules}
+use Rattle.tables.proofs.Filled.{refs_none, refs_more, refs_all}
 use Rattle.tables.proofs.fill.refs_into.Goals as goal
 
 pub loop-t-init : goal.loop-t-init

@@ -1,7 +1,5 @@
 use Prim.Native.Nat.{◌-◌, ◌≤◌}
-use native.Mathlib.Omega.{arith}
-use Rattle.tables.proofs.Filled.{Refs, refs_none, refs_more, refs_all}
-use borrow.Author.Rules.{rules}
+use Rattle.tables.proofs.Filled.{Refs}
 use Rattle.tables.proofs.fill.refs_into.Given as goal
 
 abbrev pub invariant-loop-t : goal.invariant-loop-t

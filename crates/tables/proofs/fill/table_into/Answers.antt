@@ -1,5 +1,4 @@
 use Rattle.tables.proofs.Filled.{table_more}
-use borrow.Author.Rules.{rules}
 use Rattle.tables.proofs.fill.table_into.Goals as goal
 
 pub returns : goal.returns

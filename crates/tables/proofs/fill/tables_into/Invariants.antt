@@ -1,10 +1,5 @@
 use Prim.Native.Nat.{◌-◌, ◌≤◌}
-use mathlib.Core.Path.{refl}
-use native.Mathlib.Omega.{arith}
-use Rattle.spec.proofs.Storing.{lists_none}
 use Rattle.tables.specs.Index.{DataLists}
-use Rattle.tables.proofs.Filled.{data-into}
-use borrow.Author.Rules.{rules}
 use Rattle.tables.proofs.fill.tables_into.Given as goal
 
 abbrev pub invariant-loop-t : goal.invariant-loop-t
