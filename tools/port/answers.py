@@ -168,6 +168,9 @@ class Function:
                 return ".".join([var, head] + rest)
             if norm(found[2][0]) == "match" and rest[:1] == ["keys2"]:
                 return ".".join([var, found[2][1], found[2][1] + "-own"] + rest)
+            if rest[:1] == ["auto"] and found[3] in self.info["params"] and re.fullmatch(r"(1\.)*0", ".".join(rest[1:])):
+                # what stays of an argument went by its place
+                rest = ["auto", self.info["params"][found[3]][rest[1:].count("1")]]
             through = self.arm(place, found, rest)
             if through:
                 return ".".join([var] + through)

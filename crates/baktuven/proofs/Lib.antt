@@ -1,2 +1,1 @@
 pub mod Windows
-mod Shown

@@ -1,5 +1,6 @@
-// The writer for a caller: a job's document, segments, findings and stops, in lists that the caller lends. The list of findings holds structs, and
-// each function that has it is proved by hand; all that counts and decides stands in covered functions.
+// The writer for a caller: a job's document, segments, findings and stops, in lists that the caller lends.
+#![tactic(auto)]
+
 ghost use Rattle.std.specs.Prelude.{◌≡◌, ◌+◌, ◌≤◌, ◌<◌, min, length};
 ghost use Rattle.std.proofs.lemmas.List.Edits.{sets};
 ghost use Rattle.finding.specs.Findings.{findings_in};

@@ -1,3 +1,2 @@
 // A complete plan.
 #![tactic(auto)]
-

@@ -1,4 +1,6 @@
 // What the static library gives to a program in C or Rust.
+#![tactic(auto)]
+
 ghost use Rattle.std.specs.Prelude.{◌≡◌};
 ghost use Rattle.format.specs.Refusal.{refusal_of};
 ghost use Rattle.refusal.specs.Answer.{number_of};

@@ -1,4 +1,3 @@
--- For the crates above: lending a list on, storing as far as it fits, records of a list of numbers.
-pub mod Lent
+-- For the crates above: storing as far as it fits, records of a list of numbers.
 pub mod Sets
 pub mod Records

@@ -1,99 +1,100 @@
 // The findings of a finished job, a line for each.
 use crate::words::{end, identifier, number, optional, signed, text};
 use finding::Finding;
+use std::io;
 
 // Table and row, which most findings begin with.
-fn row(v: [u64; 9]) {
-    number(v[0]);
-    number(v[1]);
+fn row(rt: &impl Print, v: [u64; 9]) -> io::Result<()> {
+    number(rt, v[0])?;
+    number(rt, v[1])
 }
 
-fn duplicate(v: [u64; 9]) {
-    text(b"DR");
-    row(v);
-    signed(v[2]);
-    number(v[3]);
+fn duplicate(rt: &impl Print, v: [u64; 9]) -> io::Result<()> {
+    text(rt, b"DR")?;
+    row(rt, v)?;
+    signed(rt, v[2])?;
+    number(rt, v[3])
 }
 
-fn missing(v: [u64; 9]) {
-    text(b"MP");
-    row(v);
-    number(v[2]);
+fn missing(rt: &impl Print, v: [u64; 9]) -> io::Result<()> {
+    text(rt, b"MP")?;
+    row(rt, v)?;
+    number(rt, v[2])?;
     if v[3] == 0 {
-        text(b" -");
-        return;
+        return text(rt, b" -");
     }
-    signed(v[4]);
+    signed(rt, v[4])
 }
 
-fn mismatch(v: [u64; 9]) {
-    text(b"MR");
-    row(v);
-    number(v[2]);
-    signed(v[3]);
-    number(v[4]);
-    number(v[5]);
-    signed(v[6]);
+fn mismatch(rt: &impl Print, v: [u64; 9]) -> io::Result<()> {
+    text(rt, b"MR")?;
+    row(rt, v)?;
+    number(rt, v[2])?;
+    signed(rt, v[3])?;
+    number(rt, v[4])?;
+    number(rt, v[5])?;
+    signed(rt, v[6])
 }
 
-fn out_of_order(v: [u64; 9]) {
-    text(b"OO");
-    row(v);
-    number(v[2]);
-    signed(v[3]);
-    number(v[4]);
+fn out_of_order(rt: &impl Print, v: [u64; 9]) -> io::Result<()> {
+    text(rt, b"OO")?;
+    row(rt, v)?;
+    number(rt, v[2])?;
+    signed(rt, v[3])?;
+    number(rt, v[4])
 }
 
 // Where a text comes from and where it goes.
-fn spot(v: [u64; 9]) {
+fn spot(rt: &impl Print, v: [u64; 9]) -> io::Result<()> {
     if v[0] == 0 {
-        text(b" C");
-        number(v[1]);
-        number(v[2]);
-        number(v[3]);
+        text(rt, b" C")?;
+        number(rt, v[1])?;
+        number(rt, v[2])?;
+        number(rt, v[3])?;
     } else {
-        text(b" E");
-        number(v[1]);
+        text(rt, b" E")?;
+        number(rt, v[1])?;
     }
-    identifier(v[4]);
-    number(v[5]);
-    optional(v[6]);
+    identifier(rt, v[4])?;
+    number(rt, v[5])?;
+    optional(rt, v[6])
 }
 
-fn delimiter(v: [u64; 9]) {
-    text(b"DV");
-    spot(v);
-    number(v[7]);
-    number(v[8]);
+fn delimiter(rt: &impl Print, v: [u64; 9]) -> io::Result<()> {
+    text(rt, b"DV")?;
+    spot(rt, v)?;
+    number(rt, v[7])?;
+    number(rt, v[8])
 }
 
-fn not_writable(v: [u64; 9]) {
-    text(b"NW");
-    spot(v);
-    number(v[7]);
+fn not_writable(rt: &impl Print, v: [u64; 9]) -> io::Result<()> {
+    text(rt, b"NW")?;
+    spot(rt, v)?;
+    number(rt, v[7])
 }
 
-fn named(f: Finding) {
+fn named(rt: &impl Print, f: Finding) -> io::Result<()> {
     let v = f.values;
     let kind = f.kind;
     match kind {
-        0 => duplicate(v),
-        1 => missing(v),
-        2 => mismatch(v),
-        3 => out_of_order(v),
-        4 => delimiter(v),
-        _ => not_writable(v),
+        0 => duplicate(rt, v)?,
+        1 => missing(rt, v)?,
+        2 => mismatch(rt, v)?,
+        3 => out_of_order(rt, v)?,
+        4 => delimiter(rt, v)?,
+        _ => not_writable(rt, v)?,
     }
-    end();
+    end(rt)
 }
 
 // The first n findings of a list.
-pub(crate) fn findings(list: [Finding; 512], n: usize) {
+pub(crate) fn findings(rt: &impl Print, list: [Finding; 512], n: usize) -> io::Result<()> {
     let mut i: usize = 0;
     while i < n {
         if i < 512 {
-            named(list[i]);
+            named(rt, list[i])?;
         }
         i += 1;
     }
+    Ok(())
 }

@@ -1,4 +1,5 @@
 // The words of a line.
+use std::io;
 
 // Number k of the item that begins at a place.
 pub(crate) fn word(list: &[u64], at: usize, k: usize) -> u64 {
@@ -13,86 +14,94 @@ pub(crate) fn word(list: &[u64], at: usize, k: usize) -> u64 {
     0
 }
 
-pub(crate) fn text(bytes: &[u8]) {
-    io::write_all(1, bytes);
+pub(crate) fn text(rt: &impl Print, bytes: &[u8]) -> io::Result<()> {
+    rt.write_all(bytes)
 }
 
 // A number behind a space.
-pub(crate) fn number(n: u64) {
-    io::write_all(1, b" ");
-    io::print_decimal(1, n);
+pub(crate) fn number(rt: &impl Print, n: u64) -> io::Result<()> {
+    print!(rt; " {n}")
 }
 
 // A number that may be missing: one more than it, or 0.
-pub(crate) fn optional(n: u64) {
+pub(crate) fn optional(rt: &impl Print, n: u64) -> io::Result<()> {
     if n == 0 {
-        text(b" -");
-        return;
+        return text(rt, b" -");
     }
-    number(n - 1);
+    number(rt, n - 1)
 }
 
 // A signed number by its 64 bits.
-pub(crate) fn signed(n: u64) {
+pub(crate) fn signed(rt: &impl Print, n: u64) -> io::Result<()> {
     if n < 9223372036854775808 {
-        number(n);
-        return;
+        return number(rt, n);
     }
-    text(b" -");
-    io::print_decimal(1, 18446744073709551615 - n + 1);
+    print!(rt; " -{}", 18446744073709551615 - n + 1)
 }
 
-fn letter(n: u64) {
+fn letter(rt: &impl Print, n: u64) -> io::Result<()> {
     let one = [(n % 256) as u8];
-    text(&one);
+    text(rt, &one)
 }
 
 // A segment's identifier of two or three bytes, the first the highest.
-pub(crate) fn identifier(n: u64) {
-    text(b" ");
+pub(crate) fn identifier(rt: &impl Print, n: u64) -> io::Result<()> {
+    text(rt, b" ")?;
     if n >= 65536 {
-        letter(n / 65536);
+        letter(rt, n / 65536)?;
     }
-    letter(n / 256);
-    letter(n);
+    letter(rt, n / 256)?;
+    letter(rt, n)
 }
 
-pub(crate) fn end() {
-    text(b"\n");
+pub(crate) fn end(rt: &impl Print) -> io::Result<()> {
+    text(rt, b"\n")
 }
 
-fn written(fd: i32, n: usize) {
-    io::write_all(fd, b" ");
-    io::print_decimal(fd, n as u64);
+fn written(rt: &impl Print, n: usize) -> io::Result<()> {
+    print!(rt; " {n}")
 }
 
 // The four counts: bytes, segments, findings, stops.
 pub(crate) fn counts(
-    fd: i32,
+    rt: &impl Print,
     what: &[u8],
     bytes: usize,
     segments: usize,
     findings: usize,
     stops: usize,
-) {
-    io::write_all(fd, what);
-    written(fd, bytes);
-    written(fd, segments);
-    written(fd, findings);
-    written(fd, stops);
-    io::write_all(fd, b"\n");
+) -> io::Result<()> {
+    text(rt, what)?;
+    written(rt, bytes)?;
+    written(rt, segments)?;
+    written(rt, findings)?;
+    written(rt, stops)?;
+    end(rt)
 }
 
-pub(crate) fn refused(n: u64) {
-    text(b"refused");
-    number(n);
-    end();
+// The four counts that the lists would take, on standard error.
+pub(crate) fn sizes(
+    rt: &impl Eprint,
+    bytes: usize,
+    segments: usize,
+    findings: usize,
+    stops: usize,
+) -> io::Result<()> {
+    eprintln!(rt;
+        "bytes, segments, findings and stops that the lists would take: {bytes} {segments} {findings} {stops}"
+    )
+}
+
+pub(crate) fn refused(rt: &impl Print, n: u64) -> io::Result<()> {
+    text(rt, b"refused")?;
+    number(rt, n)?;
+    end(rt)
 }
 
 // The first n bytes of a document, and a line feed.
-pub(crate) fn bytes(document: &[u8], n: usize) {
+pub(crate) fn bytes(rt: &impl Print, document: &[u8], n: usize) -> io::Result<()> {
     if n <= document.len() {
-        text(&document[..n]);
+        text(rt, &document[..n])?;
     }
-    end();
+    end(rt)
 }

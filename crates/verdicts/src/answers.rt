@@ -1,5 +1,6 @@
 // What `check` answers, held to what was wanted and counted.
 use refusal::Checked;
+use std::io;
 
 // Document 01's number.
 fn numbered(c: Checked) -> usize {
@@ -29,14 +30,8 @@ fn count(counts: &mut [u64], answer: usize) {
     }
 }
 
-fn differs(place: usize, got: usize, wanted: u8) {
-    io::write_all(1, b"differs at ");
-    io::print_decimal(1, place as u64);
-    io::write_all(1, b": ");
-    io::print_decimal(1, got as u64);
-    io::write_all(1, b" for ");
-    io::print_decimal(1, wanted as u64);
-    io::write_all(1, b"\n");
+fn differs(rt: &impl Print, place: usize, got: usize, wanted: u8) -> io::Result<()> {
+    println!(rt; "differs at {place}: {got} for {wanted}")
 }
 
 fn digit(c: u8) -> u8 {
@@ -46,24 +41,32 @@ fn digit(c: u8) -> u8 {
     9
 }
 
-fn hold(place: usize, got: usize, wanted: u8) {
+fn hold(rt: &impl Print, place: usize, got: usize, wanted: u8) -> io::Result<()> {
     if got != wanted as usize {
-        differs(place, got, wanted);
+        differs(rt, place, got, wanted)?;
     }
+    Ok(())
 }
 
 // The answer to the first n bytes, which were edited at a place.
-pub(crate) fn judge(s: &[u8], n: usize, place: usize, wanted: u8, counts: &mut [u64]) {
+pub(crate) fn judge(
+    rt: &impl Print,
+    s: &[u8],
+    n: usize,
+    place: usize,
+    wanted: u8,
+    counts: &mut [u64],
+) -> io::Result<()> {
     let got = answer(s, n);
     count(counts, got);
-    hold(place, got, digit(wanted));
+    hold(rt, place, got, digit(wanted))
 }
 
-fn show(counts: &[u64], answer: usize) {
+fn show(rt: &impl Print, counts: &[u64], answer: usize) -> io::Result<()> {
     if answer < counts.len() {
-        io::write_all(1, b" ");
-        io::print_decimal(1, counts[answer]);
+        print!(rt; " {}", counts[answer])?;
     }
+    Ok(())
 }
 
 fn clear(counts: &mut [u64], answer: usize) {
@@ -73,11 +76,12 @@ fn clear(counts: &mut [u64], answer: usize) {
 }
 
 // Ends a line with the counts, which start again.
-pub(crate) fn close(counts: &mut [u64]) {
+pub(crate) fn close(rt: &impl Print, counts: &mut [u64]) -> io::Result<()> {
     let mut k: usize = 0;
     while k < 6 {
-        show(counts, k);
+        show(rt, counts, k)?;
         clear(counts, k);
         k += 1;
     }
+    Ok(())
 }

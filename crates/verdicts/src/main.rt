@@ -12,14 +12,37 @@
 //   N length:1 text         ends a group: its name, and how often each answer came
 //
 // An answer is the digit of document 01's refusal, 0 for none.
+#![tactic(auto)]
+
+ghost use Rattle.std.specs.Prelude.{◌≤◌, length, IfOk};
+
+use std::io;
+use std::io::Read;
+
 mod answers;
 mod cursor;
 mod groups;
 mod pieces;
 mod sweeps;
 
-fn main() {
+// Reads standard input to its end, or until the bytes are full, and gives how many came.
+fn read_full(rt: &impl Input, bytes: &mut [u8]) -> io::Result<usize>
+    ensures { IfOk result (λ n. n ≤ length bytes.new) }
+{
+    let mut reader = rt.reader();
+    let mut done: usize = 0;
+    while done < bytes.len() {
+        let n = reader.read(&mut bytes[done..])?;
+        if n == 0 {
+            return Ok(done);
+        }
+        done += n;
+    }
+    Ok(done)
+}
+
+fn main(rt: HostRuntime) -> io::Result<()> {
     let mut input = [0u8; 393216];
-    let n = io::read_full(0, &mut input);
-    groups::all(&input[..n]);
+    let n = read_full(&rt, &mut input)?;
+    groups::all(&rt, &input[..n])
 }

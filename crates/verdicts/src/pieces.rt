@@ -2,6 +2,7 @@
 use crate::answers::judge;
 use crate::cursor::{byte, copy, fill, number, plus};
 use crate::sweeps::State;
+use std::io;
 
 // The next piece's place, and the length of what is made so far.
 #[derive(Clone, Copy)]
@@ -65,9 +66,15 @@ fn pieces(input: &[u8], job: usize, at: usize, work: &mut [u8]) -> Made {
 }
 
 // A byte string of pieces, its answer, and the job again.
-pub(crate) fn composed(input: &[u8], s: State, work: &mut [u8], counts: &mut [u64]) -> usize {
+pub(crate) fn composed(
+    rt: &impl Print,
+    input: &[u8],
+    s: State,
+    work: &mut [u8],
+    counts: &mut [u64],
+) -> io::Result<usize> {
     let m = pieces(input, s.job, s.at, work);
-    judge(work, m.len, s.at, byte(input, plus(m.at, 1)), counts);
+    judge(rt, work, m.len, s.at, byte(input, plus(m.at, 1)), counts)?;
     copy(input, s.job, work, 0, s.len);
-    plus(m.at, 2)
+    Ok(plus(m.at, 2))
 }

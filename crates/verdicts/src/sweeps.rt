@@ -1,6 +1,7 @@
 // Edits at every place in turn. `work` holds the job, whose bytes stand in the input at `job`; each edit is undone.
 use crate::answers::judge;
 use crate::cursor::{byte, copy, plus, put};
+use std::io;
 
 // The job with `len` bytes, where it stands in the input, and the record's place.
 #[derive(Clone, Copy)]
@@ -11,40 +12,82 @@ pub struct State {
 }
 
 // Every length.
-pub(crate) fn lengths(input: &[u8], s: State, work: &[u8], counts: &mut [u64]) -> usize {
+pub(crate) fn lengths(
+    rt: &impl Print,
+    input: &[u8],
+    s: State,
+    work: &[u8],
+    counts: &mut [u64],
+) -> io::Result<usize> {
     let end = plus(s.len, 1);
     let mut n: usize = 0;
     while n < end {
-        judge(work, n, n, byte(input, plus(s.at, n)), counts);
+        judge(rt, work, n, n, byte(input, plus(s.at, n)), counts)?;
         n += 1;
     }
-    plus(s.at, end)
+    Ok(plus(s.at, end))
 }
 
 fn flip(input: &[u8], s: State, i: usize, mask: u8, work: &mut [u8]) {
     put(work, i, byte(input, plus(s.job, i)) ^ mask);
 }
 
-fn flipped(input: &[u8], s: State, i: usize, work: &mut [u8], counts: &mut [u64]) {
+fn flipped(
+    rt: &impl Print,
+    input: &[u8],
+    s: State,
+    i: usize,
+    work: &mut [u8],
+    counts: &mut [u64],
+) -> io::Result<()> {
     flip(input, s, i, byte(input, s.at), work);
-    judge(work, s.len, i, byte(input, plus(plus(s.at, 1), i)), counts);
+    judge(
+        rt,
+        work,
+        s.len,
+        i,
+        byte(input, plus(plus(s.at, 1), i)),
+        counts,
+    )?;
     flip(input, s, i, 0, work);
+    Ok(())
 }
 
 // Every byte, with the mask's bits turned over.
-pub(crate) fn flips(input: &[u8], s: State, work: &mut [u8], counts: &mut [u64]) -> usize {
+pub(crate) fn flips(
+    rt: &impl Print,
+    input: &[u8],
+    s: State,
+    work: &mut [u8],
+    counts: &mut [u64],
+) -> io::Result<usize> {
     let mut i: usize = 0;
     while i < s.len {
-        flipped(input, s, i, work, counts);
+        flipped(rt, input, s, i, work, counts)?;
         i += 1;
     }
-    plus(plus(s.at, 1), s.len)
+    Ok(plus(plus(s.at, 1), s.len))
 }
 
-fn stamped(input: &[u8], s: State, i: usize, work: &mut [u8], counts: &mut [u64]) {
+fn stamped(
+    rt: &impl Print,
+    input: &[u8],
+    s: State,
+    i: usize,
+    work: &mut [u8],
+    counts: &mut [u64],
+) -> io::Result<()> {
     copy(input, s.at, work, i, 4);
-    judge(work, s.len, i, byte(input, plus(plus(s.at, 4), i)), counts);
+    judge(
+        rt,
+        work,
+        s.len,
+        i,
+        byte(input, plus(plus(s.at, 4), i)),
+        counts,
+    )?;
     copy(input, plus(s.job, i), work, i, 4);
+    Ok(())
 }
 
 fn places(len: usize) -> usize {
@@ -55,12 +98,18 @@ fn places(len: usize) -> usize {
 }
 
 // Four bytes at every place that has room for them.
-pub(crate) fn stamps(input: &[u8], s: State, work: &mut [u8], counts: &mut [u64]) -> usize {
+pub(crate) fn stamps(
+    rt: &impl Print,
+    input: &[u8],
+    s: State,
+    work: &mut [u8],
+    counts: &mut [u64],
+) -> io::Result<usize> {
     let end = places(s.len);
     let mut i: usize = 0;
     while i < end {
-        stamped(input, s, i, work, counts);
+        stamped(rt, input, s, i, work, counts)?;
         i += 1;
     }
-    plus(plus(s.at, 4), end)
+    Ok(plus(plus(s.at, 4), end))
 }

@@ -1,0 +1,12 @@
+use Rattle.codec.specs.Codec.{◌⊗◌}
+use Rattle.codec.specs.Forms.{bytes_c}
+use Rattle.format.specs.Spec.{segment_c}
+use Rattle.codes.specs.Codes.{marked_segment}
+use Rattle.says.proofs.Walk.{NoneYet}
+use Rattle.codes.proofs.codes.segments_marked.Given as goal
+
+abbrev pub invariant-loop-left : goal.invariant-loop-left
+invariant-loop-left l = NoneYet (bytes_c ⊗ segment_c) l.b l.end l.at (marked_segment l.m) l.left l.p
+
+abbrev pub decreases-loop-left : goal.decreases-loop-left
+decreases-loop-left l = l.left

@@ -1,0 +1,12 @@
+use Rattle.codec.specs.Codec.{◌⊗◌}
+use Rattle.codec.specs.Forms.{num_c}
+use Rattle.format.specs.Spec.{component_c}
+use Rattle.codes.specs.Maps.{low_component}
+use Rattle.says.proofs.Walk.{NoneYet}
+use Rattle.codes.proofs.maps.components_low.Given as goal
+
+abbrev pub invariant-loop-left : goal.invariant-loop-left
+invariant-loop-left l = NoneYet (num_c ⊗ component_c) l.b l.end l.at (low_component) l.left l.p
+
+abbrev pub decreases-loop-left : goal.decreases-loop-left
+decreases-loop-left l = l.left

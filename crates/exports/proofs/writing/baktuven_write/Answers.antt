@@ -1,0 +1,16 @@
+-- What `write` gives back is what the program gets; the counts and the number are those of its answer.
+use Rattle.std.proofs.Common.{ap, ◌∙◌}
+use Rattle.std.proofs.lemmas.List.Edits.{sets}
+use Rattle.exports.proofs.writing.baktuven_write.Goals as goal
+
+pub returns : goal.returns
+returns c =
+    let h = c.write-a.ensures in
+    record {
+      number = c.number.ensures ∙ h.number;
+      counts = c.put_values.ensures ∙ ap (sets c.args.counts.now 0) h.values;
+      document = h.document;
+      segments = h.segments;
+      findings = h.findings;
+      stops = h.stops;
+    }

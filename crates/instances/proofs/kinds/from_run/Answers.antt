@@ -1,0 +1,15 @@
+use mathlib.Core.Path.{sym, ◌∙◌}
+use Rattle.instances.proofs.FromRun.{from_first, from_own, from_head, from_nowhere}
+use Rattle.instances.proofs.kinds.from_run.Goals as goal
+
+pub returns-then-start-eq0 : goal.returns-then-start-eq0
+returns-then-start-eq0 c = from_first _ _ (sym c.start_in-start.ensures ∙ c.if-start-eq0.true)
+
+pub returns-then-own : goal.returns-then-own
+returns-then-own c = from_own _ _ _ c.own_parent-own.ensures c.if-own.true
+
+pub returns-in-Row : goal.returns-in-Row
+returns-in-Row c = c.moved.ensures ∙ from_head _ _ _ c.start_in-start.ensures c.if-start-eq0.false _ c.own_parent-own.ensures c.if-own.false _ c.row_of-head.ensures _ c.in-Row.is
+
+pub returns-in-Nothing : goal.returns-in-Nothing
+returns-in-Nothing c = from_nowhere _ _ _ c.start_in-start.ensures c.if-start-eq0.false _ c.own_parent-own.ensures c.if-own.false _ c.row_of-head.ensures c.in-Nothing.is

@@ -1,0 +1,23 @@
+use Prim.Native.Nat.{◌+◌}
+use mathlib.Core.Path.{ap}
+use Rattle.lent.specs.Fit.{stretch}
+use Rattle.emit.specs.Written.{tried}
+use Rattle.row_segment.proofs.NoteLaws.{cell_entry}
+use Rattle.row_segment.proofs.FeedLaws.{stood_silent, held_part, held_silent}
+use Rattle.row_segment.proofs.feed.put_cell.Goals as goal
+
+pub returns-then-h : goal.returns-then-h
+returns-then-h c = let a = c.args in
+    let q = c.requires in
+    let b = a.job.now in
+    let h = c.held_in-h.result in
+    let g = c.cell-cell.ensures in
+    let e = c.held_in-h.ensures.0 b _ c.if-h.true in
+    stood_silent b a.x a.p (stretch b h.start h.len)
+    (held_part b _ a.x a.p q.0 a.column _ g q.3 h.start h.len e)
+    (held_silent b _ a.x a.p q.0 a.column _ g q.3 h.start h.len e (tried a.d) q.1.tried
+    (c.stretch_holds.ensures _ _ c.if-stretch_holds.false))
+    (ap (λ n. a.entries + n) (cell_entry b a.x a.p q.3)) c.component_of-c.ensures c.put_stretch.ensures
+
+pub put_own-requires : goal.put_own-requires
+put_own-requires c = let q = c.requires in (q.0, q.2, q.3, c.cell-cell.ensures, c.held_in-h.ensures.1 c.if-h.false)

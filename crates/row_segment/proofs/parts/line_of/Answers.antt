@@ -1,0 +1,8 @@
+use mathlib.Core.Path.{refl}
+use Rattle.row_segment.proofs.StreamLaws.{lined}
+use Rattle.row_segment.proofs.parts.line_of.Goals as goal
+
+pub returns : goal.returns
+returns c =
+    let p = c.requires.2.segment in
+    (lined _ _ _ c.requires.0 c.requires.1 p.count p.first p.occurrence c.occurrence-id.ensures, refl, refl, refl, refl)
