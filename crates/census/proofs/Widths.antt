@@ -15,7 +15,7 @@ use Rattle.tables.specs.Parts as T
 use Rattle.spec.specs.Answers.{number_of}
 use Rattle.spec.specs.declared.ids.Number.{Number}
 use Rattle.spec.specs.declared.ids.Number.TheVariants.{Is}
-use Rattle.nest.specs.Lists.{keep, from, up_to, on, is, part, some_of, is_empty_lem}
+use Rattle.nest.specs.Lists.{keep, from, up_to, on, is, part, some_of, is_empty_list}
 use Rattle.nest.specs.Outline.{Outline, absent, envelope, implied, rows, inside, groups, kind_of, loop_of, table_parent, row_count, plain}
 use Rattle.nest.specs.Nest.{held, referred}
 use Rattle.nest.specs.Found.{nest_at, held_at}
@@ -215,7 +215,7 @@ module _ (o : Outline) (l : ℕ) where
 
   pub width_implied : kind_of o l ≡ implied → Width o l 1
   unfolding by_kind
-  width_implied e = record { few = omega arith; most = by_height 1 (λ below c. rw e (at_most_one (some_of (λ k. not (is_empty_lem (below k c))) (loop_of o l).children) c)) }
+  width_implied e = record { few = omega arith; most = by_height 1 (λ below c. rw e (at_most_one (some_of (λ k. not (is_empty_list (below k c))) (loop_of o l).children) c)) }
 
   pub width_inside : (t : ℕ) → kind_of o l ≡ inside t → Width o l 1
   unfolding by_kind

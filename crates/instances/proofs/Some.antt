@@ -9,7 +9,7 @@ use lib.ListN.{length, get_or}
 use Rattle.format.specs.Job.{Job}
 use Rattle.format.specs.Ask as A
 use Rattle.spec.specs.declared.ids.LoopId.{LoopId}
-use Rattle.nest.specs.Lists.{is_empty_lem}
+use Rattle.nest.specs.Lists.{is_empty_list}
 use Rattle.nest.specs.Outline.{Outline, Kind, absent, envelope, implied, rows, inside, groups, loop_of, kind_of}
 use Rattle.nest.specs.OfJob.{outline_of}
 use Rattle.walk.specs.declared.Context.{Context as Kept}
@@ -24,7 +24,7 @@ use Rattle.nest.proofs.Bridge.{children_is}
 use Rattle.instances.proofs.Cursors.{coming_none, coming_one, going_rowless}
 
 abbrev pub some_in : Outline → ℕ → ℕ → Context → Bool
-some_in o h l c = not (is_empty_lem (instances o h l c))
+some_in o h l c = not (is_empty_list (instances o h l c))
 
 pub some_deep : (o : Outline) (h l : ℕ) (c : Context) → h ≡ 0 → false ≡ some_in o h l c
 some_deep o h l c e = rw (e, inst_deep o l c)
@@ -53,7 +53,7 @@ module _ (j : Job) (h l : ℕ) (c : Context) (deep : h ≡ 0 → ⊥) (x : Bool)
   some_child_lem : some_in (outline_of j) h l c ≡ some_child (outline_of j) (h - 1) l c 0
   some_child_lem = rw by_child (go (some_child (outline_of j) (h - 1) l c 0))
     where
-      go : (b : Bool) → not (is_empty_lem (cond b (c ∷ []) [])) ≡ b
+      go : (b : Bool) → not (is_empty_list (cond b (c ∷ []) [])) ≡ b
       go true = refl
       go false = refl
 
@@ -90,8 +90,8 @@ module _ (o : Outline) (n : List ℕ) (h l : ℕ) (c : Context) (deep : h ≡ 0 
   some_coming r came = go r.more refl
     where
       go : (b : Bool) → r.more ≡ b → r.more ≡ some_in o h l c
-      go true q = q ∙ ap (λ cs. not (is_empty_lem cs)) (sym (came.came q) ∙ all_coming)
-      go false q = q ∙ ap (λ cs. not (is_empty_lem cs)) (sym (came.ended q) ∙ all_coming)
+      go true q = q ∙ ap (λ cs. not (is_empty_list cs)) (sym (came.came q) ∙ all_coming)
+      go false q = q ∙ ap (λ cs. not (is_empty_list cs)) (sym (came.ended q) ∙ all_coming)
 
 -- ---- cursors without rows
 module _ (o : Outline) (n : List ℕ) (h : ℕ) (l : LoopId) (c : Kept) (small : l.0 < 32) (s : Sound o (context_by c)) (r : Cursor) where

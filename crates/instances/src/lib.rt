@@ -2,7 +2,7 @@
 #![tactic(auto)]
 
 ghost use Rattle.std.specs.Prelude.{◌≡◌, not, ◌<◌};
-ghost use Rattle.nest.specs.Lists.{is_empty_lem};
+ghost use Rattle.nest.specs.Lists.{is_empty_list};
 ghost use Rattle.nest.specs.Ready.{outline_at};
 ghost use Rattle.walk.specs.Nested.{Nested, Sound};
 ghost use Rattle.walk.specs.Contexts.{context_by};
@@ -92,7 +92,7 @@ pub fn next_instance(job: &[u8], index: &[u16], nest: &[u32], cur: Cursor) -> Ne
 // Whether loop l has an instance in context c, looking `height` levels down: an `Implied` loop has one where a child has.
 fn has_instance(job: &[u8], index: &[u16], nest: &[u32], l: LoopId, c: Context, height: u32) -> bool
     requires { Nested job.now index.now nest.now × Sound (outline_at job.now) (context_by c) × (l.0 < 32) }
-    ensures { result ≡ not (is_empty_lem (instances (outline_at job.now) height l.0 (context_by c))) }
+    ensures { result ≡ not (is_empty_list (instances (outline_at job.now) height l.0 (context_by c))) }
 {
     if height == 0 {
         return false;

@@ -22,9 +22,9 @@ abbrev pub some_of : {A : Type 0} → (A → Bool) → List A → Bool
 some_of p [] = false
 some_of p (x ∷ xs) = p x || some_of p xs
 
-abbrev pub is_empty_lem : {A : Type 0} → List A → Bool
-is_empty_lem [] = true
-is_empty_lem (x ∷ xs) = false
+abbrev pub is_empty_list : {A : Type 0} → List A → Bool
+is_empty_list [] = true
+is_empty_list (x ∷ xs) = false
 
 -- f of what is there, or else d
 abbrev pub on : {A B : Type 0} → Option A → (A → B) → B → B

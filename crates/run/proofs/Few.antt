@@ -7,7 +7,7 @@ use mathlib.Core.Option.{Option, none, some}
 use native.Mathlib.Omega.{arith}
 use lib.ListN.{length, length-take, length-drop, length-map}
 use lib.Dec.{eqb}
-use Rattle.nest.specs.Lists.{on, from, is, part, sum, some_of, is_empty_lem}
+use Rattle.nest.specs.Lists.{on, from, is, part, sum, some_of, is_empty_list}
 use Rattle.nest.specs.Outline.{Outline, Kind, absent, envelope, implied, rows, inside, groups, Item, segment, loop, item_loops, loop_of, kind_of, order_of, table_parent, row_count, plain}
 use Rattle.nest.specs.Nest.{held, referred}
 use Rattle.nest.proofs.Scan.{keep_length}
@@ -77,7 +77,7 @@ module _ (j : Outline) where
         go : (x : Option ℕ) → length (on x (λ r. cond (shown j l t r) (c ∷ []) []) []) ≤ R
         go none = omega arith
         go (some r) = one_at_most (shown j l t r) c
-    kind_few below l c implied = one_at_most (some_of (λ k. not (is_empty_lem (below k c))) (loop_of j l).children) c
+    kind_few below l c implied = one_at_most (some_of (λ k. not (is_empty_list (below k c))) (loop_of j l).children) c
 
     pub instances_few : (h l : ℕ) (c : Context) → length (instances j h l c) ≤ R
     unfolding instances

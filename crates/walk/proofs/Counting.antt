@@ -9,7 +9,7 @@ use native.Mathlib.Omega.{arith}
 use lib.ListN.{length, take, drop}
 use lib.Dec.{eqb}
 use borrow.Author.Tests.{eq-eqb, ne_eqb, eqb-true}
-use Rattle.nest.specs.Lists.{once, each, some_of, is_empty_lem, on, from, sum, times, is, part}
+use Rattle.nest.specs.Lists.{once, each, some_of, is_empty_list, on, from, sum, times, is, part}
 use Rattle.nest.specs.Outline.{Outline, rows, groups, envelope, implied, Item, segment, loop, loop_of, parent_of, kind_of, order_of, table_parent, row_count, plain}
 use Rattle.nest.specs.Nest.{referred, held}
 use Rattle.walk.specs.Instances.{Context, Run, Piece, in_row, in_piece, pieces_of, at, held_in, rows_in, cut_to, offset, by_kind, instances}
@@ -122,12 +122,12 @@ none_of p k (x ∷ xs) e h = go (p x) refl (eqb x k) refl (none_of p k xs)
     go false q true z more = ap p (sym (eqb-true x k z)) ∙ q
     go false q false z more = more (rw q at e) (omega (arith, h, ap once z))
 
-no_visits : (j : Outline) (t r h l : ℕ) (c : Context) → not (is_empty_lem (instances j h l c)) ≡ false → stops_of t r (visits j h l c) ≡ 0
+no_visits : (j : Outline) (t r h l : ℕ) (c : Context) → not (is_empty_list (instances j h l c)) ≡ false → stops_of t r (visits j h l c) ≡ 0
 unfolding visits
 no_visits j t r zero l c e = refl
 no_visits j t r (suc h) l c e = go (instances j (suc h) l c) e
   where
-    go : (cs : List Context) → not (is_empty_lem cs) ≡ false → stops_of t r (each (instance_steps (instances j h) (visits j h) j l) cs) ≡ 0
+    go : (cs : List Context) → not (is_empty_list cs) ≡ false → stops_of t r (each (instance_steps (instances j h) (visits j h) j l) cs) ≡ 0
     go [] q = refl
     go (d ∷ ds) q = absurd (true≢false q)
 

@@ -8,7 +8,7 @@ use native.Mathlib.Omega.{arith}
 use lib.ListN.{length}
 use lib.Dec.{ltb}
 use borrow.Author.Tests.{ltb-true}
-use Rattle.nest.specs.Lists.{each, on, some_of, is_empty_lem, sum, times, is}
+use Rattle.nest.specs.Lists.{each, on, some_of, is_empty_list, sum, times, is}
 use Rattle.nest.specs.Outline.{Outline, Kind, absent, envelope, implied, rows, inside, groups, Item, segment, loop, inside_table, loop_of, parent_of, kind_of, order_of}
 use Rattle.walk.specs.Instances.{Context, outside, own_data, has_data, by_kind, instances}
 use Rattle.walk.specs.Tour.{Step, enters, stop_at, own_row, segment_steps, item_steps, body_steps, close_steps, children, instance_steps, visits, tour_to, tour}
@@ -87,8 +87,8 @@ module _ (j : Outline) (T : Tree j) where
       go (groups t) more = refl
       go implied more = ap (λ b. cond b (c ∷ []) []) (some_same _ _ (loop_of j l).children child)
         where
-          child : (k : ℕ) → 0 < times k (loop_of j l).children → not (is_empty_lem (instances j (suc h) k c)) ≡ not (is_empty_lem (instances j h k c))
-          child k z = let e : parent_of j k ≡ some l = child_parent l k z in ap (λ cs. not (is_empty_lem cs)) (more k (suc d) c (under e D) (child_deep l k d D e) (omega arith))
+          child : (k : ℕ) → 0 < times k (loop_of j l).children → not (is_empty_list (instances j (suc h) k c)) ≡ not (is_empty_list (instances j h k c))
+          child k z = let e : parent_of j k ≡ some l = child_parent l k z in ap (λ cs. not (is_empty_list cs)) (more k (suc d) c (under e D) (child_deep l k d D e) (omega arith))
 
   visits_more : (h l d : ℕ) (c : Context) → Deep j l d → d ≤ length j.loops → length j.loops < d + h → visits j (suc h) l c ≡ visits j h l c
   unfolding visits instance_steps body_steps children

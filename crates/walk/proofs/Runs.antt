@@ -9,7 +9,7 @@ use lib.ListN.{length, take, drop, length-take, length-drop}
 use lib.Seq.{take-nil, drop-nil}
 use lib.Dec.{eqb}
 use borrow.Author.Tests.{eqb-true, eqb-false, ne_eqb}
-use Rattle.nest.specs.Lists.{on, All, some_of, is_empty_lem, part}
+use Rattle.nest.specs.Lists.{on, All, some_of, is_empty_list, part}
 use Rattle.nest.specs.Outline.{Outline, Kind, absent, envelope, implied, rows, inside, groups, loop_of, kind_of, table_parent, plain}
 use Rattle.nest.proofs.Alls.{all_map}
 use Rattle.walk.specs.Instances.{Context, Run, Piece, outside, at, held_in, cut_to, rows_in, pieces, pieces_of, offset, in_row, in_piece, shown, by_kind, instances}
@@ -149,7 +149,7 @@ fits_instances j (suc h) l c F = go (kind_of j l)
     go : (k : Kind) → All (Fits j) (by_kind (instances j h) j l c k)
     go absent = tt
     go envelope = (F, tt)
-    go implied = choose (some_of (λ k. not (is_empty_lem (instances j h k c))) (loop_of j l).children)
+    go implied = choose (some_of (λ k. not (is_empty_list (instances j h k c))) (loop_of j l).children)
     go (rows t) = of_rows t (own_parent j t)
     go (groups t) = of_groups t (own_parent j t)
     go (inside t) = in_row_lem t (c.row t)

@@ -9,7 +9,7 @@ use native.Mathlib.Omega.{arith}
 use lib.ListN.{length, drop, get_or, drop_of_length-le}
 use lib.Dec.{ltb}
 use borrow.Author.Tests.{lt-ltb, le-ltb}
-use Rattle.nest.specs.Lists.{each, some_of, is_empty_lem, on, sum}
+use Rattle.nest.specs.Lists.{each, some_of, is_empty_list, on, sum}
 use Rattle.nest.specs.Outline.{Outline, Kind, absent, envelope, implied, rows, inside, groups, row_table, Source, of_envelope, of_row, ofRepeat, Item, segment, loop, item_loops, loop_of, kind_of, order_of, segment_of, planned, has_occurrence}
 use Rattle.nest.specs.Nest.{row_of, repeat_rows}
 use Rattle.nest.proofs.Scan.{each_map, drop_next, some_at, some_not_at, some_past}
@@ -52,17 +52,17 @@ inst_hidden j h l t r c e q s = rw e (rw q (rw s))
 
 -- whether one of the children from place i on has an instance
 abbrev pub some_child : Outline → ℕ → ℕ → Context → ℕ → Bool
-some_child j h l c i = some_of (λ k. not (is_empty_lem (instances j h k c))) (drop i (loop_of j l).children)
+some_child j h l c i = some_of (λ k. not (is_empty_list (instances j h k c))) (drop i (loop_of j l).children)
 
 pub inst_implied : (j : Outline) (h l : ℕ) (c : Context) → kind_of j l ≡ implied → instances j (suc h) l c ≡ cond (some_child j h l c 0) (c ∷ []) []
 unfolding instances by_kind
 inst_implied j h l c e = rw e
 
-pub child_found : (j : Outline) (h l : ℕ) (c : Context) (i : ℕ) → i < length (loop_of j l).children → is_empty_lem (instances j h (get_or (loop_of j l).children i 0) c) ≡ false
+pub child_found : (j : Outline) (h l : ℕ) (c : Context) (i : ℕ) → i < length (loop_of j l).children → is_empty_list (instances j h (get_or (loop_of j l).children i 0) c) ≡ false
     → some_child j h l c i ≡ true
 child_found j h l c i b e = some_at _ (loop_of j l).children i 0 b (ap not e)
 
-pub child_next : (j : Outline) (h l : ℕ) (c : Context) (i : ℕ) → i < length (loop_of j l).children → is_empty_lem (instances j h (get_or (loop_of j l).children i 0) c) ≡ true
+pub child_next : (j : Outline) (h l : ℕ) (c : Context) (i : ℕ) → i < length (loop_of j l).children → is_empty_list (instances j h (get_or (loop_of j l).children i 0) c) ≡ true
     → some_child j h l c i ≡ some_child j h l c (i + 1)
 child_next j h l c i b e = some_not_at _ (loop_of j l).children i 0 b (ap not e)
 
@@ -70,21 +70,21 @@ pub child_end : (j : Outline) (h l : ℕ) (c : Context) (i : ℕ) → length (lo
 child_end j h l c i b = some_past _ (loop_of j l).children i b
 
 -- a list of rows gives instances exactly where it has one
-pub empty_rows : (t : ℕ) (c : Context) (xs : List ℕ) → is_empty_lem (map (in_row t c) xs) ≡ is_empty_lem xs
+pub empty_rows : (t : ℕ) (c : Context) (xs : List ℕ) → is_empty_list (map (in_row t c) xs) ≡ is_empty_list xs
 empty_rows t c [] = refl
 empty_rows t c (x ∷ xs) = refl
 
-some_piece : (t : ℕ) (c : Context) (same : ℕ → ℕ → Bool) (more : List ℕ) (head start end : ℕ) → is_empty_lem (map (in_piece t c) (pieces same head start end more)) ≡ false
+some_piece : (t : ℕ) (c : Context) (same : ℕ → ℕ → Bool) (more : List ℕ) (head start end : ℕ) → is_empty_list (map (in_piece t c) (pieces same head start end more)) ≡ false
 unfolding pieces
 some_piece t c same [] head start end = refl
 some_piece t c same (r ∷ more) head start end = go (same head r) (some_piece t c same more head start (suc end))
   where
-    go : (b : Bool) → is_empty_lem (map (in_piece t c) (pieces same head start (suc end) more)) ≡ false
-        → is_empty_lem (map (in_piece t c) (cond b (pieces same head start (suc end) more) (record { head = head; start = start; end = end } ∷ pieces same r end (suc end) more))) ≡ false
+    go : (b : Bool) → is_empty_list (map (in_piece t c) (pieces same head start (suc end) more)) ≡ false
+        → is_empty_list (map (in_piece t c) (cond b (pieces same head start (suc end) more) (record { head = head; start = start; end = end } ∷ pieces same r end (suc end) more))) ≡ false
     go true on = on
     go false on = refl
 
-pub empty_groups : (t : ℕ) (c : Context) (same : ℕ → ℕ → Bool) (xs : List ℕ) → is_empty_lem (map (in_piece t c) (pieces_of same xs)) ≡ is_empty_lem xs
+pub empty_groups : (t : ℕ) (c : Context) (same : ℕ → ℕ → Bool) (xs : List ℕ) → is_empty_list (map (in_piece t c) (pieces_of same xs)) ≡ is_empty_list xs
 empty_groups t c same [] = refl
 empty_groups t c same (r ∷ more) = some_piece t c same more r 0 1
 

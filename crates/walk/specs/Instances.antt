@@ -1,7 +1,7 @@
 -- The instances of a loop inside an instance (write/walk.rs).
 use Rattle.std.specs.Prelude.{ℕ, zero, suc, ◌+◌, Bool, true, false, cond, not, ◌&&◌, ◌||◌, List, [], ◌∷◌, map, length, eqb}
 use Rattle.std.proofs.Math.Option.{Option, none, some}
-use Rattle.nest.specs.Lists.{some_of, is_empty_lem, on, from, is, part}
+use Rattle.nest.specs.Lists.{some_of, is_empty_list, on, from, is, part}
 use Rattle.nest.specs.Outline.{Outline, Kind, rows, absent, envelope, implied, inside, groups, inside_table, source_table, loop_of, plan_of, kind_of, segment_of, planned, table_parent, row_count, plain}
 use Rattle.nest.specs.Nest.{referred, held}
 
@@ -97,7 +97,7 @@ by_kind below j l c envelope = c ∷ []
 by_kind below j l c (rows t) = map (in_row t c) (rows_in j t c)
 by_kind below j l c (groups t) = map (in_piece t c) (pieces_of (j.same_group l) (rows_in j t c))
 by_kind below j l c (inside t) = on (c.row t) (λ r. cond (shown j l t r) (c ∷ []) []) []
-by_kind below j l c implied = cond (some_of (λ k. not (is_empty_lem (below k c))) (loop_of j l).children) (c ∷ []) []
+by_kind below j l c implied = cond (some_of (λ k. not (is_empty_list (below k c))) (loop_of j l).children) (c ∷ []) []
 
 -- the instances of loop l in context c, looking h levels down
 unfoldable pub instances : Outline → ℕ → ℕ → Context → List Context

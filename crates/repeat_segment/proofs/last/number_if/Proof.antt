@@ -17,10 +17,10 @@ is-empty-requires : tie.Need-is-empty-requires
 is-empty-requires c κs = search rules
 
 returns-2 : tie.Need-returns-2
-returns-2 c = rw (← c.before.before.before.text.ensures.text, ← c.before.is_empty_lem.ensures, c.if2.true) refl
+returns-2 c = rw (← c.before.before.before.text.ensures.text, ← c.before.is_empty_list.ensures, c.if2.true) refl
 
 returns-3 : tie.Need-returns-3
-returns-3 c = rw (← c.before.before.before.text.ensures.text, ← c.before.is_empty_lem.ensures, c.if2.false) refl
+returns-3 c = rw (← c.before.before.before.text.ensures.text, ← c.before.is_empty_list.ensures, c.if2.false) refl
 
 pub number-if-spec : {M : Type 1} → statement M
 number-if-spec = tie.close (tie.spec returns text-requires is-empty-requires returns-2 returns-3)

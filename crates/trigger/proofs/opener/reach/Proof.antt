@@ -12,13 +12,13 @@ is-empty-requires : tie.Need-is-empty-requires
 is-empty-requires c κs = search rules
 
 returns : tie.Need-returns
-returns c = reach_empty _ _ _ (sym c.before.is_empty_lem.ensures ∙ c.if1.true)
+returns c = reach_empty _ _ _ (sym c.before.is_empty_list.ensures ∙ c.if1.true)
 
 returns-2 : tie.Need-returns-2
-returns-2 c = reach_up _ _ _ (sym c.before.before.is_empty_lem.ensures ∙ c.before.if1.false) c.if2.true
+returns-2 c = reach_up _ _ _ (sym c.before.before.is_empty_list.ensures ∙ c.before.if1.false) c.if2.true
 
 returns-3 : tie.Need-returns-3
-returns-3 c = reach_same _ _ _ (sym c.before.before.is_empty_lem.ensures ∙ c.before.if1.false) c.if2.false
+returns-3 c = reach_same _ _ _ (sym c.before.before.is_empty_list.ensures ∙ c.before.if1.false) c.if2.false
 
 pub reach-spec : {M : Type 1} → statement M
 reach-spec = tie.close (tie.spec is-empty-requires returns returns-2 returns-3)
