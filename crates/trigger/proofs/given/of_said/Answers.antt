@@ -1,0 +1,5 @@
+use Rattle.trigger.proofs.Givens.{told_said}
+use Rattle.trigger.proofs.given.of_said.Goals as goal
+
+pub returns : goal.returns
+returns c = λ job o h s. told_said job o c.args.field c.args.said _ h s c.reason_of-reason.ensures
