@@ -1,0 +1,11 @@
+use Rattle.format.specs.Plan.{loop_plan_c}
+use Rattle.format.specs.Sections.{job_of}
+use Rattle.places.specs.Spots.{wrong_plan}
+use Rattle.says.proofs.Walk.{NoneYet}
+use Rattle.places.proofs.spots.plans_wrong.Given as goal
+
+abbrev pub invariant-loop-left : goal.invariant-loop-left
+invariant-loop-left l = NoneYet (loop_plan_c) l.job l.end l.at (wrong_plan (job_of l.job)) l.left l.p
+
+abbrev pub decreases-loop-left : goal.decreases-loop-left
+decreases-loop-left l = l.left

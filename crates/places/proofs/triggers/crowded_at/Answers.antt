@@ -1,0 +1,13 @@
+use mathlib.Core.Path.{refl}
+use Rattle.codec.specs.Maps.{is_num_map}
+use Rattle.codec.specs.Field.{is_pair}
+use Rattle.format.specs.Fields.{is_element}
+use Rattle.says.proofs.Walk.{number_is}
+use Rattle.places.proofs.Turning.{count_empty, crowded_is}
+use Rattle.places.proofs.triggers.crowded_at.Goals as goal
+
+pub returns : goal.returns
+returns c es o v i = let t = is_pair _ _ _ _ _ v i in let l = is_element _ _ _ _ t.1 in
+    crowded_is es v _ _ _ _ (number_is _ _ _ _ _ _ c.count_at-n.ensures.0 refl t.0)
+    (count_empty _ _ _ _ _ _ _ c.count_at-m.ensures.0 (cc) (is_num_map _ _ _ _ _ l.components).0)
+    (c.parts_at-x.ensures es o) c.either.ensures

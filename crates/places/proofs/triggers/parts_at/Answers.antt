@@ -1,0 +1,14 @@
+use Rattle.says.proofs.Walk.{some_start, some_again, some_found, some_none}
+use Rattle.places.proofs.triggers.parts_at.Goals as goal
+
+pub loop-left-init : goal.loop-left-init
+loop-left-init c = some_start _ _ _ _ _ _ _ c.count_at-left.ensures.0 c.le_at-p.ensures
+
+pub returns-then-part_at : goal.returns-then-part_at
+returns-then-part_at c = some_found _ _ _ _ _ _ _ _ c.loop-left.invariant c.loop-left-test.true c.part_at.ensures c.if-part_at.true
+
+pub loop-left-preserved : goal.loop-left-preserved
+loop-left-preserved c = some_again _ _ _ _ _ _ _ _ _ c.loop-left.invariant c.loop-left-test.true c.element_plan_at-p.ensures c.part_at.ensures c.if-part_at.false
+
+pub returns : goal.returns
+returns c = some_none _ _ _ _ _ _ _ c.loop-left.invariant c.loop-left-test.false

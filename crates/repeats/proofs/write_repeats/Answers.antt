@@ -1,0 +1,12 @@
+use mathlib.Core.Path.{sym, ◌∙◌}
+use Rattle.nest.proofs.Placing.{repeats_is}
+use Rattle.repeats.proofs.SoFar.{took_nothing}
+use Rattle.repeats.proofs.RowLaws.{rows_plain}
+use borrow.Author.Rules.{rules}
+use Rattle.repeats.proofs.write_repeats.Goals as goal
+
+pub write_hooked-requires : goal.write_hooked-requires
+write_hooked-requires c = (c.requires.0, c.requires.1, c.requires.2, c.requires.3, search rules, sym (repeats_is _ _ _ c.repeats-again.ensures) ∙ c.if-again.true, c.requires.4)
+
+pub returns : goal.returns
+returns c = took_nothing _ _ _ c.requires.0 _ _ _ _ _ _ c.requires.1 (rows_plain _ _ _ _ _ c.repeats-again.ensures c.if-again.false)
