@@ -1,0 +1,12 @@
+use Rattle.paths.specs.Tests.{names_plain}
+use lib.ListN.{length}
+use Rattle.nest.specs.OfJob.{outline_of}
+use Rattle.format.specs.Sections.{job_of}
+use Rattle.paths.proofs.Tests.{Down}
+use Rattle.paths.proofs.each.loops_plain.Given as goal
+
+abbrev pub invariant-loop-left : goal.invariant-loop-left
+invariant-loop-left l = Down (names_plain (outline_of (job_of l.job))) (length (outline_of (job_of l.job)).loops) l.left
+
+abbrev pub decreases-loop-left : goal.decreases-loop-left
+decreases-loop-left l = l.left
