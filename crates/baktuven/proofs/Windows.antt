@@ -162,6 +162,10 @@ turn_stored b ws ys zs zs' from end r h small q e₁ e₂ e₃ e₄ =
     ∙ ap (λ (l : List Finding). sets l from (take r (drop from xs))) (e₄ ∙ ap (λ (k : ℕ). sets ys 64 (behind 64 k xs)) reached)
     ∙ next_window ys xs from r h (omega arith) ∙ ap (λ (k : ℕ). sets ys 64 (behind 64 k xs)) (sym next)
 
+-- all of them
+pub last_stored : (ys zs xs : List Finding) (from end : ℕ) → end ≤ from → zs ≡ sets ys 64 (behind 64 (min from end) xs) → zs ≡ sets ys 64 (behind 64 end xs)
+last_stored ys zs xs from end h e = let m : min from end ≡ end = omega arith in e ∙ ap (λ (k : ℕ). sets ys 64 (behind 64 k xs)) m
+
 -- the first window, and the windows behind it
 pub all_in_places : (b ws : List ℕ) (ys zs us : List Finding) (n r end : ℕ) → n ≡ length (records_of b) → ws ≡ window_from b 0 blank → r ≡ min n 64 → end ≡ min n (length ys)
     → zs ≡ sets ys 0 (findings_in ws 0 r) → us ≡ sets zs 64 (behind 64 end (records_of b)) → us ≡ in_places (records_of b) ys
