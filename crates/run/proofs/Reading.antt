@@ -23,7 +23,7 @@ use Rattle.spec.specs.declared.ids.ControlRule.{ControlRule}
 use Rattle.spec.specs.declared.ids.Stretch.{Stretch}
 use Rattle.spec.specs.declared.ids.Text.{Text}
 use Rattle.spec.specs.declared.ids.Text.TheVariants as texts
-use Rattle.nest.specs.Outline.{Planned, Item, loop_of, segment_of, order_of, row_count}
+use Rattle.nest.specs.Outline.{Planned, loop_of, segment_of, row_count}
 use Rattle.nest.specs.OfJob.{outline_of, source_in, item_in}
 use Rattle.nest.specs.Ready.{outline_at}
 use Rattle.nest.proofs.Bridge.{controlled_is, ends_is, segment_is, data-count-is}

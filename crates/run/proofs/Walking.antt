@@ -23,7 +23,6 @@ use Rattle.nest.specs.OfJob.{outline_of, item_in}
 use Rattle.nest.specs.Ready.{outline_at}
 use Rattle.nest.proofs.Scan.{each_at, each_past}
 use Rattle.nest.proofs.Placing.{rows_few}
-use Rattle.walk.specs.declared.Context.{Context as Kept}
 use Rattle.walk.specs.Instances.{Context, instances}
 use Rattle.walk.specs.Nested.{Nested}
 use Rattle.walk.specs.Tour.{Step, enters, segments_in, own_row, stop_at, segment_steps, item_steps, body_steps, children, close_steps, instance_steps, visits}
@@ -36,7 +35,7 @@ use Rattle.emit.specs.Fold.{step_out, steps_out}
 use Rattle.emit.specs.Did.{state_of, Did, Fit, Small, Took}
 use Rattle.emit.proofs.TookLaws.{did_steps, took_none}
 use Rattle.run.specs.declared.Visited.{Visited}
-use Rattle.run.specs.Went.{Walks, Went, item_loop, item_count}
+use Rattle.run.specs.Went.{Went, item_loop, item_count}
 use Rattle.nest.proofs.Bridge.{order_length, order_item}
 use Rattle.run.proofs.Few.{instances_few, children_few}
 use Rattle.run.proofs.Along.{Along, along_none, along_next, along_end, along_room}

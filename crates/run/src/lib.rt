@@ -1,4 +1,6 @@
 // The walk that writes: every instance of a loop that the rows give, its segments and child loops in the order of the layout, and its closer.
+#![tactic(auto)]
+
 ghost use Rattle.std.specs.Prelude.{◌≡◌, ◌<◌, length};
 ghost use Rattle.format.specs.Sections.{job_of};
 ghost use Rattle.lent.specs.Fit.{cap};

@@ -1,0 +1,32 @@
+use Prim.Native.Nat.{◌+◌, ◌-◌, ◌*◌, ◌≤◌}
+use lib.ListN.{length}
+use Rattle.format.specs.Sections.{job_of}
+use Rattle.nest.specs.Ready.{outline_at}
+use Rattle.walk.specs.Contexts.{context_by}
+use Rattle.instances.specs.Cursor.{coming, Going}
+use Rattle.run.proofs.Walking.{ItemsTo, VisitsTo}
+use Rattle.run.proofs.+items_visits.Given as goal
+
+abbrev pub decreases-items : goal.decreases-items
+decreases-items l = l.height * 2 + 1
+
+abbrev pub decreases-visits : goal.decreases-visits
+decreases-visits l = l.height * 2
+
+abbrev pub invariant-items-loop-k : goal.invariant-items-loop-k
+invariant-items-loop-k l = record {
+  in_order : l.k ≤ l.order.count;
+  along : ItemsTo (job_of l.job) l.height l.l.0 (context_by l.c) l.k l.initial.t l.t l.written l.n l.initial.doc l.doc l.initial.segments l.segments l.initial.findings l.findings l.initial.stops l.stops;
+}
+
+abbrev pub decreases-items-loop-k : goal.decreases-items-loop-k
+decreases-items-loop-k l = l.order.count - l.k
+
+abbrev pub invariant-visits-loop-d : goal.invariant-visits-loop-d
+invariant-visits-loop-d l = record {
+  along : VisitsTo (job_of l.job) l.height l.l.0 (coming (outline_at l.job) l.nest l.initial.cur) (coming (outline_at l.job) l.nest l.cur) l.initial.t l.t l.written l.n l.initial.doc l.doc l.initial.segments l.segments l.initial.findings l.findings l.initial.stops l.stops;
+  going : Going (outline_at l.job) l.nest l.cur;
+}
+
+abbrev pub decreases-visits-loop-d : goal.decreases-visits-loop-d
+decreases-visits-loop-d l = length (coming (outline_at l.job) l.nest l.cur)

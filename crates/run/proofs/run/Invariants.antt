@@ -1,0 +1,13 @@
+use Prim.Native.Nat.{◌-◌, ◌≤◌}
+use Rattle.format.specs.Sections.{job_of}
+use Rattle.run.proofs.Touring.{RootsTo}
+use Rattle.run.proofs.run.Given as goal
+
+abbrev pub invariant-loop-k : goal.invariant-loop-k
+invariant-loop-k l = record {
+  in_roots : l.k ≤ l.count;
+  far : RootsTo (job_of l.job) l.height l.k l.initial.t l.t l.initial.doc l.doc l.initial.segments l.segments l.initial.findings l.findings l.initial.stops l.stops;
+}
+
+abbrev pub decreases-loop-k : goal.decreases-loop-k
+decreases-loop-k l = l.count - l.k
