@@ -115,7 +115,11 @@ fn loops_over(b: &[u8], at: usize, end: u32) -> Told
     while 0 < left {
         let t = loop_over(b, p, end);
         if t.found {
-            return t;
+            // what lies behind is not asked for
+            return Told {
+                found: true,
+                next: end as usize + 1,
+            };
         }
         p = t.next;
         left = left - 1;
@@ -223,7 +227,11 @@ fn segments_over(b: &[u8], at: usize, end: u32) -> Told
     while 0 < left {
         let t = segment_over(b, p, end);
         if t.found {
-            return t;
+            // what lies behind is not asked for
+            return Told {
+                found: true,
+                next: end as usize + 1,
+            };
         }
         p = t.next;
         left = left - 1;

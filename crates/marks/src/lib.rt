@@ -205,7 +205,11 @@ fn loops_unfit(b: &[u8], at: usize, end: u32) -> Told
     while 0 < left {
         let t = loop_unfit(b, p, end);
         if t.found {
-            return t;
+            // what lies behind is not asked for
+            return Told {
+                found: true,
+                next: end as usize + 1,
+            };
         }
         p = t.next;
         left = left - 1;
@@ -307,7 +311,11 @@ fn segments_unfit(b: &[u8], at: usize, end: u32) -> Told
     while 0 < left {
         let t = segment_unfit(b, p, end);
         if t.found {
-            return t;
+            // what lies behind is not asked for
+            return Told {
+                found: true,
+                next: end as usize + 1,
+            };
         }
         p = t.next;
         left = left - 1;
