@@ -15,7 +15,7 @@ use Rattle.codec.specs.Codec.{Bytes, le_c, map_c, dep_c}
 use Rattle.format.specs.Plan.{Value, from_column, fromGroup, from_code, ElementPlan}
 use Rattle.format.specs.Job.{Job}
 use Rattle.format.specs.Sections.{job_of}
-use Rattle.format.specs.Decoding.{encode_read}
+use Rattle.format.proofs.RoundTrip.{encode_read}
 use Rattle.format.specs.Passed.{Passed, few}
 use Rattle.format.specs.Envelope.{Envelope, envelope_c}
 use Rattle.format.specs.Ask.{loop_of, planned_of, data_of}
