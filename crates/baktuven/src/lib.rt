@@ -12,7 +12,7 @@ use finding::{Finding, append_all};
 use writer::Answer;
 
 // The writer's answer and its first window of findings, 64 records.
-#[derive(Drop)]
+#[derive(Clone, Copy)]
 struct Front {
     answer: Answer,
     window: [u64; 640],
@@ -102,7 +102,7 @@ pub fn write(
 }
 
 // The answer, and the list of findings by value, for a caller that has no list to lend.
-#[derive(Drop)]
+#[derive(Clone, Copy)]
 pub struct Listing {
     pub answer: Answer,
     pub findings: [Finding; 512],

@@ -9,7 +9,7 @@ use lib.Dec.{ltb}
 use borrow.Author.Tests.{ltb-true, ltb-false, leb-false}
 use Rattle.codec.specs.Codec.{pick}
 use Rattle.codec.specs.Limits.{any_of, none_of, none_in}
-use Rattle.format.specs.Layout.{Item, segment_item, loopItem}
+use Rattle.format.specs.Layout.{Item, segment_item, loop_item}
 use Rattle.format.specs.Sections.{job_of}
 use Rattle.format.specs.Refusal.{tangled, tangled_loops, outside, outside_order, loops_in}
 use Rattle.format.specs.Passed.{Passed, few}
@@ -24,19 +24,19 @@ none_after f x xs h = go (f x) h
     go true q = absurd (let z : ◌≡◌ {A = ℕ} 0 1 = cc in omega arith)
     go false q = q
 
-in_order : (n : ℕ) (its : List Item) (i k : ℕ) → any_of (outside n) (loops_in its) ≡ false → i < length its → get_or its i no_item ≡ loopItem k → outside n k ≡ false
+in_order : (n : ℕ) (its : List Item) (i k : ℕ) → any_of (outside n) (loops_in its) ≡ false → i < length its → get_or its i no_item ≡ loop_item k → outside n k ≡ false
 unfolding loops_in
 in_order n [] i k f h e = absurd (omega arith)
 in_order n (segment_item m ∷ its) zero k f h e = absurd (let z : ◌≡◌ {A = ℕ} 0 1 = cc in omega arith)
 in_order n (segment_item m ∷ its) (suc i) k f h e = in_order n its i k f (omega arith) e
-in_order n (loopItem l ∷ its) zero k f h e = let q : l ≡ k = cc in rw (← q) (none_in (outside n) (l ∷ loops_in its) f 0 0 (omega arith))
-in_order n (loopItem l ∷ its) (suc i) k f h e = in_order n its i k (none_after (outside n) l (loops_in its) f) (omega arith) e
+in_order n (loop_item l ∷ its) zero k f h e = let q : l ≡ k = cc in rw (← q) (none_in (outside n) (l ∷ loops_in its) f 0 0 (omega arith))
+in_order n (loop_item l ∷ its) (suc i) k f h e = in_order n its i k (none_after (outside n) l (loops_in its) f) (omega arith) e
 
-pub order_small : (b : List ℕ) → Passed b → (l i n k : ℕ) → n ≡ length (A.order_of (job_of b) l) → i < n → loopItem k ≡ get_or (A.order_of (job_of b) l) i no_item → k < 32
+pub order_small : (b : List ℕ) → Passed b → (l i n k : ℕ) → n ≡ length (A.order_of (job_of b) l) → i < n → loop_item k ≡ get_or (A.order_of (job_of b) l) i no_item → k < 32
 unfolding A.order_of tangled outside_order outside
 order_small b w l i n k c h e = go (ltb l (length (job_of b).layout.order)) refl (rw (← c) h) e
   where
-    go : (u : Bool) → ltb l (length (job_of b).layout.order) ≡ u → i < length (get_or (job_of b).layout.order l []) → loopItem k ≡ get_or (get_or (job_of b).layout.order l []) i no_item → k < 32
+    go : (u : Bool) → ltb l (length (job_of b).layout.order) ≡ u → i < length (get_or (job_of b).layout.order l []) → loop_item k ≡ get_or (get_or (job_of b).layout.order l []) i no_item → k < 32
     go true q m z =
         let x = none_in (outside_order (length (job_of b).spec.loops)) (job_of b).layout.order (none_of _ _ (none_of _ _ (none_of _ _ w.forest).1).1).0 l [] (ltb-true _ _ q) in
         let y : k < length (job_of b).spec.loops = leb-false _ _ (in_order (length (job_of b).spec.loops) (get_or (job_of b).layout.order l []) i k x m (sym z)) in

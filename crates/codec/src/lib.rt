@@ -297,7 +297,7 @@ pub fn either(x: bool, y: bool) -> bool
     y
 }
 
-#[derive(Drop)]
+#[derive(Clone, Copy)]
 pub enum OptNum {
     Num(usize),
     Nothing,

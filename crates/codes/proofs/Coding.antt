@@ -6,7 +6,7 @@ use mathlib.Core.List.{List, [], ◌∷◌}
 use mathlib.Core.Bool.{true}
 use Rattle.codec.specs.Codec.{pick}
 use Rattle.codec.specs.Limits.{any_of}
-use Rattle.format.specs.Plan.{Value, from_column, fromGroup, from_code, ElementPlan, SegmentPlan, LoopPlan}
+use Rattle.format.specs.Plan.{Value, from_column, from_group, from_code, ElementPlan, SegmentPlan, LoopPlan}
 use Rattle.format.specs.Spec.{ComponentDef, ElementDef, SegmentDef, Version}
 use Rattle.format.specs.Job.{Job}
 use Rattle.segment.specs.Grammar.{Without}
@@ -37,7 +37,7 @@ module _ (j : Job) (m : Marks) (o : MarksOf j m) where
 
   value_refuted : (v : Value) → Refutes (marked_value m v) (CodeClear j v)
   value_refuted (from_column c) = (λ i. tt, λ i. no_way (sym i))
-  value_refuted (fromGroup c) = (λ i. tt, λ i. no_way (sym i))
+  value_refuted (from_group c) = (λ i. tt, λ i. no_way (sym i))
   value_refuted (from_code t) = clear_refuted t
 
   element_plan_refuted : (e : ElementPlan) → Refutes (marked_element_plan m e) (CodeClear j e.value)

@@ -10,7 +10,7 @@ use Rattle.codec.specs.Forms.{bytes_c}
 use Rattle.codec.specs.Skip.{skip, tag_at, skip_le}
 use Rattle.codec.specs.Field.{is_in}
 use Rattle.codec.specs.Ways.{tag_in, tag_case}
-use Rattle.format.specs.Plan.{from_column, fromGroup, from_code, value_c}
+use Rattle.format.specs.Plan.{from_column, from_group, from_code, value_c}
 use Rattle.format.specs.Fields.{value_tag, is_from_code}
 use Rattle.says.specs.Says.{Says}
 use Rattle.codes.specs.declared.codes.Marks.{Marks}
@@ -30,10 +30,10 @@ module _ (b : List ℕ) (e at t : ℕ) (h : t ≡ tag_at b at e) where
 module _ (b : List ℕ) (e at t : ℕ) (m : Marks) (h : t ≡ tag_at b at e) where
   pub code_there : (p : ℕ) (r : Bool) → t ≡ 2 → p ≡ skip (le_c 1) b at e → Says bytes_c b e p (marked m) r → Says value_c b e at (marked_value m) r
   code_there p r i j s (from_column x) u = absurd (omega (arith, value_tag b e at (from_column x) u, there b e at t h 2 i (omega arith)))
-  code_there p r i j s (fromGroup x) u = absurd (omega (arith, value_tag b e at (fromGroup x) u, there b e at t h 2 i (omega arith)))
+  code_there p r i j s (from_group x) u = absurd (omega (arith, value_tag b e at (from_group x) u, there b e at t h 2 i (omega arith)))
   code_there p r i j s (from_code x) u = s x (rw (behind b e at t h 2 i (omega arith) p j) (is_from_code b e at x u))
 
   pub code_not : (t ≡ 2 → ⊥) → Says value_c b e at (marked_value m) false
   code_not i (from_column x) u = refl
-  code_not i (fromGroup x) u = refl
+  code_not i (from_group x) u = refl
   code_not i (from_code x) u = absurd (i (sym (within b e at t h (is_in bytes_c b e _ _ (is_from_code b e at x u))) ∙ value_tag b e at (from_code x) u))

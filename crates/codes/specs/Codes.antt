@@ -2,7 +2,7 @@
 use Rattle.std.specs.Prelude.{ℕ, List, [], ◌∷◌, ◌≡◌, Bool, true, false, eqb}
 use Rattle.codec.specs.Codec.{pick}
 use Rattle.codec.specs.Limits.{any, any_of}
-use Rattle.format.specs.Plan.{Value, from_column, fromGroup, from_code, ElementPlan, SegmentPlan, LoopPlan}
+use Rattle.format.specs.Plan.{Value, from_column, from_group, from_code, ElementPlan, SegmentPlan, LoopPlan}
 use Rattle.format.specs.Spec.{ComponentDef, ElementDef, SegmentDef, Version, Spec}
 use Rattle.format.specs.Words.{if_some}
 use Rattle.format.specs.Job.{Job}
@@ -16,7 +16,7 @@ marked m t = any_of (mark m) t
 
 abbrev pub marked_value : Marks → Value → Bool
 marked_value m (from_column c) = false
-marked_value m (fromGroup c) = false
+marked_value m (from_group c) = false
 marked_value m (from_code t) = marked m t
 
 unfoldable pub marked_element_plan : Marks → ElementPlan → Bool

@@ -5,7 +5,7 @@
 use Rattle.std.specs.Prelude.{ℕ, ◌+◌, ◌*◌, ◌≤◌, ◌<◌, max, ◌≡◌, ◌≢◌, ◌⊎◌, List, [], ◌∷◌, length}
 use Rattle.std.proofs.Math.Option.{Option, none, some}
 use Rattle.format.specs.Spec.{Control, Loop, ComponentDef, ElementDef, SegmentDef, Version}
-use Rattle.format.specs.Plan.{Source, from_envelope, from_row, fromRepeat, Value, from_column, fromGroup, from_code, ElementPlan, SegmentPlan, LoopPlan}
+use Rattle.format.specs.Plan.{Source, from_envelope, from_row, from_repeat, Value, from_column, from_group, from_code, ElementPlan, SegmentPlan, LoopPlan}
 use Rattle.format.specs.Job.{Job}
 use Rattle.format.specs.Ask.{loop_of, plan_of, segment_def, step_of, depth_of, capacity_of}
 use Rattle.segment.specs.Grammar.{Without}
@@ -67,15 +67,15 @@ pub record RuleFits (c : Control) : Type 0 where
 abbrev pub reach : Job → Source → Value → ℕ
 reach j from_envelope v = 1
 reach j (from_row t) v = 1
-reach j (fromRepeat t) (from_column c) = 1
-reach j (fromRepeat t) (fromGroup c) = max 1 (capacity_of j t)
-reach j (fromRepeat t) (from_code code) = 1
+reach j (from_repeat t) (from_column c) = 1
+reach j (from_repeat t) (from_group c) = max 1 (capacity_of j t)
+reach j (from_repeat t) (from_code code) = 1
 
 -- how far a row's places stand behind those of the row before
 abbrev pub step_in : Job → Source → ℕ
 step_in j from_envelope = 0
 step_in j (from_row t) = 0
-step_in j (fromRepeat t) = step_of j t
+step_in j (from_repeat t) = step_of j t
 
 -- the element at which row number k of a chunk stands
 abbrev pub element_of : Job → Source → ElementPlan → ℕ → ℕ
@@ -101,7 +101,7 @@ Unmixed j s a b = (k n : ℕ) → k < reach j s a.value → n < reach j s b.valu
 abbrev pub Placed : Job → Source → List ElementPlan → Type 0
 Placed j from_envelope es = Unit {0}
 Placed j (from_row t) es = Pairs InFront es
-Placed j (fromRepeat t) es = Pairs (PlacesApart j (fromRepeat t)) es × All (OwnApart j (fromRepeat t)) es
+Placed j (from_repeat t) es = Pairs (PlacesApart j (from_repeat t)) es × All (OwnApart j (from_repeat t)) es
 
 pub record SegmentFits (j : Job) (p : SegmentPlan) : Type 0 where
   pub starts : All PlanStarts p.elements
@@ -136,7 +136,7 @@ pub record Clear (j : Job) (text : List ℕ) : Type 0 where
 
 abbrev pub CodeClear : Job → Value → Type 0
 CodeClear j (from_column c) = Unit {0}
-CodeClear j (fromGroup c) = Unit {0}
+CodeClear j (from_group c) = Unit {0}
 CodeClear j (from_code code) = Clear j code
 
 pub record CodesClear (j : Job) : Type 0 where

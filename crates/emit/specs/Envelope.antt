@@ -1,7 +1,7 @@
 -- The trigger of an envelope loop and its closer (write/envelope.rs, write/emit.rs; document 01: "`LAYOUT` is a table of three rows").
 use Rattle.std.specs.Prelude.{ℕ, zero, suc, ◌+◌, ◌*◌, ◌-◌, ◌%◌, ◌^◌, Bool, true, false, List, [], ◌∷◌, ◌++◌, eqb, leb, get_or, length, take}
 use Rattle.std.proofs.Math.Option.{Option, none, some}
-use Rattle.format.specs.Spec.{Kind, kind_an, kindId, kind_n, kindR, kind_dt, kindTm, ElementDef, Version, Control, Loop}
+use Rattle.format.specs.Spec.{Kind, kind_an, kind_id, kind_n, kind_r, kind_dt, kind_tm, ElementDef, Version, Control, Loop}
 use Rattle.format.specs.Envelope as E
 use Rattle.format.specs.Job.{Job}
 use Rattle.texts.specs.declared.envelope.Min.{Min}
@@ -131,11 +131,11 @@ source_at j trigger depth opener control position d =
 
 abbrev pub is_numeric : Kind → Bool
 is_numeric kind_an = false
-is_numeric kindId = false
+is_numeric kind_id = false
 is_numeric (kind_n n) = true
-is_numeric (kindR n) = false
+is_numeric (kind_r n) = false
 is_numeric kind_dt = false
-is_numeric kindTm = false
+is_numeric kind_tm = false
 
 abbrev pub min_in : Option ℕ → Min
 min_in none = Min.Free

@@ -4,7 +4,7 @@
 -- job reaches.
 use Rattle.std.specs.Prelude.{ℕ, zero, suc, ◌+◌, ◌*◌, ◌-◌, ◌%◌, ◌^◌, max, Bool, true, false, List, [], ◌∷◌, ◌++◌, map, eqb, ltb, get_or, set, replicate}
 use Rattle.std.proofs.Math.Option.{Option, none, some}
-use Rattle.format.specs.Spec.{Loop, Control, Counted, count_segments, countChildren}
+use Rattle.format.specs.Spec.{Loop, Control, Counted, count_segments, count_children}
 use Rattle.format.specs.Plan.{SegmentPlan}
 use Rattle.format.specs.Job.{Job}
 use Rattle.segment.specs.declared.Separators.{Separators}
@@ -137,7 +137,7 @@ taken l s = previous (get_or s.counter l 0)
 
 abbrev pub count_of : Counted → ℕ → ℕ → ℕ
 count_of count_segments children segments = segments
-count_of countChildren children segments = children
+count_of count_children children segments = children
 
 -- the closer repeats the control number of its instance, and is empty there where no opener was written
 unfoldable pub closer_out : Job → ℕ → Bool → ℕ → ℕ → State → Out

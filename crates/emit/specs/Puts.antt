@@ -2,7 +2,7 @@
 use Rattle.std.specs.Prelude.{ℕ, zero, suc, ◌+◌, ◌*◌, List, [], ◌∷◌, ◌++◌, eqb}
 use Rattle.std.proofs.Math.Option.{Option, none, some}
 use Rattle.format.specs.Words.{member_of}
-use Rattle.format.specs.Plan.{Value, from_column, fromGroup, from_code, ElementPlan}
+use Rattle.format.specs.Plan.{Value, from_column, from_group, from_code, ElementPlan}
 use Rattle.format.specs.Job.{Job}
 use Rattle.format.specs.Refusal.{separators}
 use Rattle.column.specs.Cell.{Cell, null, binary, int64, decimal, date32, time32, cell_of}
@@ -94,13 +94,13 @@ put_cell j id e c t column r =
 -- in a row segment; a `Group` value writes none
 abbrev pub row_value : Job → List ℕ → ℕ → ℕ → ElementPlan → Value → Put
 row_value j id t r p (from_column c) = put_cell j id p.element p.component t c r
-row_value j id t r p (fromGroup c) = nothing
+row_value j id t r p (from_group c) = nothing
 row_value j id t r p (from_code code) = put_text p.element p.component code
 
 -- in a repeat segment, for its row number k: columns and codes come from the first, a `Group` value stands k steps behind
 abbrev pub chunk_value : Job → List ℕ → ℕ → ℕ → ℕ → ℕ → ElementPlan → Value → Put
 chunk_value j id t step k r p (from_column c) = pick (eqb k 0) (put_cell j id p.element p.component t c r) nothing
-chunk_value j id t step k r p (fromGroup c) = put_cell j id (p.element + k * step) p.component t c r
+chunk_value j id t step k r p (from_group c) = put_cell j id (p.element + k * step) p.component t c r
 chunk_value j id t step k r p (from_code code) = pick (eqb k 0) (put_text p.element p.component code) nothing
 
 unfoldable pub row_put : Job → List ℕ → ℕ → ℕ → List ElementPlan → Put

@@ -11,7 +11,7 @@ use Rattle.codec.specs.Maps.{num_map_c, bytes_map_c}
 use Rattle.codec.specs.Limits.{any, any_of}
 use Rattle.format.specs.Spec.{required, situational, usage_c, count_segments, counted_c, Control, control_c, Loop, loop_c, kind_an, kind_c, ComponentDef, component_c, ElementDef, element_c, repeat_c, Table, table_c, Version, version_c, Spec, spec_c}
 use Rattle.format.specs.Plan.{rows_of, instances_c, from_row, source_c, from_column, from_code, value_c, ElementPlan, element_plan_c, segment_plan_c, loop_plan_c, Plan}
-use Rattle.format.specs.Layout.{Item, segment_item, loopItem, item_c, Layout, layout_c}
+use Rattle.format.specs.Layout.{Item, segment_item, loop_item, item_c, Layout, layout_c}
 use Rattle.format.specs.Envelope.{Envelope, envelope_c}
 use Rattle.format.specs.Data.{int64, decimal, binary, values_c, Column, column_c, TableData, table_data_c, Data}
 use Rattle.format.specs.Job.{Job}
@@ -59,7 +59,7 @@ plan =
     ∷ []
 
 abbrev layout : Layout
-layout = record { order = (segment_item 0 ∷ loopItem 1 ∷ []) ∷ (segment_item 0 ∷ []) ∷ []; forced = (true ∷ []) ∷ (false ∷ []) ∷ []; group_columns = [] ∷ [] ∷ []; depth = none ∷ none ∷ []; capacity = 1 ∷ 1 ∷ [] }
+layout = record { order = (segment_item 0 ∷ loop_item 1 ∷ []) ∷ (segment_item 0 ∷ []) ∷ []; forced = (true ∷ []) ∷ (false ∷ []) ∷ []; group_columns = [] ∷ [] ∷ []; depth = none ∷ none ∷ []; capacity = 1 ∷ 1 ∷ [] }
 
 abbrev envelope : Envelope
 envelope = record {
@@ -217,9 +217,9 @@ pub refuses_4 : (refusal_in (with_loop (loop_of (some 2) SVC none none []))
     ∷ refusal_in (with_loops spec.loops [])
     ∷ refusal_in (with_loops spec.loops (0 ∷ 0 ∷ []))
     ∷ refusal_in (with_loops spec.loops (0 ∷ 1 ∷ []))
-    ∷ refusal_in (with_order ([] ∷ (loopItem 0 ∷ []) ∷ []) 1)
-    ∷ refusal_in (with_order ((loopItem 1 ∷ loopItem 1 ∷ []) ∷ []) 1)
-    ∷ refusal_in (with_order ([] ∷ [] ∷ (loopItem 1 ∷ []) ∷ []) 1)
+    ∷ refusal_in (with_order ([] ∷ (loop_item 0 ∷ []) ∷ []) 1)
+    ∷ refusal_in (with_order ((loop_item 1 ∷ loop_item 1 ∷ []) ∷ []) 1)
+    ∷ refusal_in (with_order ([] ∷ [] ∷ (loop_item 1 ∷ []) ∷ []) 1)
     ∷ []) ≡ 4 ∷ 4 ∷ 4 ∷ 4 ∷ 4 ∷ 4 ∷ 4 ∷ 4 ∷ 4 ∷ 4 ∷ 4 ∷ 4 ∷ 4 ∷ 4 ∷ 4 ∷ []
 unfolding refusal_in over over_spec over_data any any_of if_some large over_control over_loop over_component over_element over_segment over_step over_table over_version over_element_plan over_segment_plan over_loop_plan over_table_data rows_of_all tangled tangled_loops outside_loop outside_table outside_order outside loops_in disagrees not_parent not_child ringed misrooted misordered up any_from present times_in member_of repeats times unfit unfit_spec unfit_envelope unfit_table_data unfit_reference unfit_column scale unfit_version unfit_segment unfit_element unfit_component unfit_loop foreign unnamed identifier separators textual digit upper all_of
 refuses_4 = refl
@@ -248,7 +248,7 @@ refuses_5 = refl
 pub passes : (refusal_in (with_separators 42 58 10 (some 200) (127 ∷ []))
     ∷ refusal_in (with_segment CLP 255 (element_of (some 255) ((255, component_of (some 255) []) ∷ []) []))
     ∷ refusal_in (with_table (table_of (1 ∷ 1 ∷ []) 255 32))
-    ∷ refusal_in (with_order ((loopItem 1 ∷ []) ∷ [] ∷ (segment_item 7 ∷ []) ∷ []) 255)
+    ∷ refusal_in (with_order ((loop_item 1 ∷ []) ∷ [] ∷ (segment_item 7 ∷ []) ∷ []) 255)
     ∷ refusal_in (with_loop (loop_of (some 0) HC (some (53 ∷ 65 ∷ 48 ∷ [])) none []))
     ∷ refusal_in (with_data (record { rows = 4096; row = scaled 38; segment = none; refs = []; columns = [] }))
     ∷ []) ≡ 0 ∷ 0 ∷ 0 ∷ 0 ∷ 0 ∷ 0 ∷ []

@@ -6,9 +6,9 @@ use Rattle.codec.specs.Forms.{num_c, byte_c, long_c, wide_c, bytes_c, opt_c, fla
 use Rattle.codec.specs.Maps.{num_map_c, bytes_map_c}
 use Rattle.codec.specs.Skip.{skip, Is}
 use Rattle.codec.specs.Field.{is_map, is_pair, is_enum, is_first, is_later}
-use Rattle.format.specs.Spec.{Control, control_c, Loop, loop_c, ComponentDef, component_c, ElementDef, element_c, Repeat, repeat_c, Table, table_c, Version, version_c, Spec, spec_c, Usage, required, situational, usage_c, Counted, count_segments, countChildren, counted_c, Kind, kind_an, kindId, kind_n, kindR, kind_dt, kindTm, kind_c, segment_c}
-use Rattle.format.specs.Plan.{ElementPlan, element_plan_c, SegmentPlan, segment_plan_c, LoopPlan, loop_plan_c, Instances, absent, enveloped, rows_of, inside, groups_of, implied, instances_c, Source, from_envelope, from_row, fromRepeat, source_c, Value, from_column, fromGroup, from_code, value_c}
-use Rattle.format.specs.Layout.{Layout, layout_c, Item, segment_item, loopItem, item_c}
+use Rattle.format.specs.Spec.{Control, control_c, Loop, loop_c, ComponentDef, component_c, ElementDef, element_c, Repeat, repeat_c, Table, table_c, Version, version_c, Spec, spec_c, Usage, required, situational, usage_c, Counted, count_segments, count_children, counted_c, Kind, kind_an, kind_id, kind_n, kind_r, kind_dt, kind_tm, kind_c, segment_c}
+use Rattle.format.specs.Plan.{ElementPlan, element_plan_c, SegmentPlan, segment_plan_c, LoopPlan, loop_plan_c, Instances, absent, enveloped, rows_of, inside, groups_of, implied, instances_c, Source, from_envelope, from_row, from_repeat, source_c, Value, from_column, from_group, from_code, value_c}
+use Rattle.format.specs.Layout.{Layout, layout_c, Item, segment_item, loop_item, item_c}
 use Rattle.format.specs.Envelope.{Envelope, envelope_c}
 use Rattle.format.specs.Data.{Column, column_c, TableData, table_data_c, Values, binary, int64, decimal, date32, time32, values_c}
 
@@ -430,38 +430,38 @@ usage_tag b e at situational h = sym (is_enum _ b e at _ (is_map _ _ _ _ _ b e a
 -- the byte of the case
 abbrev pub counted_case : Counted → ℕ
 counted_case count_segments = 0
-counted_case countChildren = 1
+counted_case count_children = 1
 
 pub counted_tag : (b : List ℕ) (e at : ℕ) (v : Counted) → Is counted_c b e at v → get_or b at 0 ≡ counted_case v
 unfolding counted_c ◌⊕◌
 counted_tag b e at count_segments h = sym (is_enum _ b e at _ (is_map _ _ _ _ _ b e at count_segments h)).tag
-counted_tag b e at countChildren h = sym (is_enum _ b e at _ (is_map _ _ _ _ _ b e at countChildren h)).tag
+counted_tag b e at count_children h = sym (is_enum _ b e at _ (is_map _ _ _ _ _ b e at count_children h)).tag
 
 -- the byte of the case
 abbrev pub kind_case : Kind → ℕ
 kind_case kind_an = 0
-kind_case kindId = 1
+kind_case kind_id = 1
 kind_case (kind_n x) = 2
-kind_case (kindR x) = 3
+kind_case (kind_r x) = 3
 kind_case kind_dt = 4
-kind_case kindTm = 5
+kind_case kind_tm = 5
 
 pub kind_tag : (b : List ℕ) (e at : ℕ) (v : Kind) → Is kind_c b e at v → get_or b at 0 ≡ kind_case v
 unfolding kind_c ◌⊕◌
 kind_tag b e at kind_an h = sym (is_enum _ b e at _ (is_map _ _ _ _ _ b e at kind_an h)).tag
-kind_tag b e at kindId h = sym (is_enum _ b e at _ (is_map _ _ _ _ _ b e at kindId h)).tag
+kind_tag b e at kind_id h = sym (is_enum _ b e at _ (is_map _ _ _ _ _ b e at kind_id h)).tag
 kind_tag b e at (kind_n x) h = sym (is_enum _ b e at _ (is_map _ _ _ _ _ b e at (kind_n x) h)).tag
-kind_tag b e at (kindR x) h = sym (is_enum _ b e at _ (is_map _ _ _ _ _ b e at (kindR x) h)).tag
+kind_tag b e at (kind_r x) h = sym (is_enum _ b e at _ (is_map _ _ _ _ _ b e at (kind_r x) h)).tag
 kind_tag b e at kind_dt h = sym (is_enum _ b e at _ (is_map _ _ _ _ _ b e at kind_dt h)).tag
-kind_tag b e at kindTm h = sym (is_enum _ b e at _ (is_map _ _ _ _ _ b e at kindTm h)).tag
+kind_tag b e at kind_tm h = sym (is_enum _ b e at _ (is_map _ _ _ _ _ b e at kind_tm h)).tag
 
 pub is_kind_n : (b : List ℕ) (e at : ℕ) (x : ℕ) → Is kind_c b e at (kind_n x) → Is byte_c b e (at + 1) x
 unfolding kind_c
 is_kind_n b e at x h = is_first _ _ b e (at + 1) _ _ (is_later _ _ b e (at + 1) _ _ (is_later _ _ b e (at + 1) _ _ (is_enum _ b e at _ (is_map _ _ _ _ _ b e at (kind_n x) h)).fields).1).1
 
-pub is_kind_r : (b : List ℕ) (e at : ℕ) (x : ℕ) → Is kind_c b e at (kindR x) → Is byte_c b e (at + 1) x
+pub is_kind_r : (b : List ℕ) (e at : ℕ) (x : ℕ) → Is kind_c b e at (kind_r x) → Is byte_c b e (at + 1) x
 unfolding kind_c
-is_kind_r b e at x h = is_first _ _ b e (at + 1) _ _ (is_later _ _ b e (at + 1) _ _ (is_later _ _ b e (at + 1) _ _ (is_later _ _ b e (at + 1) _ _ (is_enum _ b e at _ (is_map _ _ _ _ _ b e at (kindR x) h)).fields).1).1).1
+is_kind_r b e at x h = is_first _ _ b e (at + 1) _ _ (is_later _ _ b e (at + 1) _ _ (is_later _ _ b e (at + 1) _ _ (is_later _ _ b e (at + 1) _ _ (is_enum _ b e at _ (is_map _ _ _ _ _ b e at (kind_r x) h)).fields).1).1).1
 
 -- the byte of the case
 abbrev pub instances_case : Instances → ℕ
@@ -497,41 +497,41 @@ is_groups_of b e at x h = is_first _ _ b e (at + 1) _ _ (is_later _ _ b e (at + 
 abbrev pub source_case : Source → ℕ
 source_case from_envelope = 0
 source_case (from_row x) = 1
-source_case (fromRepeat x) = 2
+source_case (from_repeat x) = 2
 
 pub source_tag : (b : List ℕ) (e at : ℕ) (v : Source) → Is source_c b e at v → get_or b at 0 ≡ source_case v
 unfolding source_c ◌⊕◌
 source_tag b e at from_envelope h = sym (is_enum _ b e at _ (is_map _ _ _ _ _ b e at from_envelope h)).tag
 source_tag b e at (from_row x) h = sym (is_enum _ b e at _ (is_map _ _ _ _ _ b e at (from_row x) h)).tag
-source_tag b e at (fromRepeat x) h = sym (is_enum _ b e at _ (is_map _ _ _ _ _ b e at (fromRepeat x) h)).tag
+source_tag b e at (from_repeat x) h = sym (is_enum _ b e at _ (is_map _ _ _ _ _ b e at (from_repeat x) h)).tag
 
 pub is_from_row : (b : List ℕ) (e at : ℕ) (x : ℕ) → Is source_c b e at (from_row x) → Is num_c b e (at + 1) x
 unfolding source_c
 is_from_row b e at x h = is_first _ _ b e (at + 1) _ _ (is_later _ _ b e (at + 1) _ _ (is_enum _ b e at _ (is_map _ _ _ _ _ b e at (from_row x) h)).fields).1
 
-pub is_from_repeat : (b : List ℕ) (e at : ℕ) (x : ℕ) → Is source_c b e at (fromRepeat x) → Is num_c b e (at + 1) x
+pub is_from_repeat : (b : List ℕ) (e at : ℕ) (x : ℕ) → Is source_c b e at (from_repeat x) → Is num_c b e (at + 1) x
 unfolding source_c
-is_from_repeat b e at x h = is_first _ _ b e (at + 1) _ _ (is_later _ _ b e (at + 1) _ _ (is_later _ _ b e (at + 1) _ _ (is_enum _ b e at _ (is_map _ _ _ _ _ b e at (fromRepeat x) h)).fields).1).1
+is_from_repeat b e at x h = is_first _ _ b e (at + 1) _ _ (is_later _ _ b e (at + 1) _ _ (is_later _ _ b e (at + 1) _ _ (is_enum _ b e at _ (is_map _ _ _ _ _ b e at (from_repeat x) h)).fields).1).1
 
 -- the byte of the case
 abbrev pub value_case : Value → ℕ
 value_case (from_column x) = 0
-value_case (fromGroup x) = 1
+value_case (from_group x) = 1
 value_case (from_code x) = 2
 
 pub value_tag : (b : List ℕ) (e at : ℕ) (v : Value) → Is value_c b e at v → get_or b at 0 ≡ value_case v
 unfolding value_c ◌⊕◌
 value_tag b e at (from_column x) h = sym (is_enum _ b e at _ (is_map _ _ _ _ _ b e at (from_column x) h)).tag
-value_tag b e at (fromGroup x) h = sym (is_enum _ b e at _ (is_map _ _ _ _ _ b e at (fromGroup x) h)).tag
+value_tag b e at (from_group x) h = sym (is_enum _ b e at _ (is_map _ _ _ _ _ b e at (from_group x) h)).tag
 value_tag b e at (from_code x) h = sym (is_enum _ b e at _ (is_map _ _ _ _ _ b e at (from_code x) h)).tag
 
 pub is_from_column : (b : List ℕ) (e at : ℕ) (x : ℕ) → Is value_c b e at (from_column x) → Is num_c b e (at + 1) x
 unfolding value_c
 is_from_column b e at x h = is_first _ _ b e (at + 1) _ _ (is_enum _ b e at _ (is_map _ _ _ _ _ b e at (from_column x) h)).fields
 
-pub is_from_group : (b : List ℕ) (e at : ℕ) (x : ℕ) → Is value_c b e at (fromGroup x) → Is num_c b e (at + 1) x
+pub is_from_group : (b : List ℕ) (e at : ℕ) (x : ℕ) → Is value_c b e at (from_group x) → Is num_c b e (at + 1) x
 unfolding value_c
-is_from_group b e at x h = is_first _ _ b e (at + 1) _ _ (is_later _ _ b e (at + 1) _ _ (is_enum _ b e at _ (is_map _ _ _ _ _ b e at (fromGroup x) h)).fields).1
+is_from_group b e at x h = is_first _ _ b e (at + 1) _ _ (is_later _ _ b e (at + 1) _ _ (is_enum _ b e at _ (is_map _ _ _ _ _ b e at (from_group x) h)).fields).1
 
 pub is_from_code : (b : List ℕ) (e at : ℕ) (x : List ℕ) → Is value_c b e at (from_code x) → Is bytes_c b e (at + 1) x
 unfolding value_c
@@ -540,20 +540,20 @@ is_from_code b e at x h = is_first _ _ b e (at + 1) _ _ (is_later _ _ b e (at + 
 -- the byte of the case
 abbrev pub item_case : Item → ℕ
 item_case (segment_item x) = 0
-item_case (loopItem x) = 1
+item_case (loop_item x) = 1
 
 pub item_tag : (b : List ℕ) (e at : ℕ) (v : Item) → Is item_c b e at v → get_or b at 0 ≡ item_case v
 unfolding item_c ◌⊕◌
 item_tag b e at (segment_item x) h = sym (is_enum _ b e at _ (is_map _ _ _ _ _ b e at (segment_item x) h)).tag
-item_tag b e at (loopItem x) h = sym (is_enum _ b e at _ (is_map _ _ _ _ _ b e at (loopItem x) h)).tag
+item_tag b e at (loop_item x) h = sym (is_enum _ b e at _ (is_map _ _ _ _ _ b e at (loop_item x) h)).tag
 
 pub is_segment_item : (b : List ℕ) (e at : ℕ) (x : ℕ) → Is item_c b e at (segment_item x) → Is num_c b e (at + 1) x
 unfolding item_c
 is_segment_item b e at x h = is_first _ _ b e (at + 1) _ _ (is_enum _ b e at _ (is_map _ _ _ _ _ b e at (segment_item x) h)).fields
 
-pub is_loop_item : (b : List ℕ) (e at : ℕ) (x : ℕ) → Is item_c b e at (loopItem x) → Is num_c b e (at + 1) x
+pub is_loop_item : (b : List ℕ) (e at : ℕ) (x : ℕ) → Is item_c b e at (loop_item x) → Is num_c b e (at + 1) x
 unfolding item_c
-is_loop_item b e at x h = is_first _ _ b e (at + 1) _ _ (is_later _ _ b e (at + 1) _ _ (is_enum _ b e at _ (is_map _ _ _ _ _ b e at (loopItem x) h)).fields).1
+is_loop_item b e at x h = is_first _ _ b e (at + 1) _ _ (is_later _ _ b e (at + 1) _ _ (is_enum _ b e at _ (is_map _ _ _ _ _ b e at (loop_item x) h)).fields).1
 
 -- the byte of the case
 abbrev pub values_case : Values → ℕ

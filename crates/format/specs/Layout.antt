@@ -7,23 +7,23 @@ use Rattle.codec.specs.Forms.{num_c, opt_c, flag_c}
 
 -- one item of an order: a planned Segment of the loop, or a child Loop
 pub data Item : Type 0 where
-  segment_item loopItem : ℕ → Item
+  segment_item loop_item : ℕ → Item
 
 abbrev pub RawItem : Type 0
 RawItem = ℕ ⊎ (ℕ ⊎ ⊥)
 
 abbrev pub to_item : RawItem → Item
 to_item (inl x) = segment_item x
-to_item (inr (inl x)) = loopItem x
+to_item (inr (inl x)) = loop_item x
 to_item (inr (inr z)) = absurd z
 
 abbrev pub of_item : Item → RawItem
 of_item (segment_item x) = inl x
-of_item (loopItem x) = inr (inl x)
+of_item (loop_item x) = inr (inl x)
 
 pub item_to_of : (v : Item) → to_item (of_item v) ≡ v
 item_to_of (segment_item x) = refl
-item_to_of (loopItem x) = refl
+item_to_of (loop_item x) = refl
 
 pub item_of_to : (v : RawItem) → of_item (to_item v) ≡ v
 item_of_to (inl x) = refl

@@ -54,7 +54,7 @@ instances_c = map_c to_instances of_instances instances_to_of instances_of_to (e
 -- what fills a segment: Envelope, a Row or Repeat rows of a table
 pub data Source : Type 0 where
   from_envelope : Source
-  from_row fromRepeat : ℕ → Source
+  from_row from_repeat : ℕ → Source
 
 abbrev pub RawSource : Type 0
 RawSource = Unit {0} ⊎ (ℕ ⊎ (ℕ ⊎ ⊥))
@@ -62,18 +62,18 @@ RawSource = Unit {0} ⊎ (ℕ ⊎ (ℕ ⊎ ⊥))
 abbrev pub to_source : RawSource → Source
 to_source (inl x) = from_envelope
 to_source (inr (inl x)) = from_row x
-to_source (inr (inr (inl x))) = fromRepeat x
+to_source (inr (inr (inl x))) = from_repeat x
 to_source (inr (inr (inr z))) = absurd z
 
 abbrev pub of_source : Source → RawSource
 of_source from_envelope = inl tt
 of_source (from_row x) = inr (inl x)
-of_source (fromRepeat x) = inr (inr (inl x))
+of_source (from_repeat x) = inr (inr (inl x))
 
 pub source_to_of : (v : Source) → to_source (of_source v) ≡ v
 source_to_of from_envelope = refl
 source_to_of (from_row x) = refl
-source_to_of (fromRepeat x) = refl
+source_to_of (from_repeat x) = refl
 
 pub source_of_to : (v : RawSource) → of_source (to_source v) ≡ v
 source_of_to (inl x) = refl
@@ -86,7 +86,7 @@ source_c = map_c to_source of_source source_to_of source_of_to (enum_c (unit_c �
 
 -- what gives the text of a place: a Column, a Group column, a Code
 pub data Value : Type 0 where
-  from_column fromGroup : ℕ → Value
+  from_column from_group : ℕ → Value
   from_code : List ℕ → Value
 
 abbrev pub RawValue : Type 0
@@ -94,18 +94,18 @@ RawValue = ℕ ⊎ (ℕ ⊎ (List ℕ ⊎ ⊥))
 
 abbrev pub to_value : RawValue → Value
 to_value (inl x) = from_column x
-to_value (inr (inl x)) = fromGroup x
+to_value (inr (inl x)) = from_group x
 to_value (inr (inr (inl x))) = from_code x
 to_value (inr (inr (inr z))) = absurd z
 
 abbrev pub of_value : Value → RawValue
 of_value (from_column x) = inl x
-of_value (fromGroup x) = inr (inl x)
+of_value (from_group x) = inr (inl x)
 of_value (from_code x) = inr (inr (inl x))
 
 pub value_to_of : (v : Value) → to_value (of_value v) ≡ v
 value_to_of (from_column x) = refl
-value_to_of (fromGroup x) = refl
+value_to_of (from_group x) = refl
 value_to_of (from_code x) = refl
 
 pub value_of_to : (v : RawValue) → of_value (to_value v) ≡ v

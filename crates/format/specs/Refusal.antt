@@ -6,7 +6,7 @@ use Rattle.codec.specs.Limits.{any, any_of}
 use Rattle.format.specs.Words.{any_from, all_of, if_some, present, times_in, member_of, repeats, times, between}
 use Rattle.format.specs.Spec.{Control, Loop, no_loop, ComponentDef, ElementDef, SegmentDef, Repeat, Table, Version, Spec}
 use Rattle.format.specs.Plan.{ElementPlan, SegmentPlan, LoopPlan}
-use Rattle.format.specs.Layout.{Item, segment_item, loopItem}
+use Rattle.format.specs.Layout.{Item, segment_item, loop_item}
 use Rattle.format.specs.Envelope.{Envelope}
 use Rattle.format.specs.Data.{Values, binary, int64, decimal, date32, time32, Column, TableData}
 use Rattle.format.specs.Job.{Job}
@@ -85,7 +85,7 @@ loop_at ls i = get_or ls i no_loop
 unfoldable pub loops_in : List Item → List ℕ
 loops_in [] = []
 loops_in (segment_item k ∷ is) = loops_in is
-loops_in (loopItem l ∷ is) = l ∷ loops_in is
+loops_in (loop_item l ∷ is) = l ∷ loops_in is
 
 -- a number that is no loop's, of n loops
 unfoldable pub outside : ℕ → ℕ → Bool

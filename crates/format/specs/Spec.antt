@@ -36,23 +36,23 @@ usage_c = map_c to_usage of_usage usage_to_of usage_of_to (enum_c (units_c 2))
 
 -- what a closer's count counts: segments, or child loops
 pub data Counted : Type 0 where
-  count_segments countChildren : Counted
+  count_segments count_children : Counted
 
 abbrev pub RawCounted : Type 0
 RawCounted = Unit {0} ⊎ (Unit {0} ⊎ ⊥)
 
 abbrev pub to_counted : RawCounted → Counted
 to_counted (inl x) = count_segments
-to_counted (inr (inl x)) = countChildren
+to_counted (inr (inl x)) = count_children
 to_counted (inr (inr z)) = absurd z
 
 abbrev pub of_counted : Counted → RawCounted
 of_counted count_segments = inl tt
-of_counted countChildren = inr (inl tt)
+of_counted count_children = inr (inl tt)
 
 pub counted_to_of : (v : Counted) → to_counted (of_counted v) ≡ v
 counted_to_of count_segments = refl
-counted_to_of countChildren = refl
+counted_to_of count_children = refl
 
 pub counted_of_to : (v : RawCounted) → of_counted (to_counted v) ≡ v
 counted_of_to (inl x) = refl
@@ -92,37 +92,37 @@ loop_c = map_c
 
 -- a data type of X12: AN, ID, N and R with their decimals, DT, TM
 pub data Kind : Type 0 where
-  kind_an kindId : Kind
-  kind_n kindR : ℕ → Kind
-  kind_dt kindTm : Kind
+  kind_an kind_id : Kind
+  kind_n kind_r : ℕ → Kind
+  kind_dt kind_tm : Kind
 
 abbrev pub RawKind : Type 0
 RawKind = Unit {0} ⊎ (Unit {0} ⊎ (ℕ ⊎ (ℕ ⊎ (Unit {0} ⊎ (Unit {0} ⊎ ⊥)))))
 
 abbrev pub to_kind : RawKind → Kind
 to_kind (inl x) = kind_an
-to_kind (inr (inl x)) = kindId
+to_kind (inr (inl x)) = kind_id
 to_kind (inr (inr (inl x))) = kind_n x
-to_kind (inr (inr (inr (inl x)))) = kindR x
+to_kind (inr (inr (inr (inl x)))) = kind_r x
 to_kind (inr (inr (inr (inr (inl x))))) = kind_dt
-to_kind (inr (inr (inr (inr (inr (inl x)))))) = kindTm
+to_kind (inr (inr (inr (inr (inr (inl x)))))) = kind_tm
 to_kind (inr (inr (inr (inr (inr (inr z)))))) = absurd z
 
 abbrev pub of_kind : Kind → RawKind
 of_kind kind_an = inl tt
-of_kind kindId = inr (inl tt)
+of_kind kind_id = inr (inl tt)
 of_kind (kind_n x) = inr (inr (inl x))
-of_kind (kindR x) = inr (inr (inr (inl x)))
+of_kind (kind_r x) = inr (inr (inr (inl x)))
 of_kind kind_dt = inr (inr (inr (inr (inl tt))))
-of_kind kindTm = inr (inr (inr (inr (inr (inl tt)))))
+of_kind kind_tm = inr (inr (inr (inr (inr (inl tt)))))
 
 pub kind_to_of : (v : Kind) → to_kind (of_kind v) ≡ v
 kind_to_of kind_an = refl
-kind_to_of kindId = refl
+kind_to_of kind_id = refl
 kind_to_of (kind_n x) = refl
-kind_to_of (kindR x) = refl
+kind_to_of (kind_r x) = refl
 kind_to_of kind_dt = refl
-kind_to_of kindTm = refl
+kind_to_of kind_tm = refl
 
 pub kind_of_to : (v : RawKind) → of_kind (to_kind v) ≡ v
 kind_of_to (inl x) = refl

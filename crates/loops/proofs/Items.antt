@@ -12,7 +12,7 @@ use Rattle.codec.specs.Skip.{skip, count_at, tag_at, Is, skip_le}
 use Rattle.codec.specs.Field.{is_in}
 use Rattle.codec.specs.Ways.{tag_in, tag_case}
 use Rattle.format.specs.Words.{member_of, repeats}
-use Rattle.format.specs.Layout.{Item, segment_item, loopItem, item_c}
+use Rattle.format.specs.Layout.{Item, segment_item, loop_item, item_c}
 use Rattle.format.specs.Fields.{item_tag, is_loop_item}
 use Rattle.format.specs.Refusal.{loops_in}
 use Rattle.says.specs.Says.{SaysRest, SaysBefore}
@@ -27,7 +27,7 @@ module _ (b : List ℕ) (e at t : ℕ) (h : t ≡ tag_at b at e) where
   name_there p x i q j (segment_item v) k =
       let l : at < e = tag_case b at e 1 (sym h ∙ i) (omega arith) in
       absurd (omega (arith, item_tag b e at (segment_item v) k, tag_in b at e l))
-  name_there p x i q j (loopItem v) k =
+  name_there p x i q j (loop_item v) k =
       let l : at < e = tag_case b at e 1 (sym h ∙ i) (omega arith) in
       let z : x ≡ v = number_is b e x p (at + 1) v j (q ∙ skip_le 1 b at e (omega arith)) (is_loop_item b e at v k) in
       rw z
@@ -35,14 +35,14 @@ module _ (b : List ℕ) (e at t : ℕ) (h : t ≡ tag_at b at e) where
   pub name_not : (t ≡ 1 → ⊥) → (y : Item) → Is item_c b e at y → [] ≡ loops_in (y ∷ [])
   unfolding loops_in
   name_not i (segment_item v) k = refl
-  name_not i (loopItem v) k =
+  name_not i (loop_item v) k =
       let l : at + 1 ≤ e = is_in num_c b e (at + 1) v (is_loop_item b e at v k) in
-      absurd (i (h ∙ tag_in b at e (omega arith) ∙ item_tag b e at (loopItem v) k))
+      absurd (i (h ∙ tag_in b at e (omega arith) ∙ item_tag b e at (loop_item v) k))
 
 pub loops_first : (y : Item) (ys : List Item) → loops_in (y ∷ ys) ≡ loops_in (y ∷ []) ++ loops_in ys
 unfolding loops_in
 loops_first (segment_item k) ys = refl
-loops_first (loopItem l) ys = refl
+loops_first (loop_item l) ys = refl
 
 pub loops_none : loops_in [] ≡ []
 unfolding loops_in
@@ -52,14 +52,14 @@ pub few_loops : (o : List Item) → length o < 2 → repeats (loops_in o) ≡ fa
 unfolding repeats member_of loops_in
 few_loops [] h = refl
 few_loops (segment_item k ∷ []) h = refl
-few_loops (loopItem l ∷ []) h = refl
+few_loops (loop_item l ∷ []) h = refl
 few_loops (x ∷ y ∷ o) h = absurd (omega arith)
 
 -- ---- searched for one that repeats
 pub member_in_step : (x : ℕ) (y : Item) (ys : List Item) → member_in x (y ∷ ys) ≡ pick (on_loop (eqb x) y) true (member_in x ys)
 unfolding member_of loops_in
 member_in_step x (segment_item k) ys = refl
-member_in_step x (loopItem l) ys = refl
+member_in_step x (loop_item l) ys = refl
 
 pub member_in_nil : (x : ℕ) → member_in x [] ≡ false
 unfolding member_of loops_in
@@ -68,7 +68,7 @@ member_in_nil x = refl
 pub repeat_in_step : (y : Item) (ys : List Item) → repeats_in (y ∷ ys) ≡ pick (again_in ys y) true (repeats_in ys)
 unfolding repeats loops_in
 repeat_in_step (segment_item k) ys = refl
-repeat_in_step (loopItem l) ys = refl
+repeat_in_step (loop_item l) ys = refl
 
 pub repeat_in_nil : repeats_in [] ≡ false
 unfolding repeats loops_in

@@ -9,7 +9,7 @@ use native.Mathlib.Nat.{add-zero, zero-mul}
 use lib.ListN.{length}
 use lib.Dec.{eqb}
 use borrow.Author.Tests.{ne_eqb}
-use Rattle.format.specs.Plan.{Source, fromRepeat, Value, from_column, fromGroup, from_code, ElementPlan}
+use Rattle.format.specs.Plan.{Source, from_repeat, Value, from_column, from_group, from_code, ElementPlan}
 use Rattle.format.specs.Job.{Job}
 use Rattle.format.specs.Ask.{step_of, capacity_of}
 use Rattle.segment.specs.Parts.{Part, sorted}
@@ -27,13 +27,13 @@ use Rattle.lossless.proofs.Fine.{NotAt, SameKind, Starts, own_text, own_sorted, 
 
 -- a part stands where an element is planned for row number k of a full chunk
 pub record StandsIn (j : Job) (t : ℕ) (e : ElementPlan) (k : ℕ) (y : Part) : Type 0 where
-  pub element : y.element ≡ element_of j (fromRepeat t) e k
+  pub element : y.element ≡ element_of j (from_repeat t) e k
   pub component : y.component ≡ e.component
-  pub within : k < reach j (fromRepeat t) e.value
+  pub within : k < reach j (from_repeat t) e.value
 
 -- the places of a and b in different rows differ
 abbrev Crosswise : Job → ℕ → ElementPlan → ElementPlan → Type 0
-Crosswise j t a b = (k n : ℕ) → k < n → k < reach j (fromRepeat t) a.value → n < reach j (fromRepeat t) b.value → element_of j (fromRepeat t) a k ≡ element_of j (fromRepeat t) b n → a.component ≢ b.component
+Crosswise j t a b = (k n : ℕ) → k < n → k < reach j (from_repeat t) a.value → n < reach j (from_repeat t) b.value → element_of j (from_repeat t) a k ≡ element_of j (from_repeat t) b n → a.component ≢ b.component
 
 pairs_append : {A : Type 0} (R : A → A → Type 0) (xs ys : List A) → Pairs R xs → Pairs R ys → All (λ x. All (R x) ys) xs → Pairs R (xs ++ ys)
 pairs_append R [] ys h k c = k
@@ -47,19 +47,19 @@ two_of R (x ∷ xs) h a b (inl e) (inr k) = inr (inl (rw e (all_in (R x) xs h.0 
 two_of R (x ∷ xs) h a b (inr i) (inl q) = inr (inr (rw q (all_in (R x) xs h.0 a i)))
 two_of R (x ∷ xs) h a b (inr i) (inr k) = two_of R xs h.1 a b i k
 
-crosswise : (j : Job) (t : ℕ) (es : List ElementPlan) → Pairs (PlacesApart j (fromRepeat t)) es → All (OwnApart j (fromRepeat t)) es → Each2 (Crosswise j t) es
-crosswise j t es h own = in_all _ es (λ a i. in_all _ es (λ b m. go a b i (two_of (PlacesApart j (fromRepeat t)) es h a b i m)))
+crosswise : (j : Job) (t : ℕ) (es : List ElementPlan) → Pairs (PlacesApart j (from_repeat t)) es → All (OwnApart j (from_repeat t)) es → Each2 (Crosswise j t) es
+crosswise j t es h own = in_all _ es (λ a i. in_all _ es (λ b m. go a b i (two_of (PlacesApart j (from_repeat t)) es h a b i m)))
   where
-    go : (a b : ElementPlan) → In a es → (a ≡ b) ⊎ (PlacesApart j (fromRepeat t) a b ⊎ PlacesApart j (fromRepeat t) b a) → Crosswise j t a b
+    go : (a b : ElementPlan) → In a es → (a ≡ b) ⊎ (PlacesApart j (from_repeat t) a b ⊎ PlacesApart j (from_repeat t) b a) → Crosswise j t a b
     go a b i (inl e) k n l p q z c =
-        let o = all_in (OwnApart j (fromRepeat t)) es own a i k n p (rw e q) (z ∙ rw e) in
+        let o = all_in (OwnApart j (from_repeat t)) es own a i k n p (rw e q) (z ∙ rw e) in
         omega (arith, l, o)
     go a b i (inr (inl f)) k n l p q z c = f k n p q z c
     go a b i (inr (inr f)) k n l p q z c = f n k q p (sym z) (sym c)
 
 module _ (j : Job) (id : List ℕ) (t : ℕ) where
   abbrev S : Source
-  S = fromRepeat t
+  S = from_repeat t
 
   abbrev room : ℕ
   room = max 1 (capacity_of j t)
@@ -85,7 +85,7 @@ module _ (j : Job) (id : List ℕ) (t : ℕ) where
 
       go : (v : Value) → e.value ≡ v → Q (chunk_value j id t (step_of j t) 0 r e v).parts
       go (from_column c) q = moved (text_of_cell j id e.element e.component t c r) (rw q (omega arith))
-      go (fromGroup c) q = one (text_of_cell j id (e.element + 0 * step_of j t) e.component t c r) (record { element = refl; component = refl; within = rw q (omega arith) })
+      go (from_group c) q = one (text_of_cell j id (e.element + 0 * step_of j t) e.component t c r) (record { element = refl; component = refl; within = rw q (omega arith) })
       go (from_code code) q = moved code (rw q (omega arith))
   value_so Q (suc k) r h e nil one = go e.value refl
     where
@@ -94,7 +94,7 @@ module _ (j : Job) (id : List ℕ) (t : ℕ) where
 
       go : (v : Value) → e.value ≡ v → Q (chunk_value j id t (step_of j t) (suc k) r e v).parts
       go (from_column c) q = rw later nil
-      go (fromGroup c) q = one (text_of_cell j id (e.element + suc k * step_of j t) e.component t c r) (record { element = refl; component = refl; within = rw q h })
+      go (from_group c) q = one (text_of_cell j id (e.element + suc k * step_of j t) e.component t c r) (record { element = refl; component = refl; within = rw q h })
       go (from_code code) q = rw later nil
 
   -- ---- what is so of every part at a planned place is so of the chunk's
@@ -153,7 +153,7 @@ module _ (j : Job) (id : List ℕ) (t : ℕ) where
   unfolding put_cell
   value_clear zero r e (from_column c) k h = (held_not j _ (none_all (holds_separator j) (chunk_cell j id t (step_of j t) 0 r e (from_column c)) h).0, tt)
   value_clear (suc n) r e (from_column c) k h = rw (ne_eqb (suc n) 0 (λ e. omega arith)) tt
-  value_clear n r e (fromGroup c) k h = (held_not j _ (none_all (holds_separator j) (chunk_cell j id t (step_of j t) n r e (fromGroup c)) h).0, tt)
+  value_clear n r e (from_group c) k h = (held_not j _ (none_all (holds_separator j) (chunk_cell j id t (step_of j t) n r e (from_group c)) h).0, tt)
   value_clear zero r e (from_code code) k h = (k, tt)
   value_clear (suc n) r e (from_code code) k h = rw (ne_eqb (suc n) 0 (λ e. omega arith)) tt
 

@@ -15,7 +15,7 @@ use Rattle.codec.specs.Limits.{any_of, none_of, none_in}
 use Rattle.format.specs.Words.{any_from, if_some, present, times_in, member_of, repeats, none_from}
 use Rattle.format.specs.Words as W
 use Rattle.format.specs.Spec.{Loop, no_loop, Table, no_table}
-use Rattle.format.specs.Layout.{Item, segment_item, loopItem}
+use Rattle.format.specs.Layout.{Item, segment_item, loop_item}
 use Rattle.format.specs.Job.{Job}
 use Rattle.format.specs.Ask as A
 use Rattle.format.specs.Sections.{job_of}
@@ -242,7 +242,7 @@ module _ (j : Job) (pass : tangled j ≡ false) where
   unfolding loops_in
   items_loops [] = refl
   items_loops (segment_item i ∷ xs) = items_loops xs
-  items_loops (loopItem l ∷ xs) = ap (λ (ys : List ℕ). l ∷ ys) (items_loops xs)
+  items_loops (loop_item l ∷ xs) = ap (λ (ys : List ℕ). l ∷ ys) (items_loops xs)
 
   order_loops : (l : ℕ) → item_loops (O.order_of o l) ≡ loops_in (get_or j.layout.order l [])
   unfolding A.order_of

@@ -10,7 +10,7 @@ use lib.ListN.{length, get_or}
 use borrow.Author.Tests.{ne_eqb}
 use Rattle.format.specs.Words.{member_of}
 use Rattle.format.specs.Spec.{Control, ElementDef}
-use Rattle.format.specs.Plan.{Value, from_column, fromGroup, from_code, ElementPlan}
+use Rattle.format.specs.Plan.{Value, from_column, from_group, from_code, ElementPlan}
 use Rattle.format.specs.Job.{Job}
 use Rattle.format.specs.Refusal.{separators}
 use Rattle.format.specs.Ask.{loop_of, planned_of, identifier_of, step_of, depth_of, segment_def}
@@ -92,7 +92,7 @@ module _ (j : Job) where
 
   row_value_lem : (id : List ℕ) (t r : ℕ) (p : ElementPlan) (v : Value) → found (row_value j id t r p v).findings ≡ holds (row_cell j id t r p v)
   row_value_lem id t r p (from_column c) = cell_found id p.element p.component t c r
-  row_value_lem id t r p (fromGroup c) = refl
+  row_value_lem id t r p (from_group c) = refl
   row_value_lem id t r p (from_code code) = refl
 
   row_found : (id : List ℕ) (t r : ℕ) (es : List ElementPlan) → found (row_put j id t r es).findings ≡ holds (row_cells j id t r es)
@@ -102,7 +102,7 @@ module _ (j : Job) where
   chunk_value_lem : (id : List ℕ) (t step k r : ℕ) (p : ElementPlan) (v : Value) → found (chunk_value j id t step k r p v).findings ≡ holds (chunk_cell j id t step k r p v)
   chunk_value_lem id t step zero r p (from_column c) = cell_found id p.element p.component t c r
   chunk_value_lem id t step (suc k) r p (from_column c) = rw (ne_eqb (suc k) 0 (λ e. omega arith)) refl
-  chunk_value_lem id t step k r p (fromGroup c) = cell_found id (p.element + k * step) p.component t c r
+  chunk_value_lem id t step k r p (from_group c) = cell_found id (p.element + k * step) p.component t c r
   chunk_value_lem id t step zero r p (from_code code) = refl
   chunk_value_lem id t step (suc k) r p (from_code code) = rw (ne_eqb (suc k) 0 (λ e. omega arith)) refl
 

@@ -12,7 +12,7 @@ use Rattle.codec.specs.Forms.{bytes_c}
 use Rattle.codec.specs.Field.{is_list, is_pair}
 use Rattle.codec.specs.Maps.{rises_from, is_num_map, is_bytes_map}
 use Rattle.format.specs.Spec.{Loop, no_loop, Control, SegmentDef, element_c, segment_c}
-use Rattle.format.specs.Plan.{Source, from_envelope, from_row, fromRepeat, ElementPlan, SegmentPlan, no_segment_plan, LoopPlan, no_loop_plan}
+use Rattle.format.specs.Plan.{Source, from_envelope, from_row, from_repeat, ElementPlan, SegmentPlan, no_segment_plan, LoopPlan, no_loop_plan}
 use Rattle.format.specs.Job.{Job}
 use Rattle.format.specs.Sections.{job_of, plan_start}
 use Rattle.format.specs.Decoding.{is_read}
@@ -22,7 +22,7 @@ use Rattle.format.specs.Refusal.{unfit}
 use Rattle.format.specs.Ask.{loop_of, plan_of, planned_of, identifier_of, segment_def, found, same_bytes}
 use Rattle.nest.specs.Lists.{All, on}
 use Rattle.nest.specs.Outline as O
-use Rattle.nest.specs.Outline.{of_row, ofRepeat}
+use Rattle.nest.specs.Outline.{of_row, of_repeat}
 use Rattle.nest.specs.OfJob.{outline_of, source_in}
 use Rattle.nest.proofs.Bridge.{segment_is, occurrences_is}
 use Rattle.complete.specs.Complete.{Segments, SegmentFits, Clear, CodeClear, RuleFits, IfThere, CompletePlan}
@@ -81,18 +81,18 @@ module _ (j : Job) where
   row_source : (s : Source) (t : ℕ) → source_in s ≡ of_row t → s ≡ from_row t
   row_source from_envelope t e = absurd (let z : ◌≡◌ {A = ℕ} 0 1 = cc in omega arith)
   row_source (from_row u) t e = let z : u ≡ t = cc in rw z
-  row_source (fromRepeat u) t e = absurd (let z : ◌≡◌ {A = ℕ} 0 1 = cc in omega arith)
+  row_source (from_repeat u) t e = absurd (let z : ◌≡◌ {A = ℕ} 0 1 = cc in omega arith)
 
-  repeat_source : (s : Source) (t : ℕ) → source_in s ≡ ofRepeat t → s ≡ fromRepeat t
+  repeat_source : (s : Source) (t : ℕ) → source_in s ≡ of_repeat t → s ≡ from_repeat t
   repeat_source from_envelope t e = absurd (let z : ◌≡◌ {A = ℕ} 0 1 = cc in omega arith)
   repeat_source (from_row u) t e = absurd (let z : ◌≡◌ {A = ℕ} 0 1 = cc in omega arith)
-  repeat_source (fromRepeat u) t e = let z : u ≡ t = cc in rw z
+  repeat_source (from_repeat u) t e = let z : u ≡ t = cc in rw z
 
   pub of_row_lem : (l i t : ℕ) → (O.segment_of (outline_of j) l i).source ≡ of_row t → (planned_of j l i).source ≡ from_row t
   of_row_lem l i t e = row_source (planned_of j l i).source t (sym (ap (λ (p : O.Planned). p.source) (segment_is j l i)) ∙ e)
 
-  pub of_repeat : (l i t : ℕ) → (O.segment_of (outline_of j) l i).source ≡ ofRepeat t → (planned_of j l i).source ≡ fromRepeat t
-  of_repeat l i t e = repeat_source (planned_of j l i).source t (sym (ap (λ (p : O.Planned). p.source) (segment_is j l i)) ∙ e)
+  pub of_repeat_lem : (l i t : ℕ) → (O.segment_of (outline_of j) l i).source ≡ of_repeat t → (planned_of j l i).source ≡ from_repeat t
+  of_repeat_lem l i t e = repeat_source (planned_of j l i).source t (sym (ap (λ (p : O.Planned). p.source) (segment_is j l i)) ∙ e)
 
   pub id_clear : unfit j ≡ false → (l i : ℕ) → O.has_occurrence (outline_of j) l i ≡ true → (identifier_of j l i ≢ []) × Clear j (identifier_of j l i)
   unfolding O.has_occurrence identifier_of

@@ -5,7 +5,7 @@ use mathlib.Core.Logic.{◌≢◌, inl, inr}
 use mathlib.Core.Bool.{false}
 use mathlib.Core.List.{List, [], ◌∷◌, ◌++◌}
 use native.Mathlib.Omega.{arith}
-use Rattle.format.specs.Plan.{from_row, Value, from_column, fromGroup, from_code, ElementPlan}
+use Rattle.format.specs.Plan.{from_row, Value, from_column, from_group, from_code, ElementPlan}
 use Rattle.format.specs.Job.{Job}
 use Rattle.segment.specs.Parts.{Part, rank}
 use Rattle.segment.specs.ReadParts.{RisesFrom}
@@ -37,7 +37,7 @@ module _ (j : Job) (id : List ℕ) (t r : ℕ) where
     where
       go : (v : Value) → ((y : Part) → StandsAt e y → Q y) → All Q (parts_of es) → All Q ((row_value j id t r e v).parts ++ parts_of es)
       go (from_column c) f ih = (f _ (record { element = refl; component = refl }), ih)
-      go (fromGroup c) f ih = ih
+      go (from_group c) f ih = ih
       go (from_code code) f ih = (f _ (record { element = refl; component = refl }), ih)
 
   row_starts : (es : List ElementPlan) → All PlanStarts es → All Starts (parts_of es)
@@ -59,7 +59,7 @@ module _ (j : Job) (id : List ℕ) (t r : ℕ) where
 
       go : (v : Value) → Pairs NotAt (parts_of es) → Pairs NotAt ((row_value j id t r e v).parts ++ parts_of es)
       go (from_column c) ih = (behind (text_of_cell j id e.element e.component t c r), ih)
-      go (fromGroup c) ih = ih
+      go (from_group c) ih = ih
       go (from_code code) ih = (behind code, ih)
 
   row_rises : (p : ℕ) (es : List ElementPlan) → All (λ (e : ElementPlan). p ≤ e.element) es → Pairs InFront es → RisesFrom p (parts_of es)
@@ -73,7 +73,7 @@ module _ (j : Job) (id : List ℕ) (t r : ℕ) where
 
       go : (v : Value) → RisesFrom p (parts_of es) → RisesFrom e.element (parts_of es) → RisesFrom p ((row_value j id t r e v).parts ++ parts_of es)
       go (from_column c) a b = (h.0, b)
-      go (fromGroup c) a b = a
+      go (from_group c) a b = a
       go (from_code code) a b = (h.0, b)
 
   row_kinds : (es : List ElementPlan) → Each2 (Unmixed j (from_row t)) es → Each2 SameKind (parts_of es)
@@ -93,7 +93,7 @@ module _ (j : Job) (id : List ℕ) (t r : ℕ) where
       go : (v : Value) → CodeClear j v → some_of (holds_separator j) (row_cell j id t r e v) ≡ false → All (λ (y : Part). Clear j y.text) (parts_of es)
           → All (λ (y : Part). Clear j y.text) ((row_value j id t r e v).parts ++ parts_of es)
       go (from_column i) c q ih = (held_not j _ (none_all (holds_separator j) (row_cell j id t r e (from_column i)) q).0, ih)
-      go (fromGroup i) c q ih = ih
+      go (from_group i) c q ih = ih
       go (from_code code) c q ih = (c, ih)
 
 -- identifier and parts of a row segment

@@ -5,9 +5,9 @@ use mathlib.Core.Bool.{true, false}
 use mathlib.Core.List.{List, [], ◌∷◌}
 use mathlib.Core.Option.{none, some, none-ne-some}
 use native.Mathlib.Omega.{arith}
-use Rattle.format.specs.Spec.{required, situational, countChildren, kind_an, ElementDef, Spec}
-use Rattle.format.specs.Plan.{enveloped, rows_of, from_envelope, from_row, fromRepeat, from_column, fromGroup, Value, ElementPlan, SegmentPlan, Plan}
-use Rattle.format.specs.Layout.{segment_item, loopItem}
+use Rattle.format.specs.Spec.{required, situational, count_children, kind_an, ElementDef, Spec}
+use Rattle.format.specs.Plan.{enveloped, rows_of, from_envelope, from_row, from_repeat, from_column, from_group, Value, ElementPlan, SegmentPlan, Plan}
+use Rattle.format.specs.Layout.{segment_item, loop_item}
 use Rattle.format.specs.Data.{TableData}
 use Rattle.format.specs.Job.{Job}
 use Rattle.format.specs.Ask as A
@@ -36,7 +36,7 @@ element = record { kind = kind_an; min = some 1; max = some 38; components = [];
 abbrev spec : Spec
 spec = record {
   loops =
-      record { parent = none; trigger = ISA; occurrences = ISA ∷ []; usage = required; end = some IEA; control = some (record { opener = 13; closer = 2; count = 1; counted = countChildren }); children = 1 ∷ [] }
+      record { parent = none; trigger = ISA; occurrences = ISA ∷ []; usage = required; end = some IEA; control = some (record { opener = 13; closer = 2; count = 1; counted = count_children }); children = 1 ∷ [] }
       ∷ record { parent = some 0; trigger = CLP; occurrences = CLP ∷ CAS ∷ []; usage = situational; end = none; control = none; children = [] } ∷ [];
   roots = 0 ∷ [];
   segments = (CLP, (1, element) ∷ []) ∷ (ISA, (11, element) ∷ (13, element) ∷ (16, element) ∷ []) ∷ [];
@@ -54,7 +54,7 @@ claim = record { occurrence = 0; source = from_row 0; elements = placed 1 (from_
 
 -- a qualifier, and for each row a reason and an amount
 abbrev adjustments : SegmentPlan
-adjustments = record { occurrence = 1; source = fromRepeat 1; elements = placed 1 (from_column 0) ∷ placed 2 (fromGroup 1) ∷ placed 3 (fromGroup 2) ∷ [] }
+adjustments = record { occurrence = 1; source = from_repeat 1; elements = placed 1 (from_column 0) ∷ placed 2 (from_group 1) ∷ placed 3 (from_group 2) ∷ [] }
 
 abbrev plan : Plan
 plan =
@@ -69,7 +69,7 @@ job = record {
   spec = spec;
   plan = plan;
   layout = record {
-    order = (segment_item 0 ∷ loopItem 1 ∷ []) ∷ (segment_item 0 ∷ segment_item 1 ∷ []) ∷ [];
+    order = (segment_item 0 ∷ loop_item 1 ∷ []) ∷ (segment_item 0 ∷ segment_item 1 ∷ []) ∷ [];
     forced = (false ∷ []) ∷ (false ∷ false ∷ []) ∷ [];
     group_columns = [] ∷ [] ∷ [];
     depth = some 0 ∷ none ∷ [];
@@ -111,7 +111,7 @@ claim_fits = record { starts = (starts 0 (from_column 0), tt); placed = (tt, tt)
 adjustments_fit : SegmentFits job adjustments
 unfolding A.step_of A.table_of A.capacity_of
 adjustments_fit = record {
-  starts = (starts 0 (from_column 0), (starts 1 (fromGroup 1), (starts 2 (fromGroup 2), tt)));
+  starts = (starts 0 (from_column 0), (starts 1 (from_group 1), (starts 2 (from_group 2), tt)));
   placed = (
     ((λ k n p q e z. omega (arith, p, q, e), (λ k n p q e z. omega (arith, p, q, e), tt)), ((λ k n p q e z. omega (arith, p, q, e), tt), (tt, tt))),
     (λ k n p q e. omega (arith, p, q, e), (λ k n p q e. omega (arith, p, q, e), (λ k n p q e. omega (arith, p, q, e), tt))),

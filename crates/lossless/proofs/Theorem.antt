@@ -7,7 +7,7 @@ use mathlib.Core.List.{List, [], ◌∷◌, ◌++◌, map}
 use mathlib.Core.Option.{Option, none, some}
 use lib.ListN.{length, get_or}
 use Rattle.format.specs.Spec.{Control, ElementDef}
-use Rattle.format.specs.Plan.{from_row, fromRepeat}
+use Rattle.format.specs.Plan.{from_row, from_repeat}
 use Rattle.format.specs.Job.{Job}
 use Rattle.format.specs.Sections.{job_of}
 use Rattle.format.specs.Passed.{Passed}
@@ -42,7 +42,7 @@ use Rattle.lossless.proofs.Fine.{Fine, match_exactly}
 use Rattle.lossless.proofs.Rows.{row_fine}
 use Rattle.lossless.proofs.Chunks.{chunk_fine}
 use Rattle.lossless.proofs.Openers.{opener_fine, closer_fine, control_textual}
-use Rattle.lossless.proofs.Keys.{segment_so, keys_rise, fits_at, codes_at, rule_at, of_row_lem, of_repeat, id_clear}
+use Rattle.lossless.proofs.Keys.{segment_so, keys_rise, fits_at, codes_at, rule_at, of_row_lem, of_repeat_lem, id_clear}
 
 -- ---- each due segment is read in full
 
@@ -90,7 +90,7 @@ module _ (b : List ℕ) (p : Passed b) (C : CompletePlan (job_of b)) where
       let unmixed = rw e at f.unmixed in
       (row_fine j (identifier_of j l i) t r (planned_of j l i).elements n f.starts placed unmixed (codes_at j C l i) (none_left (some_of (holds_separator j) (row_cells j (identifier_of j l i) t r (planned_of j l i).elements)) false h), tt)
 
-  chunk_done : (l i t : ℕ) (rs : List ℕ) → (planned_of j l i).source ≡ fromRepeat t → length rs ≤ max 1 (capacity_of j t) → (identifier_of j l i ≢ []) × Clear j (identifier_of j l i)
+  chunk_done : (l i t : ℕ) (rs : List ℕ) → (planned_of j l i).source ≡ from_repeat t → length rs ≤ max 1 (capacity_of j t) → (identifier_of j l i ≢ []) × Clear j (identifier_of j l i)
       → AllFine (chunk_due j l i t rs ∷ [])
   unfolding chunk_due
   chunk_done l i t rs e k n h =
@@ -127,7 +127,7 @@ module _ (b : List ℕ) (p : Passed b) (C : CompletePlan (job_of b)) where
     stopped = λ l t r. one_done (stop l t r) (λ cs h. tt);
     opens = λ l. one_done (opener l) (opener_done l);
     row = λ l i t r h e q. one_done (row_segment l i t r) (λ cs. row_done l i t r (of_row_lem j l i t e) (id_clear j p.fit l i q));
-    filled = λ l i t rs h e q k s. subst AllFine (sym (chunk_steps_lem j l i t rs s)) (chunk_done l i t rs (of_repeat j l i t e) (rw (← capacity_is t) k) (id_clear j p.fit l i q));
+    filled = λ l i t rs h e q k s. subst AllFine (sym (chunk_steps_lem j l i t rs s)) (chunk_done l i t rs (of_repeat_lem j l i t e) (rw (← capacity_is t) k) (id_clear j p.fit l i q));
     closes = λ l o n m. one_done (closer l o n m) (closer_done l o n m);
   }
 

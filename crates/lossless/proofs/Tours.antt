@@ -9,7 +9,7 @@ use lib.ListN.{length, length-append}
 use lib.Dec.{ltb}
 use borrow.Author.Tests.{ltb-true}
 use Rattle.nest.specs.Lists.{each, on, All}
-use Rattle.nest.specs.Outline.{Outline, Source, of_envelope, of_row, ofRepeat, Item, segment, loop, loop_of, kind_of, order_of, segment_of, planned, has_occurrence}
+use Rattle.nest.specs.Outline.{Outline, Source, of_envelope, of_row, of_repeat, Item, segment, loop, loop_of, kind_of, order_of, segment_of, planned, has_occurrence}
 use Rattle.nest.specs.Nest.{Row, repeat_rows}
 use Rattle.walk.specs.Instances.{Context, outside, instances}
 use Rattle.walk.specs.Tour.{Step, enters, stop, opener, row_segment, closer, segments_in, own_row, stop_at, chunks, chunks_of, chunk_steps, repeat_steps, due_row, from_source, segment_steps, item_steps, body_steps, opened, close_steps, instance_steps, visits, tour_to, tour}
@@ -22,7 +22,7 @@ pub record Closed (o : Outline) (P : List Step → Type 0) : Type 0 where
   pub stopped : (l t r : ℕ) → P (stop l t r ∷ [])
   pub opens : (l : ℕ) → P (opener l ∷ [])
   pub row : (l i t r : ℕ) → i < planned o l → (segment_of o l i).source ≡ of_row t → has_occurrence o l i ≡ true → P (row_segment l i t r ∷ [])
-  pub filled : (l i t : ℕ) (rs : List ℕ) → i < planned o l → (segment_of o l i).source ≡ ofRepeat t → has_occurrence o l i ≡ true → length rs ≤ max 1 (o.capacity t)
+  pub filled : (l i t : ℕ) (rs : List ℕ) → i < planned o l → (segment_of o l i).source ≡ of_repeat t → has_occurrence o l i ≡ true → length rs ≤ max 1 (o.capacity t)
       → P (chunk_steps l i t rs)
   pub closes : (l : ℕ) (b : Bool) (n m : ℕ) → P (closer l b n m ∷ [])
 
@@ -65,7 +65,7 @@ module _ (o : Outline) (P : List Step → Type 0) (C : Closed o P) where
   chosen true xs g = g refl
   chosen false xs g = C.nothing
 
-  repeat_so : (l i t : ℕ) → i < planned o l → (segment_of o l i).source ≡ ofRepeat t → has_occurrence o l i ≡ true → (p : ℕ) → P (repeat_steps o l i t p)
+  repeat_so : (l i t : ℕ) → i < planned o l → (segment_of o l i).source ≡ of_repeat t → has_occurrence o l i ≡ true → (p : ℕ) → P (repeat_steps o l i t p)
   unfolding repeat_steps
   repeat_so l i t h e q p =
       let room = max 1 (o.capacity t) in
@@ -81,7 +81,7 @@ module _ (o : Outline) (P : List Step → Type 0) (C : Closed o P) where
       rows h t e none = C.nothing
       rows h t e (some r) = chosen (has_occurrence o l i && due_row o l i t r) (row_segment l i t r ∷ []) (λ q. C.row l i t r h e (both (has_occurrence o l i) (due_row o l i t r) q).0)
 
-      owned : i < planned o l → (t : ℕ) → (segment_of o l i).source ≡ ofRepeat t → has_occurrence o l i ≡ true → (x : Option Row)
+      owned : i < planned o l → (t : ℕ) → (segment_of o l i).source ≡ of_repeat t → has_occurrence o l i ≡ true → (x : Option Row)
           → P (on x (λ p. repeat_steps o l i t p.row) [])
       owned h t e q none = C.nothing
       owned h t e q (some p) = repeat_so l i t h e q p.row
@@ -89,7 +89,7 @@ module _ (o : Outline) (P : List Step → Type 0) (C : Closed o P) where
       by_source : i < planned o l → (s : Source) → (segment_of o l i).source ≡ s → P (from_source o l i c s)
       by_source h of_envelope e = chosen (loop_of o l).controlled (opener l ∷ []) (λ q. C.opens l)
       by_source h (of_row t) e = rows h t e (c.row t)
-      by_source h (ofRepeat t) e = chosen (has_occurrence o l i) (on (own_row (kind_of o l) c) (λ p. repeat_steps o l i t p.row) []) (λ q. owned h t e q (own_row (kind_of o l) c))
+      by_source h (of_repeat t) e = chosen (has_occurrence o l i) (on (own_row (kind_of o l) c) (λ p. repeat_steps o l i t p.row) []) (λ q. owned h t e q (own_row (kind_of o l) c))
 
   stop_so : (l : ℕ) (own : Option Row) → P (stop_at l own)
   stop_so l none = C.nothing

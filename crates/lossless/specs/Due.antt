@@ -4,7 +4,7 @@
 use Rattle.std.specs.Prelude.{ℕ, zero, suc, ◌+◌, ◌*◌, ◌-◌, ◌%◌, ◌^◌, Bool, List, [], ◌∷◌, ◌++◌, map, get_or, set, replicate}
 use Rattle.std.proofs.Math.Option.{Option, none, some}
 use Rattle.format.specs.Spec.{ElementDef}
-use Rattle.format.specs.Plan.{Value, from_column, fromGroup, from_code, ElementPlan}
+use Rattle.format.specs.Plan.{Value, from_column, from_group, from_code, ElementPlan}
 use Rattle.format.specs.Job.{Job}
 use Rattle.format.specs.Ask.{loop_of, planned_of, identifier_of, step_of, segment_def, depth_of, data_of, max_of}
 use Rattle.column.specs.Cell.{cell_of}
@@ -33,7 +33,7 @@ text_of_cell j id e c t column r = (cell_text (cell_of (data_of j t) column r) (
 
 abbrev pub row_cell : Job → List ℕ → ℕ → ℕ → ElementPlan → Value → List (List ℕ)
 row_cell j id t r p (from_column c) = text_of_cell j id p.element p.component t c r ∷ []
-row_cell j id t r p (fromGroup c) = []
+row_cell j id t r p (from_group c) = []
 row_cell j id t r p (from_code code) = []
 
 abbrev pub row_cells : Job → List ℕ → ℕ → ℕ → List ElementPlan → List (List ℕ)
@@ -43,7 +43,7 @@ row_cells j id t r = each (λ (p : ElementPlan). row_cell j id t r p p.value)
 abbrev pub chunk_cell : Job → List ℕ → ℕ → ℕ → ℕ → ℕ → ElementPlan → Value → List (List ℕ)
 chunk_cell j id t step zero r p (from_column c) = text_of_cell j id p.element p.component t c r ∷ []
 chunk_cell j id t step (suc k) r p (from_column c) = []
-chunk_cell j id t step k r p (fromGroup c) = text_of_cell j id (p.element + k * step) p.component t c r ∷ []
+chunk_cell j id t step k r p (from_group c) = text_of_cell j id (p.element + k * step) p.component t c r ∷ []
 chunk_cell j id t step k r p (from_code code) = []
 
 abbrev pub chunk_row : Job → List ℕ → ℕ → ℕ → ℕ → ℕ → List ElementPlan → List (List ℕ)

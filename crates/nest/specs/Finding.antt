@@ -18,7 +18,7 @@ pub record Place : Type 0 where
 pub data Finding : Type 0 where
   duplicate : (table row key first_row : ℕ) → Finding  -- DR
   missing : (table row parent : ℕ) (value : Option ℕ) → Finding  -- MP
-  mismatch : (table row ancestor value parent parentRow expected : ℕ) → Finding  -- MR
+  mismatch : (table row ancestor value parent parent_row expected : ℕ) → Finding  -- MR
   out_of_order : (table row above reference highest : ℕ) → Finding  -- OO
   delimiter : (origin : Origin) (place : Place) (byte role : ℕ) → Finding  -- DV
   not_writable : (origin : Origin) (place : Place) (reason : ℕ) → Finding  -- NW

@@ -10,7 +10,7 @@ use Rattle.column.specs.Cell.{cell_of, segment_cell, key_of, reference_of, same_
 use Rattle.spec.specs.Answers.{is_required}
 use Rattle.format.specs.Ask.{plan_of, planned_of, forced_of, group_columns_of, capacity_of, data_of}
 use Rattle.nest.specs.Lists.{on, each, some_of}
-use Rattle.nest.specs.Outline.{Outline, Loop, Table, Kind, absent, envelope, implied, rows, inside, groups, Source, of_envelope, of_row, ofRepeat, Planned, Plan, Item, segment, loop}
+use Rattle.nest.specs.Outline.{Outline, Loop, Table, Kind, absent, envelope, implied, rows, inside, groups, Source, of_envelope, of_row, of_repeat, Planned, Plan, Item, segment, loop}
 
 abbrev pub is_there : {A : Type 0} → Option A → Bool
 is_there x = on x (λ v. true) false
@@ -32,7 +32,7 @@ kind_in P.implied = implied
 abbrev pub source_in : P.Source → Source
 source_in P.from_envelope = of_envelope
 source_in (P.from_row t) = of_row t
-source_in (P.fromRepeat t) = ofRepeat t
+source_in (P.from_repeat t) = of_repeat t
 
 abbrev pub planned_in : P.SegmentPlan → Planned
 planned_in p = record { occurrence = p.occurrence; source = source_in p.source }
@@ -42,7 +42,7 @@ plan_in p = record { instances = kind_in p.instances; segments = map planned_in 
 
 abbrev pub item_in : L.Item → Item
 item_in (L.segment_item i) = segment i
-item_in (L.loopItem l) = loop l
+item_in (L.loop_item l) = loop l
 
 -- ---- what depends on cells
 
@@ -63,12 +63,12 @@ group_table P.implied = 0
 abbrev pub repeat_table : P.Source → ℕ
 repeat_table P.from_envelope = 0
 repeat_table (P.from_row t) = 0
-repeat_table (P.fromRepeat t) = t
+repeat_table (P.from_repeat t) = t
 
 -- the columns that planned elements name, `Group` columns aside
 abbrev pub column_in : P.Value → List ℕ
 column_in (P.from_column c) = c ∷ []
-column_in (P.fromGroup c) = []
+column_in (P.from_group c) = []
 column_in (P.from_code code) = []
 
 unfoldable pub columns_in : P.SegmentPlan → List ℕ

@@ -45,13 +45,13 @@ inside_table (groups t) = none
 -- write/plan.rs, `SegmentSource`
 pub data Source : Type 0 where
   of_envelope : Source
-  of_row ofRepeat : ℕ → Source
+  of_row of_repeat : ℕ → Source
 
 -- the table whose row a `Row` segment writes
 abbrev pub source_table : Source → Option ℕ
 source_table of_envelope = none
 source_table (of_row t) = some t
-source_table (ofRepeat t) = none
+source_table (of_repeat t) = none
 
 pub record Planned : Type 0 where
   pub occurrence : ℕ

@@ -12,7 +12,7 @@ use borrow.Author.Tests.{lt-ltb, le-ltb, not-true, not-false}
 use Rattle.codec.specs.Codec.{le}
 use Rattle.codec.specs.Field.{count_of}
 use Rattle.format.specs.Plan as P
-use Rattle.format.specs.Layout.{segment_item, loopItem}
+use Rattle.format.specs.Layout.{segment_item, loop_item}
 use Rattle.format.specs.Job.{Job}
 use Rattle.format.specs.Sections.{job_of}
 use Rattle.format.specs.Ask as A
@@ -195,7 +195,7 @@ planned_of_lem j t x e = e ∙ sym (ap (λ xs. each_of xs (planned_once (outline
 -- ---- orders
 
 module _ (j : Job) (l : ℕ) where
-  pub order_loop : (k a b : ℕ) → a ≡ sum (same_item (loopItem k)) (A.order_of j l) → b ≡ times k (loop_of (outline_of j) l).children → eqb a b ≡ order_right (outline_of j) l k
+  pub order_loop : (k a b : ℕ) → a ≡ sum (same_item (loop_item k)) (A.order_of j l) → b ≡ times k (loop_of (outline_of j) l).children → eqb a b ≡ order_right (outline_of j) l k
   unfolding order_right
   order_loop k a b e f = ap₂ eqb (e ∙ sym (ap (λ o. times k (item_loops o)) (order_is j l) ∙ loop_times k (A.order_of j l))) f
 

@@ -12,7 +12,7 @@ use Rattle.nest.specs.Lists.{once, sum, times}
 use Rattle.nest.specs.Outline as O
 use Rattle.nest.specs.OfJob.{item_in}
 use Rattle.nest.proofs.Scan.{drop_next, sum_at, sum_past}
-use Rattle.format.specs.Layout.{Item, segment_item, loopItem}
+use Rattle.format.specs.Layout.{Item, segment_item, loop_item}
 use Rattle.walk.specs.Check.{each_below, each_of, how_many}
 use Rattle.paths.specs.Tests.{same_item, segment_below}
 
@@ -103,20 +103,20 @@ each_every p (x ∷ xs) = ap (λ b. p x && b) (each_every p xs)
 
 -- ---- items of an order
 
-pub loop_times : (k : ℕ) (xs : List Item) → times k (O.item_loops (map item_in xs)) ≡ sum (same_item (loopItem k)) xs
+pub loop_times : (k : ℕ) (xs : List Item) → times k (O.item_loops (map item_in xs)) ≡ sum (same_item (loop_item k)) xs
 loop_times k [] = refl
 loop_times k (segment_item i ∷ xs) = omega (arith, loop_times k xs)
-loop_times k (loopItem l ∷ xs) = ap (λ n. once (eqb l k) + n) (loop_times k xs)
+loop_times k (loop_item l ∷ xs) = ap (λ n. once (eqb l k) + n) (loop_times k xs)
 
 pub segment_times : (k : ℕ) (xs : List Item) → times k (O.item_segments (map item_in xs)) ≡ sum (same_item (segment_item k)) xs
 segment_times k [] = refl
 segment_times k (segment_item i ∷ xs) = ap (λ n. once (eqb i k) + n) (segment_times k xs)
-segment_times k (loopItem l ∷ xs) = omega (arith, segment_times k xs)
+segment_times k (loop_item l ∷ xs) = omega (arith, segment_times k xs)
 
 pub segments_below : (n : ℕ) (xs : List Item) → each_of (O.item_segments (map item_in xs)) (λ i. ltb i n) ≡ every (segment_below n) xs
 segments_below n [] = refl
 segments_below n (segment_item i ∷ xs) = ap (λ b. ltb i n && b) (segments_below n xs)
-segments_below n (loopItem l ∷ xs) = segments_below n xs
+segments_below n (loop_item l ∷ xs) = segments_below n xs
 
 -- ---- whether a number stands in a list
 

@@ -2,7 +2,7 @@
 use Rattle.std.specs.Prelude.{ℕ, Bool, true, false, not, ◌&&◌, ◌||◌, length, eqb, ltb}
 use Rattle.nest.specs.Lists.{once, on, times, is}
 use Rattle.nest.specs.Outline.{Outline, row_table, item_loops, item_segments, loop_of, table_of, kind_of, order_of, segment_of, table_parent, plain, repeated}
-use Rattle.format.specs.Layout.{Item, segment_item, loopItem}
+use Rattle.format.specs.Layout.{Item, segment_item, loop_item}
 use Rattle.walk.specs.Check.{each_below, each_of, how_many, rows_of, named, repeat_table, planned, if_there, fits}
 
 -- ---- items of an order
@@ -10,14 +10,14 @@ use Rattle.walk.specs.Check.{each_below, each_of, how_many, rows_of, named, repe
 -- 1 where two items are the same
 abbrev pub same_item : Item → Item → ℕ
 same_item (segment_item i) (segment_item k) = once (eqb k i)
-same_item (segment_item i) (loopItem l) = 0
-same_item (loopItem l) (segment_item k) = 0
-same_item (loopItem l) (loopItem k) = once (eqb k l)
+same_item (segment_item i) (loop_item l) = 0
+same_item (loop_item l) (segment_item k) = 0
+same_item (loop_item l) (loop_item k) = once (eqb k l)
 
 -- an item names no segment from n on
 abbrev pub segment_below : ℕ → Item → Bool
 segment_below n (segment_item i) = ltb i n
-segment_below n (loopItem l) = true
+segment_below n (loop_item l) = true
 
 -- ---- how many
 

@@ -2,7 +2,7 @@
 ghost use Rattle.std.specs.Prelude.{◌≡◌, ◌≤◌, ◌<◌, eqb, ltb, length};
 ghost use Rattle.format.specs.Sections.{job_of};
 ghost use Rattle.format.specs.Ask.{order_of};
-ghost use Rattle.format.specs.Layout.{segment_item, loopItem};
+ghost use Rattle.format.specs.Layout.{segment_item, loop_item};
 ghost use Rattle.plan.specs.Answers.{item_of};
 ghost use Rattle.nest.specs.Lists.{sum, times};
 ghost use Rattle.nest.specs.Outline.{loop_of, segment_of, item_segments, order_of as order_in};
@@ -26,7 +26,7 @@ fn is_segment(v: Item, i: u32) -> u32
 
 // 1 where an item is loop l.
 fn is_loop(v: Item, l: LoopId) -> u32
-    ensures { (result ≡ same_item (loopItem l.0) (item_of v)) × (result ≤ 1) }
+    ensures { (result ≡ same_item (loop_item l.0) (item_of v)) × (result ≤ 1) }
 {
     match v {
         Item::Segment(_) => 0,

@@ -11,7 +11,7 @@ use lib.Dec.{ltb, eqb}
 use borrow.Author.Tests.{eqb-true, eqb-false, ltb-true, ltb-false}
 use Rattle.codec.specs.Codec.{pick}
 use Rattle.codec.specs.Limits.{any_of}
-use Rattle.format.specs.Plan.{Source, from_envelope, from_row, fromRepeat, Value, from_column, fromGroup, from_code, ElementPlan, SegmentPlan, LoopPlan}
+use Rattle.format.specs.Plan.{Source, from_envelope, from_row, from_repeat, Value, from_column, from_group, from_code, ElementPlan, SegmentPlan, LoopPlan}
 use Rattle.format.specs.Job.{Job}
 use Rattle.format.specs.Ask.{capacity_of}
 use Rattle.segment.specs.Parts.{rank}
@@ -28,23 +28,23 @@ use Rattle.places.proofs.Meeting.{Meets, meets_back, rows_apart, meet_yes, meet_
 -- ---- reach
 reach_is : (j : Job) (s : Source) (v : Value) → reach j s v ≡ reach_of (room_in j s) v
 reach_is j from_envelope (from_column c) = refl
-reach_is j from_envelope (fromGroup c) = refl
+reach_is j from_envelope (from_group c) = refl
 reach_is j from_envelope (from_code c) = refl
 reach_is j (from_row t) (from_column c) = refl
-reach_is j (from_row t) (fromGroup c) = refl
+reach_is j (from_row t) (from_group c) = refl
 reach_is j (from_row t) (from_code c) = refl
-reach_is j (fromRepeat t) (from_column c) = refl
-reach_is j (fromRepeat t) (fromGroup c) = refl
-reach_is j (fromRepeat t) (from_code c) = refl
+reach_is j (from_repeat t) (from_column c) = refl
+reach_is j (from_repeat t) (from_group c) = refl
+reach_is j (from_repeat t) (from_code c) = refl
 
 room_one : (j : Job) (s : Source) → 1 ≤ room_in j s
 room_one j from_envelope = omega arith
 room_one j (from_row t) = omega arith
-room_one j (fromRepeat t) = le-max_left 1 (capacity_of j t)
+room_one j (from_repeat t) = le-max_left 1 (capacity_of j t)
 
 reach_one : (room : ℕ) → 1 ≤ room → (v : Value) → 1 ≤ reach_of room v
 reach_one room h (from_column c) = omega arith
-reach_one room h (fromGroup c) = h
+reach_one room h (from_group c) = h
 reach_one room h (from_code c) = omega arith
 
 -- ---- plain and component
@@ -88,7 +88,7 @@ front_right x y = go (ltb x.element y.element) (eqb x.element y.element) (ltb x.
 abbrev pub PairFits : Job → Source → ElementPlan → ElementPlan → Type 0
 PairFits j from_envelope a b = Unit {0}
 PairFits j (from_row t) a b = InFront a b
-PairFits j (fromRepeat t) a b = PlacesApart j (fromRepeat t) a b
+PairFits j (from_repeat t) a b = PlacesApart j (from_repeat t) a b
 
 module _ (j : Job) (s : Source) where
   meeting : (a b : ElementPlan) (k n : ℕ) → k < reach j s a.value → n < reach j s b.value → element_of j s a k ≡ element_of j s b n
@@ -131,7 +131,7 @@ misplaced_refuted : (j : Job) (s : Source) (a b : ElementPlan) → Refutes (misp
 unfolding misplaced
 misplaced_refuted j from_envelope a b = (λ i. tt, λ i. no_way (sym i))
 misplaced_refuted j (from_row t) a b = front_right (spot_of 1 a) (spot_of 1 b)
-misplaced_refuted j (fromRepeat t) a b = apart_refuted j (fromRepeat t) a b
+misplaced_refuted j (from_repeat t) a b = apart_refuted j (from_repeat t) a b
 
 clash_refuted : (j : Job) (s : Source) (a b : ElementPlan) → Refutes (clash_of (kind_of s) (step_in j s) (room_in j s) a b) (PairFits j s a b × (Unmixed j s a b × Unmixed j s b a))
 unfolding clash
@@ -175,12 +175,12 @@ own_row_lem j s r a k n h l e = let z : reach j s a.value ≡ 1 = r a.value in o
 placed_of : (j : Job) (s : Source) (es : List ElementPlan) → All (OwnApart j s) es → Pairs (PairFits j s) es → Placed j s es
 placed_of j from_envelope es h k = tt
 placed_of j (from_row t) es h k = k
-placed_of j (fromRepeat t) es h k = (k, h)
+placed_of j (from_repeat t) es h k = (k, h)
 
 of_placed : (j : Job) (s : Source) (es : List ElementPlan) → Placed j s es → All (OwnApart j s) es × Pairs (PairFits j s) es
 of_placed j from_envelope es h = (all_any _ (own_row_lem j from_envelope (λ v. refl)) es, pairs_any _ (λ x y. tt) es)
 of_placed j (from_row t) es h = (all_any _ (own_row_lem j (from_row t) (λ v. refl)) es, h)
-of_placed j (fromRepeat t) es h = (h.1, h.0)
+of_placed j (from_repeat t) es h = (h.1, h.0)
 
 segment_refuted : (j : Job) (p : SegmentPlan) → Refutes (wrong_segment j p) (SegmentFits j p)
 unfolding wrong_segment wrong_spots

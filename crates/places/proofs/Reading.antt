@@ -15,7 +15,7 @@ use Rattle.codec.specs.Field.{is_in, is_none, is_some}
 use Rattle.codec.specs.Ways.{tag_in, tag_case}
 use Rattle.codec.specs.Limits.{any_of}
 use Rattle.format.specs.Job.{Job}
-use Rattle.format.specs.Plan.{Source, from_envelope, from_row, fromRepeat, source_c, from_column, fromGroup, from_code, value_c, ElementPlan, element_plan_c, SegmentPlan}
+use Rattle.format.specs.Plan.{Source, from_envelope, from_row, from_repeat, source_c, from_column, from_group, from_code, value_c, ElementPlan, element_plan_c, SegmentPlan}
 use Rattle.format.specs.Fields.{source_tag, is_from_row, is_from_repeat, value_tag, is_from_group, is_from_code}
 use Rattle.complete.specs.Complete.{step_in}
 use Rattle.segment.specs.Parts.{rank}
@@ -28,12 +28,12 @@ use Rattle.places.specs.Spots.{wrong_spot, wrong_spot_of, clash, clash_of, kind_
 module _ (b : List ℕ) (e at t room : ℕ) (h : t ≡ tag_at b at e) where
   pub reach_group : t ≡ 1 → Says value_c b e at (reach_of room) room
   reach_group i (from_column x) u = absurd (omega (arith, value_tag b e at (from_column x) u, there b e at t h 1 i (omega arith)))
-  reach_group i (fromGroup x) u = refl
+  reach_group i (from_group x) u = refl
   reach_group i (from_code x) u = absurd (omega (arith, value_tag b e at (from_code x) u, there b e at t h 1 i (omega arith)))
 
   pub reach_one : (t ≡ 1 → ⊥) → Says value_c b e at (reach_of room) 1
   reach_one i (from_column x) u = refl
-  reach_one i (fromGroup x) u = absurd (i (sym (within b e at t h (is_in num_c b e _ _ (is_from_group b e at x u))) ∙ value_tag b e at (fromGroup x) u))
+  reach_one i (from_group x) u = absurd (i (sym (within b e at t h (is_in num_c b e _ _ (is_from_group b e at x u))) ∙ value_tag b e at (from_group x) u))
   reach_one i (from_code x) u = refl
 
 module _ (b : List ℕ) (e at t : ℕ) (h : t ≡ tag_at b at e) where
@@ -78,22 +78,22 @@ spots_before b e p m q kind step room x a c r h i s k ws w v l = let z : x ≡ s
 
 -- ---- what fills a planned segment
 module _ (b : List ℕ) (e at t : ℕ) (h : t ≡ tag_at b at e) where
-  pub source_repeat : (p n : ℕ) → t ≡ 2 → p ≡ skip (le_c 1) b at e → n ≡ count_at b p e → (v : Source) → Is source_c b e at v → v ≡ fromRepeat n
+  pub source_repeat : (p n : ℕ) → t ≡ 2 → p ≡ skip (le_c 1) b at e → n ≡ count_at b p e → (v : Source) → Is source_c b e at v → v ≡ from_repeat n
   source_repeat p n i j k from_envelope u = absurd (omega (arith, source_tag b e at from_envelope u, there b e at t h 2 i (omega arith)))
   source_repeat p n i j k (from_row x) u = absurd (omega (arith, source_tag b e at (from_row x) u, there b e at t h 2 i (omega arith)))
-  source_repeat p n i j k (fromRepeat x) u =
+  source_repeat p n i j k (from_repeat x) u =
       let z : n ≡ x = number_is b e n p (at + 1) x k (behind b e at t h 2 i (omega arith) p j) (is_from_repeat b e at x u) in
       rw z
 
   pub source_row : t ≡ 1 → (j : Job) (v : Source) → Is source_c b e at v → (kind_of v ≡ 1) × (step_in j v ≡ 0) × (room_in j v ≡ 1)
   source_row i j from_envelope u = absurd (omega (arith, source_tag b e at from_envelope u, there b e at t h 1 i (omega arith)))
   source_row i j (from_row x) u = (refl, refl, refl)
-  source_row i j (fromRepeat x) u = absurd (omega (arith, source_tag b e at (fromRepeat x) u, there b e at t h 1 i (omega arith)))
+  source_row i j (from_repeat x) u = absurd (omega (arith, source_tag b e at (from_repeat x) u, there b e at t h 1 i (omega arith)))
 
   pub source_envelope : (t ≡ 2 → ⊥) → (t ≡ 1 → ⊥) → (v : Source) → Is source_c b e at v → v ≡ from_envelope
   source_envelope i j from_envelope u = refl
   source_envelope i j (from_row x) u = absurd (j (sym (within b e at t h (is_in num_c b e _ _ (is_from_row b e at x u))) ∙ source_tag b e at (from_row x) u))
-  source_envelope i j (fromRepeat x) u = absurd (i (sym (within b e at t h (is_in num_c b e _ _ (is_from_repeat b e at x u))) ∙ source_tag b e at (fromRepeat x) u))
+  source_envelope i j (from_repeat x) u = absurd (i (sym (within b e at t h (is_in num_c b e _ _ (is_from_repeat b e at x u))) ∙ source_tag b e at (from_repeat x) u))
 
 pub segment_is : (j : Job) (v : SegmentPlan) (k s r : ℕ) (t : Bool) → t ≡ wrong_spots k s r v.elements → kind_of v.source ≡ k → step_in j v.source ≡ s → room_in j v.source ≡ r → t ≡ wrong_segment j v
 unfolding wrong_segment

@@ -13,7 +13,7 @@ use borrow.Author.Tests.{eqb-true, eqb-false}
 use Rattle.codec.specs.Codec.{pick}
 use Rattle.format.specs.Words.{any_from, if_some, present}
 use Rattle.format.specs.Spec.{Control, ElementDef}
-use Rattle.format.specs.Plan.{Source, from_envelope, from_row, fromRepeat, ElementPlan, SegmentPlan, LoopPlan, no_loop_plan}
+use Rattle.format.specs.Plan.{Source, from_envelope, from_row, from_repeat, ElementPlan, SegmentPlan, LoopPlan, no_loop_plan}
 use Rattle.format.specs.Job.{Job}
 use Rattle.format.specs.Ask.{loop_of, plan_of, segment_def, depth_of}
 use Rattle.segment.specs.Parts.{is_empty}
@@ -69,7 +69,7 @@ same_decided n m = (λ i. eqb-true _ _ i, λ i h. eqb-false _ _ i h)
 envelope_decided : (s : Source) → Decides (is_envelope s) (s ≡ from_envelope)
 envelope_decided from_envelope = (λ i. refl, λ i. no_way i)
 envelope_decided (from_row t) = (λ i. no_way (sym i), λ i h. no_way (sym (ap is_envelope h)))
-envelope_decided (fromRepeat t) = (λ i. no_way (sym i), λ i h. no_way (sym (ap is_envelope h)))
+envelope_decided (from_repeat t) = (λ i. no_way (sym i), λ i h. no_way (sym (ap is_envelope h)))
 
 -- ---- an element of a trigger
 module _ (j : Job) (x : ℕ × ElementDef) where

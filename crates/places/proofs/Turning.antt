@@ -17,7 +17,7 @@ use Rattle.codec.specs.Ways.{tag_in, tag_case}
 use Rattle.codec.specs.Limits.{any_of}
 use Rattle.format.specs.Words.{if_some, present}
 use Rattle.format.specs.Spec.{ElementDef, element_c, SegmentDef, segment_c}
-use Rattle.format.specs.Plan.{Source, from_envelope, from_row, fromRepeat, source_c, ElementPlan, SegmentPlan, LoopPlan}
+use Rattle.format.specs.Plan.{Source, from_envelope, from_row, from_repeat, source_c, ElementPlan, SegmentPlan, LoopPlan}
 use Rattle.format.specs.Fields.{source_tag}
 use Rattle.format.specs.Job.{Job}
 use Rattle.format.specs.Ask.{loop_of, segment_def, depth_of}
@@ -70,12 +70,12 @@ module _ (b : List ℕ) (e at k : ℕ) (h : k ≡ tag_at b at e) where
   envelope_there : k ≡ 0 → (v : Source) → Is source_c b e at v → is_envelope v ≡ true
   envelope_there i from_envelope u = refl
   envelope_there i (from_row x) u = absurd (let l : at < e = tag_case b at e 0 (sym h ∙ i) (omega arith) in omega (arith, source_tag b e at (from_row x) u, tag_in b at e l))
-  envelope_there i (fromRepeat x) u = absurd (let l : at < e = tag_case b at e 0 (sym h ∙ i) (omega arith) in omega (arith, source_tag b e at (fromRepeat x) u, tag_in b at e l))
+  envelope_there i (from_repeat x) u = absurd (let l : at < e = tag_case b at e 0 (sym h ∙ i) (omega arith) in omega (arith, source_tag b e at (from_repeat x) u, tag_in b at e l))
 
   envelope_not : at < e → (k ≡ 0 → ⊥) → (v : Source) → Is source_c b e at v → is_envelope v ≡ false
   envelope_not l i from_envelope u = absurd (i (h ∙ tag_in b at e l ∙ source_tag b e at from_envelope u))
   envelope_not l i (from_row x) u = refl
-  envelope_not l i (fromRepeat x) u = refl
+  envelope_not l i (from_repeat x) u = refl
 
   pub trigger_yes : (t : Trigger) (xs : SegmentDef) (p : SegmentPlan) (r : Bool) → k ≡ 0 → Is source_c b e at p.source → r ≡ any_of (wrong_element t p.elements) xs → r ≡ wrong_trigger t xs p
   unfolding wrong_trigger

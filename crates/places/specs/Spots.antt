@@ -3,7 +3,7 @@
 use Rattle.std.specs.Prelude.{ℕ, ◌-◌, ◌/◌, ◌%◌, max, List, [], ◌∷◌, Bool, true, false, not, leb, ltb, eqb}
 use Rattle.codec.specs.Codec.{pick}
 use Rattle.codec.specs.Limits.{any, any_of}
-use Rattle.format.specs.Plan.{Source, from_envelope, from_row, fromRepeat, Value, from_column, fromGroup, from_code, ElementPlan, SegmentPlan, LoopPlan}
+use Rattle.format.specs.Plan.{Source, from_envelope, from_row, from_repeat, Value, from_column, from_group, from_code, ElementPlan, SegmentPlan, LoopPlan}
 use Rattle.format.specs.Job.{Job}
 use Rattle.format.specs.Ask.{capacity_of}
 use Rattle.segment.specs.Parts.{rank}
@@ -14,7 +14,7 @@ use Rattle.places.specs.declared.spots.Spot.{Spot}
 -- how many rows of a chunk of `room` rows fill a planned element
 abbrev pub reach_of : ℕ → Value → ℕ
 reach_of room (from_column c) = 1
-reach_of room (fromGroup c) = room
+reach_of room (from_group c) = room
 reach_of room (from_code t) = 1
 
 -- a planned element's first place, 0 for no component and one more than the component else, and how many rows fill it
@@ -43,7 +43,7 @@ front x y = pick (ltb x.element y.element) true (pick (eqb x.element y.element) 
 abbrev pub kind_of : Source → ℕ
 kind_of from_envelope = 0
 kind_of (from_row t) = 1
-kind_of (fromRepeat t) = 2
+kind_of (from_repeat t) = 2
 
 -- row segments' places rise, a repeat segment's don't collide; m says whether they meet
 unfoldable pub misplaced : ℕ → Bool → Spot → Spot → Bool
@@ -76,7 +76,7 @@ wrong_spots kind step room es = pairs (wrong_spot_of step room) (clash_of kind s
 abbrev pub room_in : Job → Source → ℕ
 room_in j from_envelope = 1
 room_in j (from_row t) = 1
-room_in j (fromRepeat t) = max 1 (capacity_of j t)
+room_in j (from_repeat t) = max 1 (capacity_of j t)
 
 unfoldable pub wrong_segment : Job → SegmentPlan → Bool
 wrong_segment j p = wrong_spots (kind_of p.source) (step_in j p.source) (room_in j p.source) p.elements

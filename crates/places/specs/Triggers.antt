@@ -4,7 +4,7 @@ use Rattle.codec.specs.Codec.{pick}
 use Rattle.codec.specs.Limits.{any_of}
 use Rattle.format.specs.Words.{if_some, present}
 use Rattle.format.specs.Spec.{Control, ElementDef, SegmentDef}
-use Rattle.format.specs.Plan.{Source, from_envelope, from_row, fromRepeat, ElementPlan, SegmentPlan, LoopPlan}
+use Rattle.format.specs.Plan.{Source, from_envelope, from_row, from_repeat, ElementPlan, SegmentPlan, LoopPlan}
 use Rattle.format.specs.Job.{Job}
 use Rattle.format.specs.Ask.{loop_of, segment_def, depth_of}
 use Rattle.nest.specs.Lists.{on}
@@ -33,7 +33,7 @@ wrong_element t es x = pick (gives t x) (crowded es x) false
 abbrev pub is_envelope : Source → Bool
 is_envelope from_envelope = true
 is_envelope (from_row t) = false
-is_envelope (fromRepeat t) = false
+is_envelope (from_repeat t) = false
 
 unfoldable pub wrong_trigger : Trigger → SegmentDef → SegmentPlan → Bool
 wrong_trigger t xs p = pick (is_envelope p.source) (any_of (wrong_element t p.elements) xs) false

@@ -15,8 +15,8 @@ use Rattle.codec.specs.Forms.{num_c, bytes_c, opt_c, flag_c}
 use Rattle.codec.specs.Field.{is_map, is_enum, is_le, is_none, is_some, is_list, room_of, count_of}
 use Rattle.codec.specs.Ways.{tag_in, skip_opt, opt_none, opt_some, skip_flag, case_in}
 use Rattle.codec.specs.Answers.{skip_les, byte_item}
-use Rattle.format.specs.Plan.{Instances, absent, enveloped, rows_of, inside, groups_of, implied, instances_c, Source, from_envelope, from_row, fromRepeat, source_c, Value, from_column, fromGroup, from_code, value_c, ElementPlan as ElementPlanIn, element_plan_c, SegmentPlan, segment_plan_c, LoopPlan}
-use Rattle.format.specs.Layout.{Item, segment_item, loopItem, item_c}
+use Rattle.format.specs.Plan.{Instances, absent, enveloped, rows_of, inside, groups_of, implied, instances_c, Source, from_envelope, from_row, from_repeat, source_c, Value, from_column, from_group, from_code, value_c, ElementPlan as ElementPlanIn, element_plan_c, SegmentPlan, segment_plan_c, LoopPlan}
+use Rattle.format.specs.Layout.{Item, segment_item, loop_item, item_c}
 use Rattle.format.specs.Fields.{instances_tag, is_rows_of, is_inside, is_groups_of, source_tag, is_from_row, is_from_repeat, value_tag, is_from_column, is_from_group, is_from_code, item_tag, is_segment_item, is_loop_item, ElementPlanIs, is_element_plan, SegmentPlanIs, is_segment_plan, LoopPlanIs}
 use Rattle.format.specs.Ends.{instances_low, instances_high, source_low, source_table_lem, value_column, value_code, item_is}
 use Rattle.spec.specs.Answers.{stretch_of, number_of}
@@ -101,30 +101,30 @@ module _ (b : List ℕ) (at t n : ℕ) (h : t ≡ get_or b at 0) (i : n ≡ le 4
   pub source_0 : t ≡ 0 → (e : ℕ) (v : Source) → Is source_c b e at v → from_envelope ≡ v
   source_0 q e from_envelope j = refl
   source_0 q e (from_row x) j = absurd (omega (arith, source_tag b e at _ j))
-  source_0 q e (fromRepeat x) j = absurd (omega (arith, source_tag b e at _ j))
+  source_0 q e (from_repeat x) j = absurd (omega (arith, source_tag b e at _ j))
 
   pub source_1 : t ≡ 1 → (e : ℕ) (v : Source) → Is source_c b e at v → from_row n ≡ v
   source_1 q e from_envelope j = absurd (omega (arith, source_tag b e at _ j))
   source_1 q e (from_row x) j = ap from_row (number_is b e (at + 1) n x i (is_from_row b e at x j))
-  source_1 q e (fromRepeat x) j = absurd (omega (arith, source_tag b e at _ j))
+  source_1 q e (from_repeat x) j = absurd (omega (arith, source_tag b e at _ j))
 
-  pub source_2 : (t ≡ 0 → ⊥) → (t ≡ 1 → ⊥) → (e : ℕ) (v : Source) → Is source_c b e at v → fromRepeat n ≡ v
+  pub source_2 : (t ≡ 0 → ⊥) → (t ≡ 1 → ⊥) → (e : ℕ) (v : Source) → Is source_c b e at v → from_repeat n ≡ v
   source_2 q₀ q₁ e from_envelope j = absurd (q₀ (h ∙ source_tag b e at _ j))
   source_2 q₀ q₁ e (from_row x) j = absurd (q₁ (h ∙ source_tag b e at _ j))
-  source_2 q₀ q₁ e (fromRepeat x) j = ap fromRepeat (number_is b e (at + 1) n x i (is_from_repeat b e at x j))
+  source_2 q₀ q₁ e (from_repeat x) j = ap from_repeat (number_is b e (at + 1) n x i (is_from_repeat b e at x j))
 
   -- ---- items of an order
   pub item_0 : t ≡ 0 → (e : ℕ) (v : Item) → Is item_c b e at v → segment_item n ≡ v
   item_0 q e (segment_item x) j = ap segment_item (number_is b e (at + 1) n x i (is_segment_item b e at x j))
-  item_0 q e (loopItem x) j = absurd (omega (arith, item_tag b e at _ j))
+  item_0 q e (loop_item x) j = absurd (omega (arith, item_tag b e at _ j))
 
-  pub item_1 : (t ≡ 0 → ⊥) → (e : ℕ) (v : Item) → Is item_c b e at v → loopItem n ≡ v
+  pub item_1 : (t ≡ 0 → ⊥) → (e : ℕ) (v : Item) → Is item_c b e at v → loop_item n ≡ v
   item_1 q e (segment_item x) j = absurd (q (h ∙ item_tag b e at _ j))
-  item_1 q e (loopItem x) j = ap loopItem (number_is b e (at + 1) n x i (is_loop_item b e at x j))
+  item_1 q e (loop_item x) j = ap loop_item (number_is b e (at + 1) n x i (is_loop_item b e at x j))
 
 pub item_past : (b : List ℕ) (at : ℕ) (r : Item) → length b < at + 5 → (e : ℕ) (v : Item) → e ≤ length b → Is item_c b e at v → r ≡ v
 item_past b at r h e (segment_item x) m j = absurd (omega (arith, (is_le 4 b e (at + 1) x (is_segment_item b e at x j)).0))
-item_past b at r h e (loopItem x) m j = absurd (omega (arith, (is_le 4 b e (at + 1) x (is_loop_item b e at x j)).0))
+item_past b at r h e (loop_item x) m j = absurd (omega (arith, (is_le 4 b e (at + 1) x (is_loop_item b e at x j)).0))
 
 -- ---- where an enum ends
 -- a number behind the byte of a case
@@ -204,7 +204,7 @@ module _ (b : List ℕ) (at t : ℕ) (h : t ≡ get_or b (at + 4) 0) where
           let k = is_from_row b e (at + 4) x j in
           let g : get_or b (at + 4) 0 ≡ 1 = source_tag b e (at + 4) _ j in
           r ∙ source_table_lem b (at + 4) e _ _ (case_tag b e (at + 4) x k) (case_behind b e (at + 4) x k) _ (case_end_lem b e (at + 4) x k) (omega arith) (omega arith)
-      size (fromRepeat x) j =
+      size (from_repeat x) j =
           let k = is_from_repeat b e (at + 4) x j in
           let g : get_or b (at + 4) 0 ≡ 2 = source_tag b e (at + 4) _ j in
           r ∙ source_table_lem b (at + 4) e _ _ (case_tag b e (at + 4) x k) (case_behind b e (at + 4) x k) _ (case_end_lem b e (at + 4) x k) (omega arith) (omega arith)
@@ -259,20 +259,20 @@ module _ (b : List ℕ) (at t n element : ℕ) (component : Number) (h : t ≡ g
   value_0 q e (from_column x) m j =
       let k = is_from_column b e at x j in
       record { value = ap from_column (number_is b e (at + 1) n x i k); next = value_column b at e _ _ (case_tag b e at x k) (case_behind b e at x k) _ (case_end_lem b e at x k) (omega arith); within = omega arith }
-  value_0 q e (fromGroup x) m j = absurd (omega (arith, value_tag b e at _ j))
+  value_0 q e (from_group x) m j = absurd (omega (arith, value_tag b e at _ j))
   value_0 q e (from_code x) m j = absurd (omega (arith, value_tag b e at _ j))
 
   pub value_1 : t ≡ 1 → (e : ℕ) (v : Value) → e ≤ length b → Is value_c b e at v → ValueRead b e at v (record { element = element; component = component; value = Group n; next = at + 5 })
   value_1 q e (from_column x) m j = absurd (omega (arith, value_tag b e at _ j))
-  value_1 q e (fromGroup x) m j =
+  value_1 q e (from_group x) m j =
       let k = is_from_group b e at x j in
-      record { value = ap fromGroup (number_is b e (at + 1) n x i k); next = value_column b at e _ _ (case_tag b e at x k) (case_behind b e at x k) _ (case_end_lem b e at x k) (omega arith); within = omega arith }
+      record { value = ap from_group (number_is b e (at + 1) n x i k); next = value_column b at e _ _ (case_tag b e at x k) (case_behind b e at x k) _ (case_end_lem b e at x k) (omega arith); within = omega arith }
   value_1 q e (from_code x) m j = absurd (omega (arith, value_tag b e at _ j))
 
   pub value_2 : (t ≡ 0 → ⊥) → (t ≡ 1 → ⊥) → (e : ℕ) (v : Value) → e ≤ length b → Is value_c b e at v → ValueRead b e at v (record { element = element; component = component; value = Code (record { start = at + 5; len = n }); next = at + 5 + n })
   unfolding stretch_of
   value_2 q₀ q₁ e (from_column x) m j = absurd (q₀ (h ∙ value_tag b e at _ j))
-  value_2 q₀ q₁ e (fromGroup x) m j = absurd (q₁ (h ∙ value_tag b e at _ j))
+  value_2 q₀ q₁ e (from_group x) m j = absurd (q₁ (h ∙ value_tag b e at _ j))
   value_2 q₀ q₁ e (from_code x) m j =
       let k : Is bytes_c b e (at + 1) x = is_from_code b e at x j in
       let g : get_or b at 0 ≡ 2 = value_tag b e at _ j in
@@ -288,7 +288,7 @@ module _ (b : List ℕ) (at t n element : ℕ) (component : Number) (h : t ≡ g
 
 value_room : (b : List ℕ) (e at : ℕ) (v : Value) → Is value_c b e at v → at + 5 ≤ e
 value_room b e at (from_column x) j = case_number_lem b e at x (is_from_column b e at x j)
-value_room b e at (fromGroup x) j = case_number_lem b e at x (is_from_group b e at x j)
+value_room b e at (from_group x) j = case_number_lem b e at x (is_from_group b e at x j)
 value_room b e at (from_code x) j = omega (arith, bytes_room b e (at + 1) x (is_from_code b e at x j))
 
 -- ---- planned elements
@@ -369,7 +369,7 @@ wide_order b e p (segment_item x) j =
     let k = is_segment_item b e p x j in
     let g : get_or b p 0 ≡ 0 = item_tag b e p _ j in
     sym (item_is b p e _ _ (case_tag b e p x k) (case_behind b e p x k) _ (case_end_lem b e p x k) (omega arith))
-wide_order b e p (loopItem x) j =
+wide_order b e p (loop_item x) j =
     let k = is_loop_item b e p x j in
     let g : get_or b p 0 ≡ 1 = item_tag b e p _ j in
     sym (item_is b p e _ _ (case_tag b e p x k) (case_behind b e p x k) _ (case_end_lem b e p x k) (omega arith))

@@ -2,8 +2,8 @@
 use Rattle.std.specs.Prelude.{ℕ, ◌+◌, ◌≤◌, ◌≡◌, List, length}
 use Rattle.codec.specs.Skip.{skip}
 use Rattle.spec.specs.Answers.{stretch_of, number_of}
-use Rattle.format.specs.Plan.{Instances as InstancesIn, absent, enveloped, rows_of, inside, groups_of, implied, Source as SourceIn, from_envelope, from_row, fromRepeat, Value as ValueIn, from_column, fromGroup, from_code, value_c, ElementPlan as ElementPlanIn, element_plan_c}
-use Rattle.format.specs.Layout.{Item as ItemIn, segment_item, loopItem}
+use Rattle.format.specs.Plan.{Instances as InstancesIn, absent, enveloped, rows_of, inside, groups_of, implied, Source as SourceIn, from_envelope, from_row, from_repeat, Value as ValueIn, from_column, from_group, from_code, value_c, ElementPlan as ElementPlanIn, element_plan_c}
+use Rattle.format.specs.Layout.{Item as ItemIn, segment_item, loop_item}
 use Rattle.plan.specs.declared.answers.Instances.{Instances}
 use Rattle.plan.specs.declared.answers.Instances.TheVariants.{Absent, Envelope, Rows, Inside, Groups, Implied}
 use Rattle.plan.specs.declared.answers.Source.{Source}
@@ -25,12 +25,12 @@ instances_of Implied = implied
 abbrev pub source_of : Source → SourceIn
 source_of EnvelopeSource = from_envelope
 source_of (Row t) = from_row t.0
-source_of (Repeat t) = fromRepeat t.0
+source_of (Repeat t) = from_repeat t.0
 
 -- a code is a stretch of the job b
 abbrev pub value_of : List ℕ → ValueSource → ValueIn
 value_of b (Column n) = from_column n
-value_of b (Group n) = fromGroup n
+value_of b (Group n) = from_group n
 value_of b (Code s) = from_code (stretch_of b s)
 
 -- where a code ends
@@ -44,7 +44,7 @@ element_of b r = record { element = r.element; component = number_of r.component
 
 abbrev pub item_of : Item → ItemIn
 item_of (Segment i) = segment_item i
-item_of (Loop l) = loopItem l.0
+item_of (Loop l) = loop_item l.0
 
 -- what stands for an item that is not there
 abbrev pub no_item : ItemIn

@@ -8,7 +8,7 @@ use native.Mathlib.Omega.{arith}
 use native.Mathlib.Nat.{mul-le-mul_left, mul-lt-mul_of_pos_right, mul_comm, mul-zero, mod-add-div, mul-mod_left, eq_of_mul-eq-mul_right}
 use lib.Dec.{eqb}
 use borrow.Author.Tests.{eqb-true}
-use Rattle.format.specs.Plan.{Value, from_column, fromGroup, from_code, ElementPlan}
+use Rattle.format.specs.Plan.{Value, from_column, from_group, from_code, ElementPlan}
 use Rattle.segment.specs.Parts.{Part, pick}
 use Rattle.spec.specs.declared.ids.Stretch.{Stretch}
 use Rattle.spec.specs.Answers.{stretch_of, number_of}
@@ -92,7 +92,7 @@ module _ (b : List ℕ) (e : Element) (step : ℕ) where
       where
         go : (v : Value) → place_by step 0 e.element v ≡ some p
         go (from_column c) = ap some h
-        go (fromGroup c) = ap some (omega arith)
+        go (from_group c) = ap some (omega arith)
         go (from_code t) = ap some h
 
     pub lowest_column : (n : ℕ) → e.value ≡ Column n → (e.element ≡ p → ⊥) → Lowest step p 256 (element_of b e)
@@ -115,7 +115,7 @@ one_row step k m p x h i j = go x.value i j
   where
     go : (v : Value) → place_by step k x.element v ≡ some p → place_by step m x.element v ≡ some p → m ≡ k
     go (from_column c) y z = (once m _ p z).0 ∙ sym (once k _ p y).0
-    go (fromGroup c) y z = let e : m * step ≡ k * step = omega (arith, some_is y, some_is z) in eq_of_mul-eq-mul_right step h m k e
+    go (from_group c) y z = let e : m * step ≡ k * step = omega (arith, some_is y, some_is z) in eq_of_mul-eq-mul_right step h m k e
     go (from_code t) y z = (once m _ p z).0 ∙ sym (once k _ p y).0
 
 pub place_first : (step : ℕ) (x : ElementPlan) → place_in step 0 x ≡ some x.element
@@ -124,7 +124,7 @@ place_first step x = go x.value
   where
     go : (v : Value) → place_by step 0 x.element v ≡ some x.element
     go (from_column c) = refl
-    go (fromGroup c) = ap some (omega arith)
+    go (from_group c) = ap some (omega arith)
     go (from_code t) = refl
 
 pub place_behind : (step k m : ℕ) (x : ElementPlan) → place_in step k x ≡ some m → x.element ≤ m
@@ -133,7 +133,7 @@ place_behind step k m x h = go x.value h
   where
     go : (v : Value) → place_by step k x.element v ≡ some m → x.element ≤ m
     go (from_column c) y = omega (arith, (once k _ m y).1)
-    go (fromGroup c) y = omega (arith, some_is y)
+    go (from_group c) y = omega (arith, some_is y)
     go (from_code t) y = omega (arith, (once k _ m y).1)
 
 -- ---- where a text comes from
@@ -187,7 +187,7 @@ element_put_lem b s k r x = go x.value
     go : (v : Value) → chunk_value (job_of b) (id_of b s) s.table.0 s.step k r x v
         ≡ on (place_by s.step k x.element v) (λ e. put_by (job_of b) (id_of b s) s.table.0 e x.component r v) nothing
     go (from_column c) = picked (eqb k 0) x.element (λ e. put_cell (job_of b) (id_of b s) e x.component s.table.0 c r)
-    go (fromGroup c) = refl
+    go (from_group c) = refl
     go (from_code t) = picked (eqb k 0) x.element (λ e. put_text e x.component t)
 
 module _ (b : List ℕ) (s : Planned) (k r : ℕ) (x : ElementPlan) where
@@ -206,7 +206,7 @@ element_parts b s k r x = ap (λ (p : Put). p.parts) (element_put_lem b s k r x)
     part : (e : ℕ) (v : Value) → (put_by (job_of b) (id_of b s) s.table.0 e x.component r v).parts
         ≡ part_at e x.component (text_by (job_of b) (id_of b s) s.table.0 e x.component r v).text ∷ []
     part e (from_column c) = refl
-    part e (fromGroup c) = refl
+    part e (from_group c) = refl
     part e (from_code t) = refl
 
     go : (o : Option ℕ) → (on o (λ e. put_at b s e r x) nothing).parts ≡ on o (λ e. part_at e x.component (text_in b s e r x).text ∷ []) []

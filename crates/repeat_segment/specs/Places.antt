@@ -1,7 +1,7 @@
 -- Where a planned element of a repeat segment puts its text for a row, and which text (emit's `chunk_value`, taken apart).
 use Rattle.std.specs.Prelude.{ℕ, zero, suc, ◌+◌, ◌*◌, ◌<◌, ◌≡◌, List, [], ◌∷◌, ◌++◌, Bool, true, false, eqb, ltb, get_or}
 use Rattle.std.proofs.Math.Option.{Option, none, some}
-use Rattle.format.specs.Plan.{Value, from_column, fromGroup, from_code, ElementPlan}
+use Rattle.format.specs.Plan.{Value, from_column, from_group, from_code, ElementPlan}
 use Rattle.format.specs.Job.{Job}
 use Rattle.format.specs.Sections.{job_of}
 use Rattle.texts.specs.Reason.{Outcome, gives}
@@ -23,7 +23,7 @@ use Rattle.repeat_segment.specs.Planned.{plans_of, id_of}
 -- the place for row number k: columns and codes have one for the first row only
 abbrev pub place_by : ℕ → ℕ → ℕ → Value → Option ℕ
 place_by step k e (from_column c) = pick (eqb k 0) (some e) none
-place_by step k e (fromGroup c) = some (e + k * step)
+place_by step k e (from_group c) = some (e + k * step)
 place_by step k e (from_code text) = pick (eqb k 0) (some e) none
 
 unfoldable pub place_in : ℕ → ℕ → ElementPlan → Option ℕ
@@ -32,7 +32,7 @@ place_in step k x = place_by step k x.element x.value
 -- the text for row r at element e
 abbrev pub text_by : Job → List ℕ → ℕ → ℕ → Option ℕ → ℕ → Value → Outcome
 text_by j id t e c r (from_column n) = cell_outcome j id t r e c n
-text_by j id t e c r (fromGroup n) = cell_outcome j id t r e c n
+text_by j id t e c r (from_group n) = cell_outcome j id t r e c n
 text_by j id t e c r (from_code code) = gives code
 
 unfoldable pub text_in : List ℕ → Planned → ℕ → ℕ → ElementPlan → Outcome
@@ -53,7 +53,7 @@ entries_in (OfCode c) = 0
 -- what an element puts at e
 abbrev pub put_by : Job → List ℕ → ℕ → ℕ → Option ℕ → ℕ → Value → Put
 put_by j id t e c r (from_column n) = put_cell j id e c t n r
-put_by j id t e c r (fromGroup n) = put_cell j id e c t n r
+put_by j id t e c r (from_group n) = put_cell j id e c t n r
 put_by j id t e c r (from_code code) = put_text e c code
 
 unfoldable pub put_at : List ℕ → Planned → ℕ → ℕ → ElementPlan → Put

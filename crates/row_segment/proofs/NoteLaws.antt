@@ -7,7 +7,7 @@ use native.Mathlib.Omega.{arith}
 use lib.ListN.{length}
 use Rattle.lent.specs.Fit.{cap, base, wide, more, StoredAt}
 use Rattle.lent.proofs.Laws.{stored_none, stored_append, stored_length, stored_small}
-use Rattle.format.specs.Plan.{ElementPlan, Value, from_column, fromGroup, from_code}
+use Rattle.format.specs.Plan.{ElementPlan, Value, from_column, from_group, from_code}
 use Rattle.format.specs.Sections.{job_of}
 use Rattle.spec.specs.declared.ids.Stretch.{Stretch}
 use Rattle.spec.specs.Answers.{number_of}
@@ -74,7 +74,7 @@ entries_few b x (e ∷ es) = let r = entries_few b x es in let q = one e.value i
   where
     one : (v : Value) → (element_put b x (record { element = e.element; component = e.component; value = v })).entries ≤ 1
     one (from_column c) = omega arith
-    one (fromGroup c) = omega arith
+    one (from_group c) = omega arith
     one (from_code c) = omega arith
 
 pub puts_few : (b : List ℕ) (x : Line) → (puts b x 0).entries ≤ length (plans b x)

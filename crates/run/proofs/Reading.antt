@@ -61,8 +61,8 @@ unfolding loops_in outside
 items_small n [] h e k q = absurd (omega arith)
 items_small n (L.segment_item i ∷ os) h e zero q = omega arith
 items_small n (L.segment_item i ∷ os) h e (suc k) q = items_small n os h e k (omega arith)
-items_small n (L.loopItem l ∷ os) h e zero q = let y : l < n = leb-false _ _ (none_in (outside n) (l ∷ loops_in os) e 0 0 (omega arith)) in omega arith
-items_small n (L.loopItem l ∷ os) h e (suc k) q = items_small n os h (none_after (outside n) l (loops_in os) e) k (omega arith)
+items_small n (L.loop_item l ∷ os) h e zero q = let y : l < n = leb-false _ _ (none_in (outside n) (l ∷ loops_in os) e 0 0 (omega arith)) in omega arith
+items_small n (L.loop_item l ∷ os) h e (suc k) q = items_small n os h (none_after (outside n) l (loops_in os) e) k (omega arith)
 
 module _ (b : List ℕ) (w : Passed b) where
   abbrev J : Job

@@ -182,22 +182,22 @@ module _ (o : Outline) (l i : ℕ) where
   -- the repeat segments of an instance that a row opened
   module _ (t : TableId) (c : Context) (a : Bool) (ea : a ≡ has_occurrence o l i) where
     module _ (x : Owner) (e : owner_by x ≡ own_row (kind_of o l) c) where
-      gives_repeat : (u : TableId) (p : RowId) → a ≡ true → x ≡ owner.Row u p → p.0 < 4096 → t.0 < 16 → Gives o l i (from_source o l i c (O.ofRepeat t.0)) (due.Repeat t p)
+      gives_repeat : (u : TableId) (p : RowId) → a ≡ true → x ≡ owner.Row u p → p.0 < 4096 → t.0 < 16 → Gives o l i (from_source o l i c (O.of_repeat t.0)) (due.Repeat t p)
       gives_repeat u p qa q h k = record { steps = rw (← ea, ← e) (rw (qa, q) refl); few = h; table = k }
 
-      pub ownerless : a ≡ true → x ≡ owner.Nothing → Gives o l i (from_source o l i c (O.ofRepeat t.0)) due.Nothing
+      pub ownerless : a ≡ true → x ≡ owner.Nothing → Gives o l i (from_source o l i c (O.of_repeat t.0)) due.Nothing
       ownerless qa q = gives_nothing o l i _ (rw (← ea, ← e) (rw (qa, q) refl))
 
-    pub repeat_nameless : a ≡ false → Gives o l i (from_source o l i c (O.ofRepeat t.0)) due.Nothing
+    pub repeat_nameless : a ≡ false → Gives o l i (from_source o l i c (O.of_repeat t.0)) due.Nothing
     repeat_nameless qa = gives_nothing o l i _ (rw (← ea) (rw qa refl))
 
 pub repeat_there : {b idx : List ℕ} (l i : ℕ) (t : TableId) (c : Kept) (a : Bool) (x : Owner) (u : TableId) (p : RowId) → Ready b idx → Sound (outline_at b) (context_by c)
     → a ≡ has_occurrence (outline_at b) l i → owner_by x ≡ own_row (kind_of (outline_at b) l) (context_by c) → a ≡ true → x ≡ owner.Row u p → t.0 < 16
-    → Gives (outline_at b) l i (from_source (outline_at b) l i (context_by c) (O.ofRepeat t.0)) (due.Repeat t p)
+    → Gives (outline_at b) l i (from_source (outline_at b) l i (context_by c) (O.of_repeat t.0)) (due.Repeat t p)
 repeat_there {b} l i t c a x u p R h ea e qa q k = gives_repeat (outline_at b) l i t (context_by c) a ea x e u p qa q (row_few u.0 p.0 R (own_known l c x u p R h e q).1) k
 
 -- a table with a higher number than there are tables has no rows
-pub repeat_past : {b idx : List ℕ} (l i : ℕ) (t : TableId) (c : Context) → Ready b idx → 16 ≤ t.0 → Gives (outline_at b) l i (from_source (outline_at b) l i c (O.ofRepeat t.0)) due.Nothing
+pub repeat_past : {b idx : List ℕ} (l i : ℕ) (t : TableId) (c : Context) → Ready b idx → 16 ≤ t.0 → Gives (outline_at b) l i (from_source (outline_at b) l i c (O.of_repeat t.0)) due.Nothing
 unfolding repeat_rows
 repeat_past {b} l i t c R h = gives_nothing (outline_at b) l i _ (go (has_occurrence (outline_at b) l i) (own_row (kind_of (outline_at b) l) c))
   where

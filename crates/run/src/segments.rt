@@ -1,6 +1,6 @@
 // What a planned segment gives in an instance.
 ghost use Rattle.std.specs.Prelude.{◌≡◌, cond, ◌&&◌, [], ◌∷◌, ℕ, ◌<◌};
-ghost use Rattle.nest.specs.Outline.{of_row, ofRepeat, loop_of, has_occurrence};
+ghost use Rattle.nest.specs.Outline.{of_row, of_repeat, loop_of, has_occurrence};
 ghost use Rattle.plan.specs.Planned.{PlannedIs};
 ghost use Rattle.nest.specs.Ready.{Ready, outline_at};
 ghost use Rattle.walk.specs.Contexts.{context_by};
@@ -87,7 +87,7 @@ fn repeat_due(
     c: Context,
 ) -> Due
     requires { Ready job.now index.now × Sound (outline_at job.now) (context_by c) × (l.0 < 32) × PlannedIs job.now l.0 i s }
-    ensures { Gives (outline_at job.now) l.0 i (from_source (outline_at job.now) l.0 i (context_by c) (ofRepeat t.0)) result }
+    ensures { Gives (outline_at job.now) l.0 i (from_source (outline_at job.now) l.0 i (context_by c) (of_repeat t.0)) result }
 {
     if 16 <= t.0 {
         return Due::Nothing;

@@ -1,7 +1,7 @@
 -- What the answers of the accessors stand for.
 use Rattle.std.specs.Prelude.{ℕ, ◌+◌, ◌≤◌, ◌<◌, ◌≡◌, List, Bool, true, false, length, take, drop}
 use Rattle.std.proofs.Math.Option.{Option, none, some}
-use Rattle.format.specs.Spec.{Usage, required, situational, Counted, count_segments, countChildren, Control}
+use Rattle.format.specs.Spec.{Usage, required, situational, Counted, count_segments, count_children, Control}
 use Rattle.spec.specs.declared.ids.Stretch.{Stretch}
 use Rattle.spec.specs.declared.ids.Number.{Number}
 use Rattle.spec.specs.declared.ids.Number.TheVariants as number
@@ -50,7 +50,7 @@ pub record HoldsText (b : List ℕ) (t : Text) (v : Option (List ℕ)) : Type 0 
 
 abbrev pub counted_of : Bool → Counted
 counted_of false = count_segments
-counted_of true = countChildren
+counted_of true = count_children
 
 abbrev pub rule_of : ControlRule → Control
 rule_of c = record { opener = c.opener; closer = c.closer; count = c.count; counted = counted_of c.children }

@@ -10,7 +10,7 @@ use Rattle.codec.specs.Ways.{count_is}
 use Rattle.codec.specs.Forms.{num_c, bytes_c, opt_c}
 use Rattle.codec.specs.Maps.{num_map_c, is_num_map}
 use Rattle.codec.specs.Field.{is_list, is_pair, is_le}
-use Rattle.format.specs.Spec.{Kind, kind_an, kindId, kind_n, kindR, kind_dt, kindTm, kind_c, ElementDef, element_c, component_c, SegmentDef, segment_c}
+use Rattle.format.specs.Spec.{Kind, kind_an, kind_id, kind_n, kind_r, kind_dt, kind_tm, kind_c, ElementDef, element_c, component_c, SegmentDef, segment_c}
 use Rattle.format.specs.Fields.{is_element, kind_tag}
 use Rattle.format.specs.Sections.{plan_start}
 use Rattle.spec.specs.Answers.{Holds, HoldsText, number_of}
@@ -28,11 +28,11 @@ pub record Entries (b : List ℕ) (c : Elements) (xs : SegmentDef) : Type 0 wher
 -- kind N alone is padded with zeros
 abbrev pub is_numeric : Kind → Bool
 is_numeric kind_an = false
-is_numeric kindId = false
+is_numeric kind_id = false
 is_numeric (kind_n n) = true
-is_numeric (kindR n) = false
+is_numeric (kind_r n) = false
 is_numeric kind_dt = false
-is_numeric kindTm = false
+is_numeric kind_tm = false
 
 abbrev pub first_of : List (List ℕ) → Option (List ℕ)
 first_of [] = none
@@ -50,27 +50,27 @@ pub record ElementSays (b : List ℕ) (r : Element) (x : ℕ × ElementDef) : Ty
 module _ (b : List ℕ) (at : ℕ) where
   pub numeric_low : get_or b at 0 < 2 → (e : ℕ) (v : Kind) → Is kind_c b e at v → false ≡ is_numeric v
   numeric_low h e kind_an i = refl
-  numeric_low h e kindId i = refl
+  numeric_low h e kind_id i = refl
   numeric_low h e (kind_n n) i = absurd (omega (arith, kind_tag b e at (kind_n n) i))
-  numeric_low h e (kindR n) i = absurd (omega (arith, kind_tag b e at (kindR n) i))
+  numeric_low h e (kind_r n) i = absurd (omega (arith, kind_tag b e at (kind_r n) i))
   numeric_low h e kind_dt i = refl
-  numeric_low h e kindTm i = refl
+  numeric_low h e kind_tm i = refl
 
   pub numeric_is : 2 ≤ get_or b at 0 → get_or b at 0 < 3 → (e : ℕ) (v : Kind) → Is kind_c b e at v → true ≡ is_numeric v
   numeric_is h k e kind_an i = absurd (omega (arith, kind_tag b e at kind_an i))
-  numeric_is h k e kindId i = absurd (omega (arith, kind_tag b e at kindId i))
+  numeric_is h k e kind_id i = absurd (omega (arith, kind_tag b e at kind_id i))
   numeric_is h k e (kind_n n) i = refl
-  numeric_is h k e (kindR n) i = absurd (omega (arith, kind_tag b e at (kindR n) i))
+  numeric_is h k e (kind_r n) i = absurd (omega (arith, kind_tag b e at (kind_r n) i))
   numeric_is h k e kind_dt i = absurd (omega (arith, kind_tag b e at kind_dt i))
-  numeric_is h k e kindTm i = absurd (omega (arith, kind_tag b e at kindTm i))
+  numeric_is h k e kind_tm i = absurd (omega (arith, kind_tag b e at kind_tm i))
 
   pub numeric_high : 3 ≤ get_or b at 0 → (e : ℕ) (v : Kind) → Is kind_c b e at v → false ≡ is_numeric v
   numeric_high h e kind_an i = refl
-  numeric_high h e kindId i = refl
+  numeric_high h e kind_id i = refl
   numeric_high h e (kind_n n) i = absurd (omega (arith, kind_tag b e at (kind_n n) i))
-  numeric_high h e (kindR n) i = refl
+  numeric_high h e (kind_r n) i = refl
   numeric_high h e kind_dt i = refl
-  numeric_high h e kindTm i = refl
+  numeric_high h e kind_tm i = refl
 
   -- the first code of a list that stands at a place
   pub code_none : (n : ℕ) → n ≡ le 4 b at → n ≡ 0 → (e : ℕ) (vs : List (List ℕ)) → Is (list_c bytes_c) b e at vs → HoldsText b text.None (first_of vs)

@@ -12,7 +12,7 @@ use Rattle.codec.specs.Skip.{Is, skip, steps, skip_le}
 use Rattle.codec.specs.Forms.{num_c, byte_c, bytes_c, opt_c, flag_c}
 use Rattle.codec.specs.Field.{is_enum, is_map, is_le, is_list, is_some, is_none, is_in, room_of, item_of}
 use Rattle.codec.specs.Answers.{byte_item}
-use Rattle.format.specs.Spec.{Usage, required, situational, usage_c, Counted, count_segments, countChildren, counted_c, Control, control_c, Repeat, repeat_c}
+use Rattle.format.specs.Spec.{Usage, required, situational, usage_c, Counted, count_segments, count_children, counted_c, Control, control_c, Repeat, repeat_c}
 use Rattle.format.specs.Fields.{is_control, is_repeat, usage_tag, counted_tag}
 use Rattle.format.specs.Ask.{on}
 use Rattle.spec.specs.Answers.{stretch_of, Holds, number_of, HoldsText, counted_of, control_of, is_required}
@@ -173,7 +173,7 @@ module _ (b : List ℕ) (at : ℕ) where
 
   counted_is : (x : Bool) (v : Counted) (e p : ℕ) → ByteSays b p x → Is counted_c b e p v → counted_of x ≡ v
   counted_is x count_segments e p h i = rw (h.unset (counted_tag b e p count_segments i))
-  counted_is x countChildren e p h i = rw (h.set (λ q. omega (arith, counted_tag b e p countChildren i)))
+  counted_is x count_children e p h i = rw (h.set (λ q. omega (arith, counted_tag b e p count_children i)))
 
   pub control_is : (c : ControlRule) → (get_or b at 0 ≡ 0 → ⊥) → c.opener ≡ le 4 b (at + 1) → c.closer ≡ le 4 b (at + 5) → c.count ≡ le 4 b (at + 9) → ByteSays b (at + 13) c.children
       → (e : ℕ) (v : Option Control) → Reads (opt_c control_c) b e at none v → control_of (control.Is c) ≡ v

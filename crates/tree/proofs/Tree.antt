@@ -16,7 +16,7 @@ use Rattle.codec.specs.Ways.{tag_in, tag_case}
 use Rattle.codec.specs.Limits.{any_of}
 use Rattle.format.specs.Words.{member_of, repeats}
 use Rattle.format.specs.Spec.{Loop, loop_c, no_loop}
-use Rattle.format.specs.Layout.{Item, segment_item, loopItem, item_c}
+use Rattle.format.specs.Layout.{Item, segment_item, loop_item, item_c}
 use Rattle.format.specs.Fields.{loop_children, item_tag, is_loop_item, is_loop}
 use Rattle.format.specs.Refusal.{loop_at, loops_in, outside}
 use Rattle.says.specs.Says.{Says, SaysRest, SaysBefore}
@@ -41,21 +41,21 @@ module _ (b : List ℕ) (e at t : ℕ) (f : ℕ → Bool) where
   item_there p r h i q s (segment_item x) k =
       let l : at < e = tag_case b at e 1 (sym h ∙ i) (omega arith) in
       absurd (omega (arith, item_tag b e at (segment_item x) k, tag_in b at e l))
-  item_there p r h i q s (loopItem x) k =
+  item_there p r h i q s (loop_item x) k =
       let l : at < e = tag_case b at e 1 (sym h ∙ i) (omega arith) in
       s x (rw (q, skip_le 1 b at e (omega arith)) (is_loop_item b e at x k))
 
   pub item_not : t ≡ tag_at b at e → (t ≡ 1 → ⊥) → Says item_c b e at (on_loop f) false
   item_not h i (segment_item x) k = refl
-  item_not h i (loopItem x) k =
+  item_not h i (loop_item x) k =
       let l : at + 1 ≤ e = is_in num_c b e (at + 1) x (is_loop_item b e at x k) in
-      absurd (i (h ∙ tag_in b at e (omega arith) ∙ item_tag b e at (loopItem x) k))
+      absurd (i (h ∙ tag_in b at e (omega arith) ∙ item_tag b e at (loop_item x) k))
 
 pub loops_any : (f : ℕ → Bool) (o : List Item) → any_of (on_loop f) o ≡ any_of f (loops_in o)
 unfolding any_of loops_in
 loops_any f [] = refl
 loops_any f (segment_item x ∷ is) = loops_any f is
-loops_any f (loopItem x ∷ is) = rw (loops_any f is)
+loops_any f (loop_item x ∷ is) = rw (loops_any f is)
 
 -- ---- the loop of a number: n loops stand at the place
 module _ {B : Type 0} (b : List ℕ) (e at n i : ℕ) (f : Loop → B) (r : B) (h : n ≡ count_at b at e) where

@@ -4,14 +4,14 @@ use Rattle.codec.specs.Codec.{le_c}
 use Rattle.codec.specs.Limits.{any, any_of}
 use Rattle.codec.specs.Skip.{count_at, skip, steps}
 use Rattle.format.specs.Fields.{loop_children}
-use Rattle.format.specs.Layout.{Item, segment_item, loopItem}
+use Rattle.format.specs.Layout.{Item, segment_item, loop_item}
 use Rattle.format.specs.Refusal.{outside, outside_loop, outside_table}
 use Rattle.format.specs.Spec.{loop_c, Spec}
 
 -- a test of the loops that an order names
 abbrev pub on_loop : (ℕ → Bool) → Item → Bool
 on_loop f (segment_item k) = false
-on_loop f (loopItem l) = f l
+on_loop f (loop_item l) = f l
 
 -- ps has, pair by pair, the places of the loops that stand at a place and of their children, of the first ones where it is shorter
 unfoldable pub Placed : List ℕ → ℕ → ℕ → List ℕ → Type 0

@@ -10,7 +10,7 @@ use lib.ListN.{length, get_or, take, replicate, length-append, length-replicate}
 use borrow.Author.Tests.{eq-eqb, ne_eqb, lt-ltb, le-ltb, ltb-false}
 use Rattle.codec.specs.Codec.{pick as codec-pick}
 use Rattle.codec.specs.Maps.{rises_from}
-use Rattle.format.specs.Spec.{Kind, kind_an, kindId, kind_n, kindR, kind_dt, kindTm, Control, ElementDef, SegmentDef}
+use Rattle.format.specs.Spec.{Kind, kind_an, kind_id, kind_n, kind_r, kind_dt, kind_tm, Control, ElementDef, SegmentDef}
 use Rattle.format.specs.Job.{Job}
 use Rattle.format.specs.Sections.{job_of}
 use Rattle.format.specs.Refusal.{separators}
@@ -112,11 +112,11 @@ raw_value job v d (suc n) h e f = rw (e, f, append-nil (stretch job v.start v.le
 
 numeric_is : (k : Kind) → cursor.is_numeric k ≡ is_numeric k
 numeric_is kind_an = refl
-numeric_is kindId = refl
+numeric_is kind_id = refl
 numeric_is (kind_n n) = refl
-numeric_is (kindR n) = refl
+numeric_is (kind_r n) = refl
 numeric_is kind_dt = refl
-numeric_is kindTm = refl
+numeric_is kind_tm = refl
 
 pub padded_is : {b : List ℕ} {x : Element} (y : ℕ × ElementDef) (reason : ℕ) (text whole : List ℕ) (min : Min) (max : Max) → ElementSays b x y → reason ≤ 0 → min ≡ min_in (number_of x.min) → max ≡ max_in (number_of x.max)
     → whole ≡ padded x.numeric min max text → whole ≡ padded_to y.1 reason text

@@ -9,7 +9,7 @@ use native.Mathlib.Omega.{arith}
 use lib.ListN.{length}
 use lib.Dec.{ltb}
 use Rattle.nest.specs.Lists.{each, on, sum}
-use Rattle.nest.specs.Outline.{Outline, Source, of_envelope, of_row, ofRepeat, Item, segment, loop, item_loops, loop_of, kind_of, order_of, segment_of, planned, has_occurrence, row_count}
+use Rattle.nest.specs.Outline.{Outline, Source, of_envelope, of_row, of_repeat, Item, segment, loop, item_loops, loop_of, kind_of, order_of, segment_of, planned, has_occurrence, row_count}
 use Rattle.nest.specs.Nest.{Row, hook, hooked, repeat_rows}
 use Rattle.nest.proofs.Sums.{sum_append, sum_each, sum_map, sum_same, sum_zero}
 use Rattle.nest.proofs.Scan.{keep_length}
@@ -94,7 +94,7 @@ module _ (j : Outline) (R W : ℕ) (f : Step → ℕ) (C : Counted j R f) where
       by_source : (s : Source) → sum f (from_source j l i c s) ≤ suc R
       by_source of_envelope = choose (opener l) (loop_of j l).controlled (C.opening l)
       by_source (of_row t) = given t (c.row t)
-      by_source (ofRepeat t) = fits t (has_occurrence j l i)
+      by_source (of_repeat t) = fits t (has_occurrence j l i)
 
       go : (b : Bool) → sum f (cond b (from_source j l i c (segment_of j l i).source) []) ≤ suc R
       go true = by_source (segment_of j l i).source

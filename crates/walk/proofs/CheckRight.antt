@@ -11,7 +11,7 @@ use lib.ListN.{length, get_or-eq_default}
 use lib.Dec.{eqb, ltb}
 use borrow.Author.Tests.{eq-eqb, eqb-true, lt-ltb, le-ltb, ltb-true, le-leb, leb-true}
 use Rattle.nest.specs.Lists.{once, on, times, is, All}
-use Rattle.nest.specs.Outline.{Outline, Table, Plan, Kind, absent, envelope, implied, rows, inside, groups, row_table, Source, of_envelope, of_row, ofRepeat, no_loop, no_table, no_plan, loop_of, plan_of, table_of, parent_of, kind_of, order_of, segment_of, table_parent, plain, repeated}
+use Rattle.nest.specs.Outline.{Outline, Table, Plan, Kind, absent, envelope, implied, rows, inside, groups, row_table, Source, of_envelope, of_row, of_repeat, no_loop, no_table, no_plan, loop_of, plan_of, table_of, parent_of, kind_of, order_of, segment_of, table_parent, plain, repeated}
 use Rattle.nest.specs.Outline.{item_loops, item_segments}
 use Rattle.walk.specs.Complete.{Tree, Complete, ExactlyOne, PlansRepeat, Anchors, climbs, is_root}
 use Rattle.walk.specs.Check.{each_of, how_many, rows_of, named, repeat_table, planned, if_there, all_pass, fits, tree_tests, plan_tests, complete_ok}
@@ -170,10 +170,10 @@ module _ (j : Outline) where
   row_table_lem t (groups u) e = absurd (none-ne-some t e)
   row_table_lem t (rows u) e = ap rows (some-injective u t e)
 
-  repeat_table_lem : (t : ℕ) (s : Source) → repeat_table s ≡ some t → s ≡ ofRepeat t
+  repeat_table_lem : (t : ℕ) (s : Source) → repeat_table s ≡ some t → s ≡ of_repeat t
   repeat_table_lem t of_envelope e = absurd (none-ne-some t e)
   repeat_table_lem t (of_row u) e = absurd (none-ne-some t e)
-  repeat_table_lem t (ofRepeat u) e = ap ofRepeat (some-injective u t e)
+  repeat_table_lem t (of_repeat u) e = ap of_repeat (some-injective u t e)
 
   names : (u : ℕ) (k : Kind) → named k ≡ some u → (k ≡ rows u) ⊎ (k ≡ groups u)
   names u absent e = absurd (none-ne-some u e)
@@ -201,8 +201,8 @@ module _ (j : Outline) where
     row_loop = row_loop;
     rows_plain = λ l t e. there_is (named (kind_of j l)) (plain j) (below_true L _ t₀.1.0 l (rows_in_lem l t e)) t (ap named e);
     groups_plain = groups_plain;
-    plan_entries = plan_L;
-    order_entries = order_L;
+    plan_entries = plan_l;
+    order_entries = order_l;
     order_loops = order_loops;
     order_segments = order_segments;
     occurrences = occurrences;
@@ -218,24 +218,24 @@ module _ (j : Outline) where
       t₀ : All (λ b. b ≡ true) (plan_tests j)
       t₀ = tests_all (plan_tests j) pass
 
-      plan_L : length j.plan ≡ L
-      plan_L = eqb-true _ _ t₀.1.1.0
+      plan_l : length j.plan ≡ L
+      plan_l = eqb-true _ _ t₀.1.1.0
 
-      order_L : length j.order ≡ L
-      order_L = eqb-true _ _ t₀.1.1.1.0
+      order_l : length j.order ≡ L
+      order_l = eqb-true _ _ t₀.1.1.1.0
 
       rows_in_lem : (l t : ℕ) → kind_of j l ≡ rows t → l < L
-      rows_in_lem l t e = omega (arith, planned_range j l t e, plan_L)
+      rows_in_lem l t e = omega (arith, planned_range j l t e, plan_l)
 
-      inside_L : (l : ℕ) → (L ≤ l → ⊥) → l < L
-      inside_L l d = go (dec_lt l L)
+      inside_l : (l : ℕ) → (L ≤ l → ⊥) → l < L
+      inside_l l d = go (dec_lt l L)
         where
           go : Dec (l < L) → l < L
           go (yes h) = h
           go (no h) = absurd (d (omega arith))
 
       planned_in_lem : (l i : ℕ) → i < S l → l < L
-      planned_in_lem l i h = inside_L l (λ q. omega (arith, h, plan_out j l (omega (arith, q, plan_L))))
+      planned_in_lem l i h = inside_l l (λ q. omega (arith, h, plan_out j l (omega (arith, q, plan_l))))
 
       row_loop : (t : ℕ) → plain j t ≡ true → ExactlyOne (λ l. kind_of j l ≡ rows t)
       row_loop t p = turn (many_one L (λ l. rows_of t (kind_of j l)) (eqb-true _ _ (if_then (plain j t) _ (below_true (length j.tables) _ t₀.0 t (plain_in j t p)) p)))
@@ -244,7 +244,7 @@ module _ (j : Outline) where
           turn O = record { the = O.the; has = rows_of_lem t (kind_of j O.the) O.has; only = λ l e. O.only l (rows_in_lem l t e) (of_rows t (kind_of j l) e) }
 
       groups_in : (l t : ℕ) → kind_of j l ≡ groups t → l < L
-      groups_in l t e = inside_L l (λ q. clash (kind_out j l (omega (arith, q, plan_L))) e)
+      groups_in l t e = inside_l l (λ q. clash (kind_out j l (omega (arith, q, plan_l))) e)
         where
           clash : {k : Kind} → k ≡ absent → k ≡ groups t → ⊥
           clash y z = let n : ◌≡◌ {A = ℕ} 0 1 = cc in omega arith
@@ -270,7 +270,7 @@ module _ (j : Outline) where
           go : Dec (l < L) → Dec (i < S l) → times i (item_segments (order_of j l)) ≡ once (ltb i (S l))
           go (yes h) (yes q) = eqb-true _ _ (below_true (S l) _ (below_true L _ t₀.1.1.1.1.1.0 l h) i q) ∙ sym (ap once (lt-ltb i (S l) q))
           go (yes h) (no q) = not_listed h (omega arith) (zero_or _)
-          go (no h) d = ap (λ o. times i (item_segments o)) (order_out j l (omega (arith, order_L))) ∙ sym (ap once (le-ltb i (S l) (omega (arith, plan_out j l (omega (arith, plan_L))))))
+          go (no h) d = ap (λ o. times i (item_segments o)) (order_out j l (omega (arith, order_l))) ∙ sym (ap once (le-ltb i (S l) (omega (arith, plan_out j l (omega (arith, plan_l))))))
 
       occurrences : (l i : ℕ) → i < S l → (segment_of j l i).occurrence < (loop_of j l).occurrences
       occurrences l i h = ltb-true _ _ (below_true (S l) _ (below_true L _ t₀.1.1.1.1.1.1.1.0 l (planned_in_lem l i h)) i h)

@@ -8,7 +8,7 @@ use native.Mathlib.Omega.{arith}
 use lib.ListN.{length}
 use lib.Dec.{ltb}
 use Rattle.nest.specs.Lists.{each, on, sum}
-use Rattle.nest.specs.Outline.{Outline, Source, of_envelope, of_row, ofRepeat, Item, segment, loop, item_loops, loop_of, kind_of, order_of, segment_of, planned, has_occurrence}
+use Rattle.nest.specs.Outline.{Outline, Source, of_envelope, of_row, of_repeat, Item, segment, loop, item_loops, loop_of, kind_of, order_of, segment_of, planned, has_occurrence}
 use Rattle.nest.specs.Nest.{Row, repeat_rows}
 use Rattle.nest.proofs.Scan.{each_append}
 use Rattle.nest.proofs.NestLaws.{length_each}
@@ -119,7 +119,7 @@ segment_enters j l c i = go (ltb i (planned j l))
     by_source : (s : Source) → enters_in (from_source j l i c s) ≡ 0
     by_source of_envelope = choose begins (opener l) (loop_of j l).controlled refl
     by_source (of_row t) = given t (c.row t)
-    by_source (ofRepeat t) = fits t (has_occurrence j l i)
+    by_source (of_repeat t) = fits t (has_occurrence j l i)
 
     go : (b : Bool) → enters_in (cond b (from_source j l i c (segment_of j l i).source) []) ≡ 0
     go true = by_source (segment_of j l i).source

@@ -7,7 +7,7 @@ use mathlib.Core.List.{List, [], ◌∷◌}
 use mathlib.Core.Option.{Option, none, some}
 use lib.ListN.{get_or}
 use lib.Dec.{eqb}
-use Rattle.nest.specs.Outline.{Outline, Loop, envelope, implied, rows, inside, groups, of_envelope, of_row, ofRepeat, segment, loop, loop_of, plan_of, table_of, parent_of, kind_of, order_of, segment_of, has_occurrence, table_parent, row_count, plain, repeated}
+use Rattle.nest.specs.Outline.{Outline, Loop, envelope, implied, rows, inside, groups, of_envelope, of_row, of_repeat, segment, loop, loop_of, plan_of, table_of, parent_of, kind_of, order_of, segment_of, has_occurrence, table_parent, row_count, plain, repeated}
 use Rattle.nest.specs.Nest.{has_keys, first_row, referred, depth, anchors, claim_in, hook, hangs, held, repeat_rows, nest_record, table_array, nest_array}
 use Rattle.nest.specs.Finding.{missing, mismatch}
 use Rattle.nest.specs.NestFindings.{duplicate_at, duplicates, contradiction_at, contradictions, missing_at, row_findings, table_findings, nest_findings}
@@ -32,10 +32,10 @@ kinds = record {
       ∷ record { loops = 2 ∷ 5 ∷ []; repeats = true; parent = none; ancestors = 0 ∷ 1 ∷ [] } ∷ [];
   plan = record { instances = envelope; segments = record { occurrence = 0; source = of_envelope } ∷ [] }
       ∷ record { instances = groups 0; segments = [] }
-      ∷ record { instances = rows 0; segments = record { occurrence = 0; source = of_row 0 } ∷ record { occurrence = 1; source = ofRepeat 2 } ∷ [] }
+      ∷ record { instances = rows 0; segments = record { occurrence = 0; source = of_row 0 } ∷ record { occurrence = 1; source = of_repeat 2 } ∷ [] }
       ∷ record { instances = inside 0; segments = record { occurrence = 0; source = of_row 0 } ∷ [] }
       ∷ record { instances = implied; segments = [] }
-      ∷ record { instances = rows 1; segments = record { occurrence = 0; source = of_row 1 } ∷ record { occurrence = 1; source = ofRepeat 2 } ∷ [] } ∷ [];
+      ∷ record { instances = rows 1; segments = record { occurrence = 0; source = of_row 1 } ∷ record { occurrence = 1; source = of_repeat 2 } ∷ [] } ∷ [];
   order = (segment 0 ∷ loop 1 ∷ []) ∷ (loop 2 ∷ []) ∷ (segment 0 ∷ segment 1 ∷ loop 3 ∷ loop 4 ∷ []) ∷ (segment 0 ∷ []) ∷ (loop 5 ∷ []) ∷ (segment 0 ∷ segment 1 ∷ []) ∷ [];
   row_counts = 3 ∷ 2 ∷ 6 ∷ [];
   key = cells ((10 ∷ 11 ∷ 12 ∷ []) ∷ (0 ∷ 1 ∷ []) ∷ (0 ∷ 1 ∷ 2 ∷ 3 ∷ 4 ∷ 5 ∷ []) ∷ []) 0;

@@ -10,7 +10,7 @@ use lib.ListN.{length}
 use lib.Dec.{ltb, eqb, leb}
 use borrow.Author.Tests.{eq-eqb, ne_eqb, eqb-true, eqb-false, lt-ltb, ltb-true}
 use Rattle.nest.specs.Lists.{once, each, on, sum, times, All}
-use Rattle.nest.specs.Outline.{Outline, Kind, absent, envelope, implied, rows, inside, groups, Source, of_envelope, of_row, ofRepeat, loop_of, plan_of, table_of, kind_of, order_of, segment_of, has_occurrence, row_count, plain, repeated}
+use Rattle.nest.specs.Outline.{Outline, Kind, absent, envelope, implied, rows, inside, groups, Source, of_envelope, of_row, of_repeat, loop_of, plan_of, table_of, kind_of, order_of, segment_of, has_occurrence, row_count, plain, repeated}
 use Rattle.nest.specs.Nest.{Anchor, anchor_at, insert, anchors, depth_of, Hook, hook_on, Claim, claim_on, claim_in, settle, hook, hooked, first_row, repeat_rows, Row, row_of}
 use Rattle.walk.specs.Instances.{Context, in_row}
 use Rattle.walk.proofs.Counts.{row_steps_sum}
@@ -63,24 +63,24 @@ module _ (j : Outline) (t r : ℕ) (exists : r < row_count j t) where
   repeat_other l i v o d = repeat_stops l i v o ∙ sum_zero _ (repeat_rows j v l o) (λ x. ap (λ b. once (b && eqb x r)) (ne_eqb v t d))
 
   -- all of a segment's stops are of its repeat table
-  segment_zero : (l i : ℕ) (c : Context) → ((o : ℕ) → (segment_of j l i).source ≡ ofRepeat t → hooked (hook j t r) l o ≡ false) → stops_of t r (segment_steps j l c i) ≡ 0
+  segment_zero : (l i : ℕ) (c : Context) → ((o : ℕ) → (segment_of j l i).source ≡ of_repeat t → hooked (hook j t r) l o ≡ false) → stops_of t r (segment_steps j l c i) ≡ 0
   unfolding segment_steps
   segment_zero l i c z = go (ltb i (length (plan_of j l).segments))
     where
-      repeats : (v : ℕ) → (segment_of j l i).source ≡ ofRepeat v → (o : ℕ) → stops_of t r (repeat_steps j l i v o) ≡ 0
+      repeats : (v : ℕ) → (segment_of j l i).source ≡ of_repeat v → (o : ℕ) → stops_of t r (repeat_steps j l i v o) ≡ 0
       repeats v e o = same (eqb v t) refl
         where
           same : (b : Bool) → eqb v t ≡ b → stops_of t r (repeat_steps j l i v o) ≡ 0
           same true q =
               let v-t : v ≡ t = eqb-true v t q in
-              subst (λ y. stops_of t r (repeat_steps j l i y o) ≡ 0) (sym v-t) (repeat_here l i o ∙ ap once (z o (e ∙ ap ofRepeat v-t)))
+              subst (λ y. stops_of t r (repeat_steps j l i y o) ≡ 0) (sym v-t) (repeat_here l i o ∙ ap once (z o (e ∙ ap of_repeat v-t)))
           same false q = repeat_other l i v o (eqb-false v t q)
 
-      owned : (v : ℕ) → (segment_of j l i).source ≡ ofRepeat v → (x : Option Row) → stops_of t r (on x (λ p. repeat_steps j l i v p.row) []) ≡ 0
+      owned : (v : ℕ) → (segment_of j l i).source ≡ of_repeat v → (x : Option Row) → stops_of t r (on x (λ p. repeat_steps j l i v p.row) []) ≡ 0
       owned v e none = refl
       owned v e (some p) = repeats v e p.row
 
-      fits : (v : ℕ) → (segment_of j l i).source ≡ ofRepeat v → (b : Bool) → stops_of t r (cond b (on (own_row (kind_of j l) c) (λ p. repeat_steps j l i v p.row) []) []) ≡ 0
+      fits : (v : ℕ) → (segment_of j l i).source ≡ of_repeat v → (b : Bool) → stops_of t r (cond b (on (own_row (kind_of j l) c) (λ p. repeat_steps j l i v p.row) []) []) ≡ 0
       fits v e true = owned v e (own_row (kind_of j l) c)
       fits v e false = refl
 
@@ -99,7 +99,7 @@ module _ (j : Outline) (t r : ℕ) (exists : r < row_count j t) where
       by_source : (s : Source) → (segment_of j l i).source ≡ s → stops_of t r (from_source j l i c s) ≡ 0
       by_source of_envelope e = choose (loop_of j l).controlled
       by_source (of_row v) e = row_given v (c.row v)
-      by_source (ofRepeat v) e = fits v e (has_occurrence j l i)
+      by_source (of_repeat v) e = fits v e (has_occurrence j l i)
 
       go : (b : Bool) → stops_of t r (cond b (from_source j l i c (segment_of j l i).source) []) ≡ 0
       go true = by_source (segment_of j l i).source refl

@@ -10,7 +10,7 @@ use lib.ListN.{length, take, drop}
 use lib.Dec.{ltb, eqb, leb}
 use borrow.Author.Tests.{eqb-true, ltb-true}
 use Rattle.nest.specs.Lists.{each, on, from, keep, part, All, is}
-use Rattle.nest.specs.Outline.{Outline, Kind, absent, envelope, implied, rows, inside, groups, Source, of_envelope, of_row, ofRepeat, Item, segment, loop, loop_of, plan_of, kind_of, order_of, segment_of, has_occurrence, table_parent, row_count, plain, repeated}
+use Rattle.nest.specs.Outline.{Outline, Kind, absent, envelope, implied, rows, inside, groups, Source, of_envelope, of_row, of_repeat, Item, segment, loop, loop_of, plan_of, kind_of, order_of, segment_of, has_occurrence, table_parent, row_count, plain, repeated}
 use Rattle.nest.specs.Nest.{Hook, hook, hooked, repeat_rows, referred, held, Row}
 use Rattle.walk.specs.Instances.{Context, Run, outside, in_row, rows_in, held_in, cut_to, instances, by_kind}
 use Rattle.walk.specs.Tour.{Step, stop, opener, row_segment, fill, chunk, closer, segments_in, stop_at, own_row, chunks, chunks_of, row_steps, chunk_steps, repeat_steps, due_row, from_source, segment_steps, item_steps, body_steps, opened, close_steps, instance_steps, visits, tour_to, tour}
@@ -145,7 +145,7 @@ module _ (j : Outline) (C : Complete j) where
       by_source : (s : Source) → All R (from_source j l i c s)
       by_source of_envelope = choose (loop_of j l).controlled
       by_source (of_row t) = given t (c.row t)
-      by_source (ofRepeat t) = fits t (has_occurrence j l i)
+      by_source (of_repeat t) = fits t (has_occurrence j l i)
 
       go : (b : Bool) → All R (cond b (from_source j l i c (segment_of j l i).source) [])
       go true = by_source (segment_of j l i).source

@@ -10,7 +10,7 @@ use lib.ListN.{length, drop, get_or, drop_of_length-le}
 use lib.Dec.{ltb}
 use borrow.Author.Tests.{lt-ltb, le-ltb}
 use Rattle.nest.specs.Lists.{each, some_of, is_empty_list, on, sum}
-use Rattle.nest.specs.Outline.{Outline, Kind, absent, envelope, implied, rows, inside, groups, row_table, Source, of_envelope, of_row, ofRepeat, Item, segment, loop, item_loops, loop_of, kind_of, order_of, segment_of, planned, has_occurrence}
+use Rattle.nest.specs.Outline.{Outline, Kind, absent, envelope, implied, rows, inside, groups, row_table, Source, of_envelope, of_row, of_repeat, Item, segment, loop, item_loops, loop_of, kind_of, order_of, segment_of, planned, has_occurrence}
 use Rattle.nest.specs.Nest.{row_of, repeat_rows}
 use Rattle.nest.proofs.Scan.{each_map, drop_next, some_at, some_not_at, some_past}
 use Rattle.walk.specs.Instances.{Context, Piece, outside, pieces, pieces_of, in_row, in_piece, shown, rows_in, by_kind, instances}
@@ -227,7 +227,7 @@ segment_skipped j l c i t r h s e d = rw (lt-ltb i (planned j l) h, s) (rw e (rw
     go false = refl
 
 -- the loop has no such occurrence: neither a row segment nor a repeat segment
-pub segment_nameless : (j : Outline) (l : ℕ) (c : Context) (i t : ℕ) → i < planned j l → ((segment_of j l i).source ≡ of_row t) ⊎ ((segment_of j l i).source ≡ ofRepeat t) → has_occurrence j l i ≡ false
+pub segment_nameless : (j : Outline) (l : ℕ) (c : Context) (i t : ℕ) → i < planned j l → ((segment_of j l i).source ≡ of_row t) ⊎ ((segment_of j l i).source ≡ of_repeat t) → has_occurrence j l i ≡ false
     → segment_steps j l c i ≡ []
 unfolding segment_steps
 segment_nameless j l c i t h (inl s) q = rw (lt-ltb i (planned j l) h, s) (rw q (go (c.row t)))
@@ -237,7 +237,7 @@ segment_nameless j l c i t h (inl s) q = rw (lt-ltb i (planned j l) h, s) (rw q 
     go (some r) = refl
 segment_nameless j l c i t h (inr s) q = rw (lt-ltb i (planned j l) h, s) (rw q)
 
-pub segment_ownerless : (j : Outline) (l : ℕ) (c : Context) (i t : ℕ) → i < planned j l → (segment_of j l i).source ≡ ofRepeat t → own_row (kind_of j l) c ≡ none → segment_steps j l c i ≡ []
+pub segment_ownerless : (j : Outline) (l : ℕ) (c : Context) (i t : ℕ) → i < planned j l → (segment_of j l i).source ≡ of_repeat t → own_row (kind_of j l) c ≡ none → segment_steps j l c i ≡ []
 unfolding segment_steps
 segment_ownerless j l c i t h s e = rw (lt-ltb i (planned j l) h, s) (rw e (go (has_occurrence j l i)))
   where
@@ -245,7 +245,7 @@ segment_ownerless j l c i t h s e = rw (lt-ltb i (planned j l) h, s) (rw e (go (
     go true = refl
     go false = refl
 
-pub segment_repeat : (j : Outline) (l : ℕ) (c : Context) (i t u p : ℕ) → i < planned j l → (segment_of j l i).source ≡ ofRepeat t → has_occurrence j l i ≡ true → kind_of j l ≡ rows u → c.row u ≡ some p
+pub segment_repeat : (j : Outline) (l : ℕ) (c : Context) (i t u p : ℕ) → i < planned j l → (segment_of j l i).source ≡ of_repeat t → has_occurrence j l i ≡ true → kind_of j l ≡ rows u → c.row u ≡ some p
     → segment_steps j l c i ≡ repeat_steps j l i t p
 unfolding segment_steps
 segment_repeat j l c i t u p h s q e o = rw (lt-ltb i (planned j l) h, s) (rw (q, e) (rw o))

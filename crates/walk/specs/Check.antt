@@ -2,7 +2,7 @@
 use Rattle.std.specs.Prelude.{ℕ, zero, suc, ◌+◌, Bool, true, false, not, ◌&&◌, ◌||◌, List, [], ◌∷◌, length, eqb, ltb, leb}
 use Rattle.std.proofs.Math.Option.{Option, none, some}
 use Rattle.nest.specs.Lists.{once, on, times, is}
-use Rattle.nest.specs.Outline.{Outline, Kind, rows, absent, envelope, implied, inside, groups, row_table, Source, of_envelope, of_row, ofRepeat, item_loops, item_segments, loop_of, plan_of, table_of, parent_of, kind_of, order_of, segment_of, table_parent, plain, repeated}
+use Rattle.nest.specs.Outline.{Outline, Kind, rows, absent, envelope, implied, inside, groups, row_table, Source, of_envelope, of_row, of_repeat, item_loops, item_segments, loop_of, plan_of, table_of, parent_of, kind_of, order_of, segment_of, table_parent, plain, repeated}
 use Rattle.walk.specs.Complete.{climbs, is_root}
 
 -- ---- tests over numbers and lists
@@ -34,7 +34,7 @@ named (groups u) = some u
 abbrev pub repeat_table : Source → Option ℕ
 repeat_table of_envelope = none
 repeat_table (of_row t) = none
-repeat_table (ofRepeat t) = some t
+repeat_table (of_repeat t) = some t
 
 -- how many segments a loop plans
 abbrev pub planned : Outline → ℕ → ℕ

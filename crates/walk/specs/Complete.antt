@@ -3,7 +3,7 @@
 use Rattle.std.specs.Prelude.{ℕ, zero, suc, ◌≤◌, ◌<◌, ◌≡◌, ◌⊎◌, Bool, true, false, ◌&&◌, length, ltb, eqb}
 use Rattle.std.proofs.Math.Option.{some}
 use Rattle.nest.specs.Lists.{once, on, times, is}
-use Rattle.nest.specs.Outline.{Outline, Kind, rows, absent, envelope, implied, inside, groups, ofRepeat, item_loops, item_segments, loop_of, plan_of, table_of, parent_of, kind_of, order_of, segment_of, table_parent, plain, repeated}
+use Rattle.nest.specs.Outline.{Outline, Kind, rows, absent, envelope, implied, inside, groups, of_repeat, item_loops, item_segments, loop_of, plan_of, table_of, parent_of, kind_of, order_of, segment_of, table_parent, plain, repeated}
 
 pub record ExactlyOne (P : ℕ → Type 0) : Type 0 where
   pub the : ℕ
@@ -62,7 +62,7 @@ between t (groups u) = eqb u t
 -- loop l plans segment i as a repeat segment of table t
 pub record PlansRepeat (j : Outline) (l t i : ℕ) : Type 0 where
   pub planned : i < length (plan_of j l).segments
-  pub of_table : (segment_of j l i).source ≡ ofRepeat t
+  pub of_table : (segment_of j l i).source ≡ of_repeat t
 
 -- below g, row loop m of table u comes at or above l, with nothing else between
 pub record GroupEnds (j : Outline) (g u l : ℕ) : Type 0 where

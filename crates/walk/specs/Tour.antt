@@ -4,7 +4,7 @@ use Rattle.std.specs.Prelude.{ℕ, zero, suc, ◌+◌, ◌-◌, max, Bool, true,
 use Rattle.std.proofs.Math.Option
 use Rattle.std.proofs.Math.Option.{Option, none, some}
 use Rattle.nest.specs.Lists.{each, some_of, on, sum}
-use Rattle.nest.specs.Outline.{Outline, Kind, row_table, Source, of_envelope, of_row, ofRepeat, Item, segment, loop, item_loops, loop_of, plan_of, kind_of, order_of, segment_of, planned, has_occurrence}
+use Rattle.nest.specs.Outline.{Outline, Kind, row_table, Source, of_envelope, of_row, of_repeat, Item, segment, loop, item_loops, loop_of, plan_of, kind_of, order_of, segment_of, planned, has_occurrence}
 use Rattle.nest.specs.Nest.{Row, row_of, repeat_rows}
 use Rattle.walk.specs.Instances.{Context, outside, instances}
 
@@ -124,7 +124,7 @@ due_row j l i t r = ltb t (length j.row_counts) && (j.forced l i || j.filled l i
 abbrev pub from_source : Outline → ℕ → ℕ → Context → Source → List Step
 from_source j l i c of_envelope = cond (loop_of j l).controlled (opener l ∷ []) []
 from_source j l i c (of_row t) = on (c.row t) (λ r. cond (has_occurrence j l i && due_row j l i t r) (row_segment l i t r ∷ []) []) []
-from_source j l i c (ofRepeat t) = cond (has_occurrence j l i) (on (own_row (kind_of j l) c) (λ p. repeat_steps j l i t p.row) []) []
+from_source j l i c (of_repeat t) = cond (has_occurrence j l i) (on (own_row (kind_of j l) c) (λ p. repeat_steps j l i t p.row) []) []
 
 unfoldable pub segment_steps : Outline → ℕ → Context → ℕ → List Step
 segment_steps j l c i = cond (ltb i (planned j l)) (from_source j l i c (segment_of j l i).source) []
@@ -143,7 +143,7 @@ body_steps below j l c = stop_at l (own_row (kind_of j l) c) ++ each (item_steps
 abbrev pub is_opener : Source → Bool
 is_opener of_envelope = true
 is_opener (of_row t) = false
-is_opener (ofRepeat t) = false
+is_opener (of_repeat t) = false
 
 abbrev pub opens_at : Outline → ℕ → Item → Bool
 opens_at j l (segment i) = ltb i (planned j l) && is_opener (segment_of j l i).source

@@ -8,7 +8,7 @@ use native.Mathlib.Omega.{arith}
 use lib.ListN.{length}
 use lib.Dec.{ltb}
 use Rattle.nest.specs.Lists.{each, on, sum, All}
-use Rattle.nest.specs.Outline.{Outline, Source, of_envelope, of_row, ofRepeat, Item, segment, loop, item_loops, loop_of, plan_of, kind_of, order_of, segment_of, has_occurrence}
+use Rattle.nest.specs.Outline.{Outline, Source, of_envelope, of_row, of_repeat, Item, segment, loop, item_loops, loop_of, plan_of, kind_of, order_of, segment_of, has_occurrence}
 use Rattle.nest.specs.Nest.{Row, repeat_rows}
 use Rattle.nest.proofs.Alls.{all_append}
 use Rattle.walk.specs.Instances.{Context, outside, instances}
@@ -72,7 +72,7 @@ module _ (j : Outline) (T : ℕ) where
       by_source : (s : Source) → All (Fine T) (from_source j l i c s)
       by_source of_envelope = choose (loop_of j l).controlled
       by_source (of_row t) = given t (c.row t)
-      by_source (ofRepeat t) = fits t (has_occurrence j l i)
+      by_source (of_repeat t) = fits t (has_occurrence j l i)
 
       go : (b : Bool) → All (Fine T) (cond b (from_source j l i c (segment_of j l i).source) [])
       go true = by_source (segment_of j l i).source

@@ -8,7 +8,7 @@ use native.Mathlib.Omega.{arith}
 use native.Mathlib.Nat.{mod-lt}
 use lib.Dec.{leb, lit<}
 use lib.ListN.{length, get_or}
-use Rattle.format.specs.Spec.{Control, ElementDef, count_segments, countChildren, Counted}
+use Rattle.format.specs.Spec.{Control, ElementDef, count_segments, count_children, Counted}
 use Rattle.format.specs.Job.{Job}
 use Rattle.format.specs.Refusal.{over}
 use Rattle.format.specs.Ask.{loop_of, segment_def, depth_of, min_of}
@@ -82,7 +82,7 @@ module _ (j : Job) (fits : over j ≡ false) where
 
       count : (k : Counted) → length (count_text (F.count_of k n m)) ≤ 20
       count count_segments = count_length m 20 (omega arith) hm
-      count countChildren = count_length n 20 (omega arith) hn
+      count count_children = count_length n 20 (omega arith) hn
 
       go : (x : Option Control) → (loop_of j l).control ≡ x → (y : Option (List ℕ)) → (loop_of j l).end ≡ y → length (on x (λ (c : Control). on y (λ id.
           let p = closer_put c (pick b (control_in j l c (F.taken l s)) []) (F.count_of c.counted n m) in

@@ -6,7 +6,7 @@ use mathlib.Core.Option.{Option, none}
 use native.Mathlib.Omega.{arith}
 use native.Mathlib.Nat.{mul-add, mul-le-mul, mul-le-mul_right}
 use lib.ListN.{length, get_or}
-use Rattle.format.specs.Plan.{Value, from_column, fromGroup, from_code, ElementPlan}
+use Rattle.format.specs.Plan.{Value, from_column, from_group, from_code, ElementPlan}
 use Rattle.format.specs.Data.{Column}
 use Rattle.format.specs.Job.{Job}
 use Rattle.format.specs.Ask.{planned_of, data_of}
@@ -71,7 +71,7 @@ module _ (j : Job) (l i t p : ℕ) where
 
   element_total : (v : Value) → sum (λ r. given j t r v) hung ≤ quota (data_bytes j) + length hung * code_in v
   element_total (from_column c) = omega (arith, column_total c)
-  element_total (fromGroup c) = omega (arith, column_total c)
+  element_total (from_group c) = omega (arith, column_total c)
   element_total (from_code code) = omega (arith, sum_each_time (length code + 255) hung, mul-add (length hung) (length code) 255, shared_rows (length hung) (data_bytes j) rows_eight)
 
   elements_total : sum (λ r. sum (given_by j t r) es) hung ≤ length es * quota (data_bytes j) + length hung * sum (λ (e : ElementPlan). code_in e.value) es

@@ -12,7 +12,7 @@ use Rattle.codec.specs.Codec.{Codec, Bytes, le_c, items_enc, list_c, map_c, dep_
 use Rattle.codec.specs.Forms.{num_c, byte_c, bytes_c, opt_c}
 use Rattle.format.specs.Spec as S
 use Rattle.format.specs.Layout as L
-use Rattle.format.specs.Plan.{Value, from_column, fromGroup, from_code, ElementPlan, SegmentPlan, LoopPlan, no_segment_plan, no_loop_plan, value_c, element_plan_c, segment_plan_c, loop_plan_c, plan_c}
+use Rattle.format.specs.Plan.{Value, from_column, from_group, from_code, ElementPlan, SegmentPlan, LoopPlan, no_segment_plan, no_loop_plan, value_c, element_plan_c, segment_plan_c, loop_plan_c, plan_c}
 use Rattle.format.specs.Data.{Column, TableData, no_table_data, column_c, table_data_c, data_c}
 use Rattle.format.specs.Job.{Job}
 use Rattle.format.specs.Sections.{job_of}
@@ -41,7 +41,7 @@ data_bytes j = length (data_c.enc j.tables)
 
 abbrev pub code_in : Value → ℕ
 code_in (from_column c) = 0
-code_in (fromGroup c) = 0
+code_in (from_group c) = 0
 code_in (from_code code) = length code
 
 -- the bytes that a planned element takes at least: ten, and its code
@@ -60,7 +60,7 @@ option_some (some n) = omega arith
 value_long : (v : Value) → 5 + code_in v ≤ length (value_c.enc v)
 unfolding value_c map_c enum_c ◌⊕◌
 value_long (from_column c) = omega (arith, number_long c)
-value_long (fromGroup c) = omega (arith, number_long c)
+value_long (from_group c) = omega (arith, number_long c)
 value_long (from_code code) = omega (arith, text_longer code)
 
 element_long : (e : ElementPlan) → takes e ≤ length (element_plan_c.enc e)

@@ -7,7 +7,7 @@ use native.Mathlib.Omega.{arith}
 use native.Mathlib.Nat.{mul-le-mul}
 use lib.ListN.{length}
 use lib.Dec.{eqb}
-use Rattle.format.specs.Plan.{Value, from_column, fromGroup, from_code, ElementPlan}
+use Rattle.format.specs.Plan.{Value, from_column, from_group, from_code, ElementPlan}
 use Rattle.format.specs.Job.{Job}
 use Rattle.format.specs.Ask.{identifier_of, planned_of, step_of, data_of, max_of}
 use Rattle.column.specs.Cell.{cell_of}
@@ -27,7 +27,7 @@ use Rattle.writer.proofs.BytesLimits.{Placed}
 -- what a planned element gives at most from row r of table t
 abbrev pub given : Job → ℕ → ℕ → Value → ℕ
 given j t r (from_column c) = weigh (cell_of (data_of j t) c r)
-given j t r (fromGroup c) = weigh (cell_of (data_of j t) c r)
+given j t r (from_group c) = weigh (cell_of (data_of j t) c r)
 given j t r (from_code code) = length code + 255
 
 abbrev pub given_by : Job → ℕ → ℕ → ElementPlan → ℕ
@@ -65,7 +65,7 @@ cell_bounded j z id e m c t column r h k = record {
 
 row_bounded : (j : Job) → Scaled j → (id : List ℕ) (t r : ℕ) (p : ElementPlan) (v : Value) → Placed p → Bounded (row_value j id t r p v) (given j t r v) 255
 row_bounded j z id t r p (from_column c) h = cell_bounded j z id p.element 255 p.component t c r h.component h.element
-row_bounded j z id t r p (fromGroup c) h = nothing_bounded (weigh (cell_of (data_of j t) c r)) 255
+row_bounded j z id t r p (from_group c) h = nothing_bounded (weigh (cell_of (data_of j t) c r)) 255
 row_bounded j z id t r p (from_code code) h = text_bounded p.element 255 p.component code h.component h.element
 
 first_bounded : (b : Bool) (p : Put) (n m : ℕ) → Bounded p n m → Bounded (pick b p nothing) n m
@@ -76,7 +76,7 @@ first_bounded false p n m h = nothing_bounded n m
 module _ (j : Job) (z : Scaled j) (id : List ℕ) (t step k m : ℕ) (small : 255 + k * step ≤ m) where
   chunk_bounded : (r : ℕ) (p : ElementPlan) (v : Value) → Placed p → Bounded (chunk_value j id t step k r p v) (given j t r v) m
   chunk_bounded r p (from_column c) h = first_bounded (eqb k 0) (put_cell j id p.element p.component t c r) _ m (cell_bounded j z id p.element m p.component t c r h.component (omega (arith, h.element)))
-  chunk_bounded r p (fromGroup c) h = cell_bounded j z id (p.element + k * step) m p.component t c r h.component (omega (arith, h.element))
+  chunk_bounded r p (from_group c) h = cell_bounded j z id (p.element + k * step) m p.component t c r h.component (omega (arith, h.element))
   chunk_bounded r p (from_code code) h = first_bounded (eqb k 0) (put_text p.element p.component code) _ m (text_bounded p.element m p.component code h.component (omega (arith, h.element)))
 
 -- ---- all elements

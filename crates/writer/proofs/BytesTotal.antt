@@ -12,7 +12,7 @@ use native.Mathlib.Nat.{mul-add, mul-le-mul}
 use lib.ListN.{length, get_or, length-append}
 use Rattle.lent.specs.Fit.{cap}
 use Rattle.codec.specs.Codec.{Bytes, le_c, map_c, dep_c}
-use Rattle.format.specs.Plan.{Value, from_column, fromGroup, from_code, ElementPlan}
+use Rattle.format.specs.Plan.{Value, from_column, from_group, from_code, ElementPlan}
 use Rattle.format.specs.Job.{Job}
 use Rattle.format.specs.Sections.{job_of}
 use Rattle.format.proofs.RoundTrip.{encode_read}
@@ -68,7 +68,7 @@ module _ (b : List ℕ) (bs : Bytes b) (p : Passed b) where
 
   given_most : (t r : ℕ) (v : Value) → given j t r v ≤ (data_bytes j + 303) + code_in v
   given_most t r (from_column c) = omega (arith, cell_weigh (get_or (data_of j t).columns c none) r, data-within j t c none)
-  given_most t r (fromGroup c) = omega (arith, cell_weigh (get_or (data_of j t).columns c none) r, data-within j t c none)
+  given_most t r (from_group c) = omega (arith, cell_weigh (get_or (data_of j t).columns c none) r, data-within j t c none)
   given_most t r (from_code code) = omega arith
 
   row_few : (l i t r : ℕ) (s : F.State) → length (row_out j l i t r s).bytes ≤ 432000000

@@ -11,7 +11,7 @@ use lib.Dec.{ltb, leb, eqb}
 use Rattle.format.specs.Words.{member_of}
 use Rattle.format.specs.Spec.{ElementDef, Control}
 use Rattle.format.specs.Envelope.{Envelope}
-use Rattle.format.specs.Plan.{Value, from_column, fromGroup, from_code, ElementPlan}
+use Rattle.format.specs.Plan.{Value, from_column, from_group, from_code, ElementPlan}
 use Rattle.format.specs.Job.{Job}
 use Rattle.format.specs.Refusal.{separators}
 use Rattle.format.specs.Ask.{loop_of, segment_def, depth_of, identifier_of, planned_of, step_of}
@@ -72,7 +72,7 @@ cell_few j id e c t column r = text_few j _ _ _ _
 
 row_value_few : (j : Job) (id : List ℕ) (t r : ℕ) (p : ElementPlan) (v : Value) → length (row_value j id t r p v).findings ≤ 5
 row_value_few j id t r p (from_column c) = cell_few j id p.element p.component t c r
-row_value_few j id t r p (fromGroup c) = omega arith
+row_value_few j id t r p (from_group c) = omega arith
 row_value_few j id t r p (from_code code) = omega arith
 
 first_only : (b : Bool) (p : Put) → length p.findings ≤ 5 → length (pick b p nothing).findings ≤ 5
@@ -81,7 +81,7 @@ first_only false p h = omega arith
 
 chunk_value_few : (j : Job) (id : List ℕ) (t step k r : ℕ) (p : ElementPlan) (v : Value) → length (chunk_value j id t step k r p v).findings ≤ 5
 chunk_value_few j id t step k r p (from_column c) = first_only (eqb k 0) (put_cell j id p.element p.component t c r) (cell_few j id p.element p.component t c r)
-chunk_value_few j id t step k r p (fromGroup c) = cell_few j id (p.element + k * step) p.component t c r
+chunk_value_few j id t step k r p (from_group c) = cell_few j id (p.element + k * step) p.component t c r
 chunk_value_few j id t step k r p (from_code code) = first_only (eqb k 0) (put_text p.element p.component code) (omega arith)
 
 sourced_few : (j : Job) (trigger : List ℕ) (position : ℕ) (d : ElementDef) (f : Option ℕ) (g : Given) → length (put_sourced j trigger position d (record { field = f; given = g })).findings ≤ 5

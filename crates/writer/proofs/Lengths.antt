@@ -55,7 +55,7 @@ number_long n = omega (arith, length_enc_le 4 n)
 item_long : (x : L.Item) → 5 ≤ length ((L.item_c).enc x)
 unfolding L.item_c map_c enum_c ◌⊕◌
 item_long (L.segment_item n) = omega (arith, number_long n)
-item_long (L.loopItem n) = omega (arith, number_long n)
+item_long (L.loop_item n) = omega (arith, number_long n)
 
 orders_in : (v : L.Layout) → length ((list_c (list_c L.item_c)).enc v.order) ≤ length ((L.layout_c).enc v)
 unfolding L.layout_c map_c dep_c
