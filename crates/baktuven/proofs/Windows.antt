@@ -21,8 +21,7 @@ use Rattle.nest.proofs.Findings.{record-length}
 use Rattle.writer.specs.Result.{result_of}
 use Rattle.writer.specs.Refused.{refusal}
 use Rattle.writer.specs.Lists.{in_front, holding, unless_refused}
-use Rattle.writer.specs.declared.Answer.{Answer}
-use Rattle.writer.specs.Answer.{values_of}
+use Rattle.writer.specs.Answer.{Answered, values_of}
 use Rattle.writer.specs.Wrote.{values_for, window_from, WroteFrom}
 use Rattle.baktuven.specs.Wrote.{finding_of, in_places, Wrote}
 use Rattle.baktuven.specs.Windows.{blank, records_of, behind}
@@ -177,11 +176,11 @@ all_in_places b ws ys zs us n r end e₁ e₂ e₃ e₄ e₅ e₆ =
 -- ---- what is promised
 
 -- the count that the answer tells is that of the records
-pub found_of : (b : List ℕ) (a : Answer) (n : ℕ) → values_of a ≡ values_for b → n ≡ get_or (values_of a) 2 0 → n ≡ length (records_of b)
+pub found_of : (b : List ℕ) (a : Answered) (n : ℕ) → values_of a ≡ values_for b → n ≡ get_or (values_of a) 2 0 → n ≡ length (records_of b)
 found_of b a n e e' = e' ∙ ap (λ (l : List ℕ). get_or l 2 0) e ∙ found_all b
 
 -- with the findings in their places the promise is whole
-pub wrote : (b d d' g g' w w' p p' : List ℕ) (f f' : List Finding) (a : Answer) → WroteFrom b d d' g g' w w' p p' 0 (length f) a → f' ≡ in_places (records_of b) f → Wrote b d d' g g' f f' p p' a
+pub wrote : (b d d' g g' w w' p p' : List ℕ) (f f' : List Finding) (a : Answered) → WroteFrom b d d' g g' w w' p p' 0 (length f) a → f' ≡ in_places (records_of b) f → Wrote b d d' g g' f f' p p' a
 wrote b d d' g g' w w' p p' f f' a h e = record {
   number = h.number;
   values = h.values;

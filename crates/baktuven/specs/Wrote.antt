@@ -7,8 +7,7 @@ use Rattle.nest.specs.Finding as N
 use Rattle.nest.specs.Finding.{record_of}
 use Rattle.emit.specs.Did.{traced_word, stop_word}
 use Rattle.lossless.specs.NothingLost.{NothingLost}
-use Rattle.writer.specs.declared.Answer.{Answer}
-use Rattle.writer.specs.Answer.{number_of, values_of}
+use Rattle.writer.specs.Answer.{Answered, number_of, values_of}
 use Rattle.writer.specs.Result.{result_of}
 use Rattle.writer.specs.Refused.{refusal}
 use Rattle.writer.specs.Lists.{in_front, holding, unless_refused}
@@ -22,7 +21,7 @@ finding_of x = finding_from (record_of x)
 abbrev pub in_places : List Finding → List Finding → List Finding
 in_places xs f = take (length f) xs ++ drop (length xs) f
 
-pub record Wrote (b d d' g g' : List ℕ) (f f' : List Finding) (p p' : List ℕ) (a : Answer) : Type 0 where
+pub record Wrote (b d d' g g' : List ℕ) (f f' : List Finding) (p p' : List ℕ) (a : Answered) : Type 0 where
   pub number : number_of a ≡ number_for b (length d) (threes g) (length f) (threes p)
   pub values : values_of a ≡ values_for b
   pub document : d' ≡ unless_refused (refusal b) d (in_front (take (length d) (result_of (job_of b)).bytes) d)

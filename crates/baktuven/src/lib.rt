@@ -41,20 +41,11 @@ fn later(job: &[u8], from: usize) -> [u64; 640]
     window
 }
 
-fn least(a: usize, b: usize) -> usize
-    ensures { result ≡ min a b }
-{
-    if a <= b {
-        return a;
-    }
-    b
-}
-
 // How many of n findings one window holds.
 fn in_window(n: usize) -> usize
     ensures { result ≡ min n 64 }
 {
-    least(n, 64)
+    n.min(64)
 }
 
 // The first `left` records of a window, from place `at` on, as far as they fit.
@@ -70,10 +61,9 @@ fn rest(job: &[u8], findings: &mut [Finding], end: usize)
     requires { (end ≤ length findings.old) × (end ≤ length (records_of job.now)) }
     ensures { findings.new ≡ sets findings.old 64 (behind 64 end (records_of job.now)) }
 {
-    let mut from = 64;
-    while from < end {
+    for w in 1..end.div_ceil(64) {
+        let from = w * 64;
         store(findings, later(job, from), from, in_window(end - from));
-        from += 64;
     }
 }
 
@@ -83,7 +73,7 @@ fn noted(job: &[u8], findings: &mut [Finding], window: [u64; 640], found: usize)
     ensures { findings.new ≡ in_places (records_of job.now) findings.old }
 {
     store(findings, window, 0, in_window(found));
-    rest(job, findings, least(found, findings.len()));
+    rest(job, findings, found.min(findings.len()));
 }
 
 // What a call gives back, in four lists of any length.

@@ -28,6 +28,7 @@ use Rattle.walk.proofs.ContextLaws.{stands_outside}
 use Rattle.walk.proofs.NestedLaws.{sound_outside}
 use Rattle.instances.specs.declared.Cursor.{Cursor}
 use Rattle.instances.specs.declared.Next.{Next}
+use Rattle.std.specs.Prelude.{Option, Some, None}
 use Rattle.instances.specs.Cursor.{coming, Going, context_in, behind, Came}
 use Rattle.instances.proofs.Cursors.{came_in}
 use Rattle.census.specs.Entered.{entered_by, entered_below, entered_with}
@@ -121,19 +122,19 @@ module _ (o : Outline) (nest : List ℕ) (h l n : ℕ) (from : Cursor) (m : ℕ)
     pub entered_past : too_many ≤ m → m ≡ min (n + enters_in (visits o h l c)) too_many
     entered_past z = let q = counted_all in let r = s.rest in omega (arith, q, r, s.few)
 
-    pub entered_over : (r : Next) → Came o nest cur r → r.more ≡ false → m ≡ min (n + enters_in (visits o h l c)) too_many
+    pub entered_over : (r : Option Next) → Came o nest cur r → r ≡ None → m ≡ min (n + enters_in (visits o h l c)) too_many
     entered_over r came z =
         let over : entered_at o nest h l cur ≡ 0 = ap (sum (entered_with o (h - 1) l)) (came.ended z) in
         let q = counted_all in
         let w = s.rest in
         omega (arith, over, q, w, s.few)
 
-  module _ (r : Next) (came : Came o nest cur r) (z : r.more ≡ true) where
-    pub entered_next : (d : Kept) (w k : ℕ) (x : Bool) → d ≡ context_in cur r → w ≡ counted m → (k ≡ min (w + entered_below o (h - 1) l (context_by d)) too_many) × (x ≡ true → item_loops (order_of o l) ≡ [])
-        → Entering o nest h l n from k x (behind cur r)
-    entered_next d w k x f e g =
+  module _ (x : Option Next) (came : Came o nest cur x) (r : Next) (z : x ≡ Some r) where
+    pub entered_next : (d : Kept) (w k : ℕ) (y : Bool) → d ≡ context_in cur r → w ≡ counted m → (k ≡ min (w + entered_below o (h - 1) l (context_by d)) too_many) × (y ≡ true → item_loops (order_of o l) ≡ [])
+        → Entering o nest h l n from k y (behind cur r)
+    entered_next d w k y f e g =
         let q : entered_at o nest h l cur ≡ suc (entered_below o (h - 1) l (context_by d)) + entered_at o nest h l (behind cur r) = ap (sum (entered_with o (h - 1) l)) (came_in came z f) in
-        record { rest = s.rest ∙ omega (arith, q, e, g.0, s.few); few = omega (arith, g.0); alone = g.1; going = came.still z }
+        record { rest = s.rest ∙ omega (arith, q, e, g.0, s.few); few = omega (arith, g.0); alone = g.1; going = (came.given r z).still }
 
     pub entered_leaf : (w : ℕ) → w ≡ counted m → leaf ≡ true → Entering o nest h l n from w leaf (behind cur r)
     unfolding entered_below
@@ -142,7 +143,7 @@ module _ (o : Outline) (nest : List ℕ) (h l n : ℕ) (from : Cursor) (m : ℕ)
         entered_next (context_in cur r) w w leaf refl e (omega (arith, none_below, e), s.alone)
 
     pub entered_less : length (coming o nest (behind cur r)) < length (coming o nest cur)
-    entered_less = let q : length (coming o nest cur) ≡ suc (length (coming o nest (behind cur r))) = ap length (came.came z) in omega (arith, q)
+    entered_less = let q : length (coming o nest cur) ≡ suc (length (coming o nest (behind cur r))) = ap length (came.given r z).came in omega (arith, q)
 
 -- ---- the roots, from place i on
 

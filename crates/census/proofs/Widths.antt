@@ -3,18 +3,15 @@ use Prim.Native.Nat.{ℕ, zero, suc, ◌+◌, ◌-◌, ◌*◌, ◌≤◌, ◌<�
 use mathlib.Core.Path.{◌≡◌, refl, sym, ap, ◌∙◌}
 use mathlib.Core.Bool.{Bool, true, false, cond, not}
 use mathlib.Core.List.{List, [], ◌∷◌}
-use mathlib.Core.Option.{Option, none, some}
 use native.Mathlib.Omega.{arith}
 use native.Mathlib.Decide.{dec_lt, ℕ_discrete}
+use Rattle.std.specs.Prelude.{Option, None, Some}
 use lib.ListN.{length, drop, get_or, length-take, length-drop, length-map, length-append}
 use lib.Dec.{eqb}
 use Rattle.format.specs.Sections.{job_of}
 use Rattle.format.specs.Ask as A
 use Rattle.format.specs.Data.{no_table_data}
 use Rattle.tables.specs.Parts as T
-use Rattle.spec.specs.Answers.{number_of}
-use Rattle.spec.specs.declared.ids.Number.{Number}
-use Rattle.spec.specs.declared.ids.Number.TheVariants.{Is}
 use Rattle.nest.specs.Lists.{keep, from, up_to, on, is, part, some_of, is_empty_list}
 use Rattle.nest.specs.Outline.{Outline, absent, envelope, implied, rows, inside, groups, kind_of, loop_of, table_parent, row_count, plain}
 use Rattle.nest.specs.Nest.{held, referred}
@@ -112,8 +109,8 @@ module _ (n : List ℕ) (base many k last run best : ℕ) (s : Longest n base ma
 -- ---- the rows of a table in a context
 
 cut_few : (t : ℕ) (run : Option Run) (xs : List ℕ) → length (cut_to t run xs) ≤ length xs
-cut_few t none xs = omega arith
-cut_few t (some p) xs = go (eqb p.table t)
+cut_few t None xs = omega arith
+cut_few t (Some p) xs = go (eqb p.table t)
   where
     go : (x : Bool) → length (cond x (part p.start p.end xs) xs) ≤ length xs
     go true = omega (arith, length-take (p.end - p.start) (drop p.start xs), length-drop p.start xs)
@@ -132,14 +129,14 @@ unfolding held_in held
 rows_all o t c = rows_held o t (row_count o t) c (λ f. go (table_parent o t))
   where
     in_row_lem : (u : ℕ) (x : Option ℕ) → length (on x (held o t u) []) ≤ row_count o t
-    in_row_lem u none = omega arith
-    in_row_lem u (some p) = keep_length (λ r. is (referred o t r u) p) 0 (row_count o t)
+    in_row_lem u None = omega arith
+    in_row_lem u (Some p) = keep_length (λ r. is (referred o t r u) p) 0 (row_count o t)
 
     go : (x : Option ℕ) → length (on x (λ u. on (c.row u) (held o t u) []) (from 0 (row_count o t))) ≤ row_count o t
-    go none = omega (arith, ap length (keep_all (row_count o t) 0), keep_length (λ r. true) 0 (row_count o t))
-    go (some u) = in_row_lem u (c.row u)
+    go None = omega (arith, ap length (keep_all (row_count o t) 0), keep_length (λ r. true) 0 (row_count o t))
+    go (Some u) = in_row_lem u (c.row u)
 
-pub rows_hung : {b idx n : List ℕ} → Nested b idx n → (t u w : ℕ) → table_parent (outline_at b) t ≡ some u → ((p : ℕ) → held_before n (rows_before (outline_at b) t) (row_count (outline_at b) t) p ≤ w)
+pub rows_hung : {b idx n : List ℕ} → Nested b idx n → (t u w : ℕ) → table_parent (outline_at b) t ≡ Some u → ((p : ℕ) → held_before n (rows_before (outline_at b) t) (row_count (outline_at b) t) p ≤ w)
     → (c : Context) → length (rows_in (outline_at b) t c) ≤ w
 unfolding held_in held_before
 rows_hung {b} {idx} {n} N t u w e h c = rows_held o t w c (λ f. rw e (in_row_lem f (c.row u)))
@@ -148,8 +145,8 @@ rows_hung {b} {idx} {n} N t u w e h c = rows_held o t w c (λ f. rw e (in_row_le
     o = outline_at b
 
     in_row_lem : plain o t ≡ true → (x : Option ℕ) → length (on x (held o t u) []) ≤ w
-    in_row_lem f none = omega arith
-    in_row_lem f (some p) =
+    in_row_lem f None = omega arith
+    in_row_lem f (Some p) =
         let same = keep_alike (held_at n (rows_before o t) p) (λ r. is (referred o t r u) p) 0 (row_count o t) (λ r q. lent_held N t r u p (row_there o t r q) q (plain_not o t f) e) in
         rw (held_all o t u p) (rw (← same) (h p))
 
@@ -174,9 +171,9 @@ module _ {b idx n : List ℕ} (N : Nested b idx n) (t count : ℕ) (e : count �
     pub rows_climb : rises n t ≡ true → Climbs n base count
     rows_climb f = rw (base_is, rows_count) (lent_climbs N t (row_count (outline_at b) t) f (omega arith))
 
-    pub fan_hung : (x : Number) (u w : ℕ) → number_of x ≡ (A.table_of (job_of b) t).parent → x ≡ Is u → (w ≤ count) × ((p : ℕ) → held_before n base count p ≤ w) → Fan (outline_at b) t w
+    pub fan_hung : (x : Option ℕ) (u w : ℕ) → x ≡ (A.table_of (job_of b) t).parent → x ≡ Some u → (w ≤ count) × ((p : ℕ) → held_before n base count p ≤ w) → Fan (outline_at b) t w
     fan_hung x u w a f g =
-        let parent : table_parent (outline_at b) t ≡ some u = table_parent_is (job_of b) t ∙ sym a ∙ ap number_of f in
+        let parent : table_parent (outline_at b) t ≡ Some u = table_parent_is (job_of b) t ∙ sym a ∙ f in
         record { few = omega (arith, g.0, rows_small); most = rows_hung N t u w parent (λ p. rw (← base_is, ← rows_count) (g.1 p)) }
 
 -- ---- the instances of a loop
@@ -222,8 +219,8 @@ module _ (o : Outline) (l : ℕ) where
   width_inside t e = record { few = omega arith; most = by_height 1 (λ below c. rw e (go c (c.row t))) }
     where
       go : (c : Context) (x : Option ℕ) → length (on x (λ r. cond (shown o l t r) (c ∷ []) []) []) ≤ 1
-      go c none = omega arith
-      go c (some r) = at_most_one (shown o l t r) c
+      go c None = omega arith
+      go c (Some r) = at_most_one (shown o l t r) c
 
   module _ (t w : ℕ) (f : Fan o t w) where
     pub width_rows : kind_of o l ≡ rows t → Width o l w

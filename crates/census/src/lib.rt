@@ -2,7 +2,7 @@
 // is a level of calls: the instances of a loop and the items of an order are gone through by loops.
 #![tactic(auto)]
 
-ghost use Rattle.std.specs.Prelude.{◌≡◌, true, [], ℕ, ◌+◌, ◌*◌, ◌≤◌, ◌<◌, min, max, length, ltb};
+ghost use Rattle.std.specs.Prelude.{◌≡◌, true, [], ℕ, ◌+◌, ◌*◌, ◌≤◌, ◌<◌, min, length, ltb};
 ghost use Rattle.nest.specs.Rising.{Climbs};
 ghost use Rattle.nest.specs.Outline.{item_loops, order_of};
 ghost use Rattle.nest.specs.Ready.{outline_at};
@@ -16,7 +16,7 @@ ghost use Rattle.census.specs.Bounds.{held_before, Fan, Width, AtMost};
 use instances::Cursor;
 use nest::order::rises;
 use plan::answers::{Instances, Item};
-use spec::ids::{LoopId, Number, TableId};
+use spec::ids::{LoopId, TableId};
 use walk::Context;
 
 // A count, and whether the loop is a leaf: its order names no loop.
@@ -43,17 +43,12 @@ fn below(
     let count = plan::layout::order_count(job, index, l);
     let mut m = n;
     let mut leaf = true;
-    let mut i: u32 = 0;
-    while i < count {
-        let item = plan::layout::item(job, index, l, i);
-        match item {
-            Item::Segment(_) => {
-                i = i + 1;
-            }
+    for i in 0..count {
+        match plan::layout::item(job, index, l, i) {
+            Item::Segment(_) => {}
             Item::Loop(k) => {
                 m = entered(job, index, nest, k, c, height, m);
                 leaf = false;
-                i = i + 1;
             }
         }
     }
@@ -81,25 +76,23 @@ fn entered(
     let mut m = n;
     let mut leaf = false;
     let mut cur = instances::instances(job, index, nest, l, c, height);
+    // No `for`: the count ends at the limit, wherever the instances stand.
     while m < 65537 {
-        let next = instances::next_instance(job, index, nest, cur);
-        let more = next.more;
-        if more {
-            let with = walk::one_more(m);
-            if leaf {
-                m = with;
-            } else {
-                let inner = instances::context_in(cur, next);
-                let b = below(job, index, nest, l, inner, height - 1, with);
-                m = b.n;
-                leaf = b.leaf;
-            }
-            cur.kind = next.kind;
-            cur.seen = next.seen;
-            cur.next = next.next;
-        } else {
+        let Some(next) = instances::next_instance(job, index, nest, cur) else {
             return m;
+        };
+        let with = walk::one_more(m);
+        if leaf {
+            m = with;
+        } else {
+            let inner = instances::context_in(cur, next);
+            let b = below(job, index, nest, l, inner, height - 1, with);
+            m = b.n;
+            leaf = b.leaf;
         }
+        cur.kind = next.kind;
+        cur.seen = next.seen;
+        cur.next = next.next;
     }
     m
 }
@@ -113,34 +106,15 @@ fn census(job: &[u8], index: &[u16], nest: &[u32]) -> u32
     let height = spec::loops::loop_count(job, index);
     let c = walk::outside();
     let mut n: u32 = 0;
-    let mut i: u32 = 0;
-    while i < count {
+    for i in 0..count {
         let l = spec::loops::root(job, index, i);
         n = entered(job, index, nest, l, c, height, n);
-        i = i + 1;
     }
     n
 }
 
-// The larger of two numbers.
-fn larger(a: u32, b: u32) -> u32
-    ensures { result ≡ max a b }
-{
-    if a < b {
-        return b;
-    }
-    a
-}
-
-// A count, or 65,537 where it is more.
-fn capped(n: u32) -> u32
-    ensures { result ≡ min n too_many }
-{
-    if n < 65537 {
-        return n;
-    }
-    65537
-}
+// Counts stop here.
+const TOO_MANY: u32 = 65537;
 
 // Where the rows climb, those that hang on one row are a run: the longest has no fewer rows than hang on any.
 fn longest(nest: &[u32], base: usize, rows: usize) -> u32
@@ -150,19 +124,15 @@ fn longest(nest: &[u32], base: usize, rows: usize) -> u32
     let mut last: u32 = 0;
     let mut run: u32 = 0;
     let mut best: u32 = 0;
-    let mut k: usize = 0;
-    while k < rows {
+    for k in 0..rows {
         let i = (base + k) * 3;
         if nest[i] == last {
             run = run + 1;
-            best = larger(best, run);
-            k = k + 1;
         } else {
             last = nest[i];
             run = 1;
-            best = larger(best, 1);
-            k = k + 1;
         }
+        best = best.max(run);
     }
     best
 }
@@ -175,14 +145,14 @@ fn fan(job: &[u8], index: &[u16], nest: &[u32], t: TableId) -> u32
     let rows = tables::data::row_count(job, index, t);
     let parent = spec::tables::table_parent(job, index, t);
     match parent {
-        Number::Is(_) => {
+        Some(_) => {
             if rises(nest, t) {
                 let base = tables::data::first_row(job, index, t) as usize;
                 return longest(nest, base, rows as usize);
             }
             return rows;
         }
-        Number::None => {
+        None => {
             return rows;
         }
     }
@@ -215,21 +185,16 @@ fn most(job: &[u8], index: &[u16], nest: &[u32], l: LoopId, height: u32) -> u32
     let w = width(job, index, nest, l);
     let count = plan::layout::order_count(job, index, l);
     let mut s: u32 = 1;
-    let mut i: u32 = 0;
-    while i < count {
-        let item = plan::layout::item(job, index, l, i);
-        match item {
-            Item::Segment(_) => {
-                i = i + 1;
-            }
+    for i in 0..count {
+        match plan::layout::item(job, index, l, i) {
+            Item::Segment(_) => {}
             Item::Loop(k) => {
                 let m = most(job, index, nest, k, height - 1);
-                s = capped(s + m);
-                i = i + 1;
+                s = (s + m).min(TOO_MANY);
             }
         }
     }
-    capped(w * s)
+    (w * s).min(TOO_MANY)
 }
 
 // The same of the whole walk.
@@ -240,12 +205,10 @@ fn bound(job: &[u8], index: &[u16], nest: &[u32]) -> u32
     let count = spec::loops::root_count(job, index);
     let height = spec::loops::loop_count(job, index);
     let mut n: u32 = 0;
-    let mut i: u32 = 0;
-    while i < count {
+    for i in 0..count {
         let l = spec::loops::root(job, index, i);
         let m = most(job, index, nest, l, height);
-        n = capped(n + m);
-        i = i + 1;
+        n = (n + m).min(TOO_MANY);
     }
     n
 }

@@ -1,26 +1,19 @@
 -- What the smallest readers answer: a number that may be absent; where a list of numbers ends, and its items.
-use Rattle.std.specs.Prelude.{ℕ, zero, suc, ◌+◌, ◌*◌, ◌≤◌, ◌<◌, ◌≡◌, refl, List, length, get_or}
+use Rattle.std.specs.Prelude.{ℕ, zero, suc, ◌+◌, ◌*◌, ◌≤◌, ◌<◌, ◌≡◌, refl, List, length, get_or, Option, None, Some}
 use Rattle.std.proofs.Common.{sym, ap, ◌∙◌, arith, add-zero, zero-mul, suc-mul}
-use Rattle.std.proofs.Math.Option.{Option, none, some}
 use Rattle.codec.specs.Codec.{le, le_c, list_c}
 use Rattle.codec.specs.Skip.{skip, Is, skip_le}
 use Rattle.codec.specs.Ways.{les_fit, count_is}
 use Rattle.codec.specs.Field.{room_of, le_item, is_list, is_le, is_some, is_none, ListIs}
 use Rattle.codec.specs.Forms.{num_c, bytes_c, opt_c}
-use Rattle.codec.specs.declared.OptNum.{OptNum}
-use Rattle.codec.specs.declared.OptNum.TheVariants.{Nothing, Num}
 
-abbrev pub opt_num : Option ℕ → OptNum
-opt_num none = Nothing
-opt_num (some n) = Num n
+pub opt_nothing : (b : List ℕ) (at : ℕ) → get_or b at 0 ≡ 0 → (e : ℕ) (v : Option ℕ) → Is (opt_c num_c) b e at v → None ≡ v
+opt_nothing b at h e None i = refl
+opt_nothing b at h e (Some x) i = absurd (omega (arith, (is_some num_c b e at x i).0))
 
-pub opt_nothing : (b : List ℕ) (at : ℕ) → get_or b at 0 ≡ 0 → (e : ℕ) (v : Option ℕ) → Is (opt_c num_c) b e at v → Nothing ≡ opt_num v
-opt_nothing b at h e none i = refl
-opt_nothing b at h e (some x) i = absurd (omega (arith, (is_some num_c b e at x i).0))
-
-pub opt_number : (b : List ℕ) (at n : ℕ) → (get_or b at 0 ≡ 0 → ⊥) → n ≡ le 4 b (at + 1) → (e : ℕ) (v : Option ℕ) → Is (opt_c num_c) b e at v → Num n ≡ opt_num v
-opt_number b at n h q e none i = absurd (h (is_none num_c b e at i))
-opt_number b at n h q e (some x) i = ap Num (q ∙ sym (is_le 4 b e (at + 1) x (is_some num_c b e at x i).1).1)
+pub opt_number : (b : List ℕ) (at n : ℕ) → (get_or b at 0 ≡ 0 → ⊥) → n ≡ le 4 b (at + 1) → (e : ℕ) (v : Option ℕ) → Is (opt_c num_c) b e at v → Some n ≡ v
+opt_number b at n h q e None i = absurd (h (is_none num_c b e at i))
+opt_number b at n h q e (Some x) i = ap Some (q ∙ sym (is_le 4 b e (at + 1) x (is_some num_c b e at x i).1).1)
 
 -- a list of numbers ends behind its last
 pub skip_les : (w : ℕ) (b : List ℕ) (e at : ℕ) (vs : List ℕ) → Is (list_c (le_c w)) b e at vs → skip (list_c (le_c w)) b at e ≡ at + 4 + le 4 b at * w

@@ -1,9 +1,8 @@
 -- What stands at a place, taken apart: from a structure to its fields, from a list to its items.
 use Prim.Native.Nat.{ℕ, zero, suc, ◌+◌, ◌*◌, ◌≤◌, ◌<◌}
 use Rattle.std.proofs.Math.Path.{◌≡◌}
-use Rattle.std.specs.Prelude.{refl, List, [], ◌∷◌, ◌⊎◌, Bool, true, false, length, get_or, leb}
+use Rattle.std.specs.Prelude.{refl, List, [], ◌∷◌, ◌⊎◌, Bool, true, false, length, get_or, leb, None, Some}
 use Rattle.std.proofs.Common.{sym, ap, subst, ◌∙◌, inl, inr, arith, add-zero, mul-zero, mul-suc, mul_comm, leb-true, leb-false}
-use Rattle.std.proofs.Math.Option.{none, some}
 use Rattle.codec.specs.Codec.{Got, got, bad, bind, pick, Codec, Cases, le, le_c, unit_c, dep_c, ◌⊗◌, map_c, when_c, enum_c, ◌⊕◌, end_c, list_c, items_read}
 use Rattle.codec.specs.Skip.{after, skip, skip_case, steps, count_at, Is, value_le, skip_le, skip_short, skip_past}
 use Rattle.codec.specs.Forms.{opt_c}
@@ -131,14 +130,14 @@ module _ {A B : Type 0} (C : Codec A) (D : Cases B) (b : List ℕ) (e at : ℕ) 
       go bad q = absurd (let z : ◌≡◌ {A = ℕ} 0 1 = cc in omega arith)
 
 -- an option
-pub is_none : {A : Type 0} (C : Codec A) (b : List ℕ) (e at : ℕ) → Is (opt_c C) b e at none → get_or b at 0 ≡ 0
+pub is_none : {A : Type 0} (C : Codec A) (b : List ℕ) (e at : ℕ) → Is (opt_c C) b e at None → get_or b at 0 ≡ 0
 unfolding opt_c ◌⊕◌
-is_none C b e at h = sym (is_enum _ b e at _ (is_map _ _ _ _ _ b e at none h)).tag
+is_none C b e at h = sym (is_enum _ b e at _ (is_map _ _ _ _ _ b e at None h)).tag
 
-pub is_some : {A : Type 0} (C : Codec A) (b : List ℕ) (e at : ℕ) (x : A) → Is (opt_c C) b e at (some x) → (get_or b at 0 ≡ 1) × Is C b e (at + 1) x
+pub is_some : {A : Type 0} (C : Codec A) (b : List ℕ) (e at : ℕ) (x : A) → Is (opt_c C) b e at (Some x) → (get_or b at 0 ≡ 1) × Is C b e (at + 1) x
 unfolding opt_c ◌⊕◌
 is_some C b e at x h =
-    let i : EnumIs (unit_c ⊕ C ⊕ end_c) b e at (inr (inl x)) = is_enum _ b e at _ (is_map _ _ _ _ _ b e at (some x) h) in
+    let i : EnumIs (unit_c ⊕ C ⊕ end_c) b e at (inr (inl x)) = is_enum _ b e at _ (is_map _ _ _ _ _ b e at (Some x) h) in
     let j = is_later unit_c (C ⊕ end_c) b e (at + 1) (get_or b at 0) (inl x) i.fields in
     (sym i.tag, is_first C end_c b e (at + 1) j.0 x j.1)
 

@@ -1,6 +1,5 @@
 -- The plain forms of a job: numbers, byte strings, options, yes or no.
-use Rattle.std.specs.Prelude.{ℕ, ◌≡◌, refl, List, ◌⊎◌, Bool, true, false}
-use Rattle.std.proofs.Math.Option.{Option, none, some}
+use Rattle.std.specs.Prelude.{ℕ, ◌≡◌, refl, List, ◌⊎◌, Bool, true, false, Option, None, Some}
 use Rattle.std.proofs.Common.{inl, inr}
 use Rattle.codec.specs.Codec.{Codec, le_c, unit_c, map_c, enum_c, ◌⊕◌, end_c, Units, units_c, list_c}
 
@@ -22,17 +21,17 @@ bytes_c = list_c byte_c
 -- ---- options
 module _ {A : Type 0} where
   abbrev pub to_opt : Unit {0} ⊎ (A ⊎ ⊥) → Option A
-  to_opt (inl x) = none
-  to_opt (inr (inl x)) = some x
+  to_opt (inl x) = None
+  to_opt (inr (inl x)) = Some x
   to_opt (inr (inr z)) = absurd z
 
   abbrev pub of_opt : Option A → Unit {0} ⊎ (A ⊎ ⊥)
-  of_opt none = inl tt
-  of_opt (some x) = inr (inl x)
+  of_opt None = inl tt
+  of_opt (Some x) = inr (inl x)
 
   pub opt_to_of : (v : Option A) → to_opt (of_opt v) ≡ v
-  opt_to_of none = refl
-  opt_to_of (some x) = refl
+  opt_to_of None = refl
+  opt_to_of (Some x) = refl
 
   pub opt_of_to : (v : Unit {0} ⊎ (A ⊎ ⊥)) → of_opt (to_opt v) ≡ v
   opt_of_to (inl x) = refl

@@ -9,3 +9,4 @@ pub mod Whole
 pub mod Rows
 pub mod Limits
 pub mod Answers
+pub mod Within

@@ -1,9 +1,8 @@
 -- Maps: lists of entries whose keys rise strictly, numbers by value and byte strings lexicographically.
 use Prim.Native.Nat.{ℕ, zero, suc, ◌+◌, ◌-◌, ◌≤◌, ◌<◌}
-use Rattle.std.specs.Prelude.{◌≡◌, List, [], ◌∷◌, Bool, ltb, eqb}
+use Rattle.std.specs.Prelude.{◌≡◌, List, [], ◌∷◌, Bool, ltb, eqb, Option, None, Some}
 use Rattle.std.proofs.Math.Path.{refl, sym}
 use Rattle.std.proofs.Common.{◌∙◌, lt-ltb, le-ltb}
-use Rattle.std.proofs.Math.Option.{Option, none, some}
 use Rattle.std.proofs.Math.Bool.{true, false}
 use native.Mathlib.Omega.{arith}
 use Rattle.std.proofs.Math.Numerals.{sub-one}
@@ -27,15 +26,15 @@ before (x ∷ xs) [] = false
 before (x ∷ xs) (y ∷ ys) = pick (ltb x y) true (pick (eqb x y) (before xs ys) false)
 
 abbrev pub above : Option (List ℕ) → List ℕ → Bool
-above none k = true
-above (some j) k = before j k
+above None k = true
+above (Some j) k = before j k
 
 abbrev pub rises_after : {E : Type 0} → Option (List ℕ) → List (List ℕ × E) → Bool
 rises_after last [] = true
-rises_after last (x ∷ xs) = pick (above last x.0) (rises_after (some x.0) xs) false
+rises_after last (x ∷ xs) = pick (above last x.0) (rises_after (Some x.0) xs) false
 
 unfoldable pub bytes_map_c : {E : Type 0} → Codec E → Codec (List (List ℕ × E))
-bytes_map_c E = when_c (rises_after none) (list_c (bytes_c ⊗ E))
+bytes_map_c E = when_c (rises_after None) (list_c (bytes_c ⊗ E))
 
 -- ---- where a map with number keys ends: n entries are left, from the place at, and the next key is at least low
 unfoldable pub risen : {E : Type 0} → Codec E → List ℕ → ℕ → ℕ → ℕ → ℕ → ℕ
@@ -124,6 +123,6 @@ pub is_num_map : {E : Type 0} (C : Codec E) (b : List ℕ) (e at : ℕ) (v : Lis
 unfolding num_map_c
 is_num_map C b e at v h = is_when (rises_from 0) (list_c (num_c ⊗ C)) b e at v h
 
-pub is_bytes_map : {E : Type 0} (C : Codec E) (b : List ℕ) (e at : ℕ) (v : List (List ℕ × E)) → Is (bytes_map_c C) b e at v → Is (list_c (bytes_c ⊗ C)) b e at v × (rises_after none v ≡ true)
+pub is_bytes_map : {E : Type 0} (C : Codec E) (b : List ℕ) (e at : ℕ) (v : List (List ℕ × E)) → Is (bytes_map_c C) b e at v → Is (list_c (bytes_c ⊗ C)) b e at v × (rises_after None v ≡ true)
 unfolding bytes_map_c
-is_bytes_map C b e at v h = is_when (rises_after none) (list_c (bytes_c ⊗ C)) b e at v h
+is_bytes_map C b e at v h = is_when (rises_after None) (list_c (bytes_c ⊗ C)) b e at v h

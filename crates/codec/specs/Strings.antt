@@ -1,9 +1,9 @@
 -- Maps whose keys are byte strings: the walk over the entries, with the place of the key before.
 use Prim.Native.Nat.{ℕ, zero, suc, ◌+◌, ◌-◌, ◌*◌, ◌≤◌, ◌<◌}
-use Rattle.std.specs.Prelude.{◌≡◌, List, [], ◌∷◌, Bool, length, get_or, ltb, eqb}
+use Rattle.std.specs.Prelude.{◌≡◌, List, [], ◌∷◌, Bool, length, get_or, ltb, eqb, Option}
 use Rattle.std.proofs.Math.Path.{refl, sym}
 use Rattle.std.proofs.Common.{◌∙◌, add-zero, lt-ltb, le-ltb, eq-eqb, ne_eqb}
-use Rattle.std.proofs.Math.Option.{Option, none, some}
+use Rattle.std.specs.Prelude.{Some, None}
 use Rattle.std.proofs.Math.Bool.{true, false}
 use native.Mathlib.Omega.{arith}
 use Rattle.std.proofs.Math.Numerals.{sub-one}
@@ -83,40 +83,39 @@ unfolding less_at
 less_is b e p q xs ys h k =
     rw (← (is_list byte_c b e p xs h).counted, ← (is_list byte_c b e q ys k).counted) (strings_less b xs ys (p + 4) (q + 4) (bytes_are b e p xs h) (bytes_are b e q ys k))
 
--- ---- the walk: last is 0, or one more than the place of the key before
-unfoldable pub ok_at : List ℕ → ℕ → ℕ → Bool
-ok_at b last at = pick (eqb last 0) true (less_at b (last - 1) at)
+-- ---- the walk: last is the place of the key before, if there is one
+unfoldable pub ok_at : List ℕ → Option ℕ → ℕ → Bool
+ok_at b None at = true
+ok_at b (Some q) at = less_at b q at
 
-pub ok_first : (b : List ℕ) (last at : ℕ) → last ≡ 0 → ok_at b last at ≡ true
+pub ok_first : (b : List ℕ) (at : ℕ) → ok_at b None at ≡ true
 unfolding ok_at
-ok_first b last at h = rw h
+ok_first b at = refl
 
-pub ok_later : (b : List ℕ) (last at : ℕ) → (last ≡ 0 → ⊥) → ok_at b last at ≡ less_at b (last - 1) at
+pub ok_later : (b : List ℕ) (q at : ℕ) → ok_at b (Some q) at ≡ less_at b q at
 unfolding ok_at
-ok_later b last at h = simp (ne_eqb _ _ h)
+ok_later b q at = refl
 
-unfoldable pub sorted : {E : Type 0} → Codec E → List ℕ → ℕ → ℕ → ℕ → ℕ → ℕ
+unfoldable pub sorted : {E : Type 0} → Codec E → List ℕ → ℕ → ℕ → Option ℕ → ℕ → ℕ
 sorted E b e zero last at = at
-sorted E b e (suc n) last at = pick (ok_at b last at) (sorted E b e n (at + 1) (skip (bytes_c ⊗ E) b at e)) (e + 1)
+sorted E b e (suc n) last at = pick (ok_at b last at) (sorted E b e n (Some at) (skip (bytes_c ⊗ E) b at e)) (e + 1)
 
 module _ {E : Type 0} (C : Codec E) (b : List ℕ) (e : ℕ) where
-  Prior : Option (List ℕ) → ℕ → Type 0
-  Prior none last = last ≡ 0
-  Prior (some j) last = (q : ℕ) × (last ≡ q + 1) × Is bytes_c b e q j
+  Prior : Option (List ℕ) → Option ℕ → Type 0
+  Prior None last = last ≡ None
+  Prior (Some j) last = (q : ℕ) × (last ≡ Some q) × Is bytes_c b e q j
 
-  ok_is : (s : Option (List ℕ)) (last at : ℕ) (k : List ℕ) → Prior s last → Is bytes_c b e at k → ok_at b last at ≡ above s k
-  unfolding Prior
-  ok_is none last at k h i = ok_first b last at h
-  ok_is (some j) last at k h i =
-      let z : last - 1 ≡ h.0 = omega (arith, h.1) in
-      ok_later b last at (omega (arith, h.1)) ∙ rw z (less_is b e h.0 at j k h.2 i)
+  ok_is : (s : Option (List ℕ)) (last : Option ℕ) (at : ℕ) (k : List ℕ) → Prior s last → Is bytes_c b e at k → ok_at b last at ≡ above s k
+  unfolding Prior ok_at
+  ok_is None last at k h i = rw h
+  ok_is (Some j) last at k h i = rw h.1 (less_is b e h.0 at j k h.2 i)
 
-  sorted_end : (n last : ℕ) → sorted C b e n last (e + 1) ≡ e + 1
+  sorted_end : (n : ℕ) (last : Option ℕ) → sorted C b e n last (e + 1) ≡ e + 1
   unfolding sorted
   sorted_end zero last = refl
-  sorted_end (suc n) last = go (ok_at b last (e + 1)) (sorted_end n (e + 1 + 1))
+  sorted_end (suc n) last = go (ok_at b last (e + 1)) (sorted_end n (Some (e + 1)))
     where
-      go : (t : Bool) → sorted C b e n (e + 1 + 1) (e + 1) ≡ e + 1 → pick t (sorted C b e n (e + 1 + 1) (skip (bytes_c ⊗ C) b (e + 1) e)) (e + 1) ≡ e + 1
+      go : (t : Bool) → sorted C b e n (Some (e + 1)) (e + 1) ≡ e + 1 → pick t (sorted C b e n (Some (e + 1)) (skip (bytes_c ⊗ C) b (e + 1) e)) (e + 1) ≡ e + 1
       go true ih = rw (skip_past (bytes_c ⊗ C) b e (e + 1) (omega arith)) ih
       go false ih = refl
 
@@ -126,10 +125,10 @@ module _ {E : Type 0} (C : Codec E) (b : List ℕ) (e : ℕ) where
       let i : Is (bytes_c ⊗ C) b e at x = rw s h in
       (is_pair bytes_c C b e at x i).0
 
-  items_sorted : (n : ℕ) (s : Option (List ℕ)) (last at : ℕ) → Prior s last → after e (bind (items_read (bytes_c ⊗ C) n b at e) (λ xs m. pick (rises_after s xs) (got xs m) bad)) ≡ sorted C b e n last at
+  items_sorted : (n : ℕ) (s : Option (List ℕ)) (last : Option ℕ) (at : ℕ) → Prior s last → after e (bind (items_read (bytes_c ⊗ C) n b at e) (λ xs m. pick (rises_after s xs) (got xs m) bad)) ≡ sorted C b e n last at
   unfolding sorted skip Prior
   items_sorted zero s last at h = refl
-  items_sorted (suc n) s last at h = first ((bytes_c ⊗ C).read b at e) refl (λ j. items_sorted n (some j) (at + 1))
+  items_sorted (suc n) s last at h = first ((bytes_c ⊗ C).read b at e) refl (λ j. items_sorted n (Some j) (Some at))
     where
       Tested : Option (List ℕ) → Got (List (List ℕ × E)) → Got (List (List ℕ × E))
       Tested l g = bind g (λ xs m. pick (rises_after l xs) (got xs m) bad)
@@ -143,48 +142,48 @@ module _ {E : Type 0} (C : Codec E) (b : List ℕ) (e : ℕ) where
       fourth true = refl
       fourth false = refl
 
-      second : (x : List ℕ × E) (g : Got (List (List ℕ × E))) → after e (Tested s (bind g (λ xs m. got (x ∷ xs) m))) ≡ pick (above s x.0) (after e (Tested (some x.0) g)) (e + 1)
-      second x (got xs m) = third x xs m (above s x.0) (rises_after (some x.0) xs)
+      second : (x : List ℕ × E) (g : Got (List (List ℕ × E))) → after e (Tested s (bind g (λ xs m. got (x ∷ xs) m))) ≡ pick (above s x.0) (after e (Tested (Some x.0) g)) (e + 1)
+      second x (got xs m) = third x xs m (above s x.0) (rises_after (Some x.0) xs)
       second x bad = fourth (above s x.0)
 
       first : (g : Got (List ℕ × E)) → (bytes_c ⊗ C).read b at e ≡ g
-          → ((j : List ℕ) (p : ℕ) → (q : ℕ) × (at + 1 ≡ q + 1) × Is bytes_c b e q j → after e (Tested (some j) (items_read (bytes_c ⊗ C) n b p e)) ≡ sorted C b e n (at + 1) p)
-          → after e (Tested s (bind g (λ x p. bind (items_read (bytes_c ⊗ C) n b p e) (λ xs m. got (x ∷ xs) m)))) ≡ pick (ok_at b last at) (sorted C b e n (at + 1) (after e g)) (e + 1)
+          → ((j : List ℕ) (p : ℕ) → (q : ℕ) × (◌≡◌ {A = Option ℕ} (Some at) (Some q)) × Is bytes_c b e q j → after e (Tested (Some j) (items_read (bytes_c ⊗ C) n b p e)) ≡ sorted C b e n (Some at) p)
+          → after e (Tested s (bind g (λ x p. bind (items_read (bytes_c ⊗ C) n b p e) (λ xs m. got (x ∷ xs) m)))) ≡ pick (ok_at b last at) (sorted C b e n (Some at) (after e g)) (e + 1)
       first (got x p) q ih =
           let k : Is bytes_c b e at x.0 = entry_key at p x q in
           second x (items_read (bytes_c ⊗ C) n b p e) ∙ rw (ok_is s last at x.0 h k, ih x.0 p (at, refl, k))
-      first bad q ih = rw (sorted_end n (at + 1)) (fourth (ok_at b last at))
+      first bad q ih = rw (sorted_end n (Some at)) (fourth (ok_at b last at))
 
-  pub skip_bytes_map : (at : ℕ) → skip (bytes_map_c C) b at e ≡ sorted C b e (count_at b at e) 0 (skip (le_c 4) b at e)
+  pub skip_bytes_map : (at : ℕ) → skip (bytes_map_c C) b at e ≡ sorted C b e (count_at b at e) None (skip (le_c 4) b at e)
   unfolding skip count_at bytes_map_c when_c list_c sorted Prior
   skip_bytes_map at = go ((le_c 4).read b at e)
     where
-      go : (g : Got ℕ) → after e (bind (bind g (λ n p. items_read (bytes_c ⊗ C) n b p e)) (λ xs m. pick (rises_after none xs) (got xs m) bad)) ≡ sorted C b e (value_or 0 g) 0 (after e g)
-      go (got n p) = items_sorted n none 0 p refl
+      go : (g : Got ℕ) → after e (bind (bind g (λ n p. items_read (bytes_c ⊗ C) n b p e)) (λ xs m. pick (rises_after None xs) (got xs m) bad)) ≡ sorted C b e (value_or 0 g) None (after e g)
+      go (got n p) = items_sorted n None None p refl
       go bad = refl
 
   -- ---- what a loop over the entries needs
-  pub sorted_start : (at n p : ℕ) → n ≡ count_at b at e → p ≡ skip (le_c 4) b at e → skip (bytes_map_c C) b at e ≡ sorted C b e n 0 p
+  pub sorted_start : (at n p : ℕ) → n ≡ count_at b at e → p ≡ skip (le_c 4) b at e → skip (bytes_map_c C) b at e ≡ sorted C b e n None p
   sorted_start at n p i j = skip_bytes_map at ∙ rw (← i, ← j)
 
-  sorted_next : (n last p : ℕ) → 0 < n → sorted C b e n last p ≡ pick (ok_at b last p) (sorted C b e (n - 1) (p + 1) (skip (bytes_c ⊗ C) b p e)) (e + 1)
+  sorted_next : (n : ℕ) (last : Option ℕ) (p : ℕ) → 0 < n → sorted C b e n last p ≡ pick (ok_at b last p) (sorted C b e (n - 1) (Some p) (skip (bytes_c ⊗ C) b p e)) (e + 1)
   unfolding sorted
   sorted_next zero last p h = absurd (omega arith)
   sorted_next (suc n) last p h = rw sub-one
 
-  pub sorted_again : (a n last p q : ℕ) → a ≡ sorted C b e n last p → 0 < n → ok_at b last p ≡ true → q ≡ skip (bytes_c ⊗ C) b p e → a ≡ sorted C b e (n - 1) (p + 1) q
+  pub sorted_again : (a n : ℕ) (last : Option ℕ) (p q : ℕ) → a ≡ sorted C b e n last p → 0 < n → ok_at b last p ≡ true → q ≡ skip (bytes_c ⊗ C) b p e → a ≡ sorted C b e (n - 1) (Some p) q
   sorted_again a n last p q i h k m = i ∙ sorted_next n last p h ∙ rw (k, ← m)
 
-  pub sorted_fallen : (a n last p : ℕ) → a ≡ sorted C b e n last p → 0 < n → ok_at b last p ≡ false → e + 1 ≡ a
+  pub sorted_fallen : (a n : ℕ) (last : Option ℕ) (p : ℕ) → a ≡ sorted C b e n last p → 0 < n → ok_at b last p ≡ false → e + 1 ≡ a
   sorted_fallen a n last p i h k = sym (i ∙ sorted_next n last p h ∙ rw k)
 
-  pub sorted_broken : (a n last p : ℕ) → a ≡ sorted C b e n last p → 0 < n → e < p → e + 1 ≡ a
-  sorted_broken a n last p i h k = sym (i ∙ sorted_next n last p h ∙ rw (skip_past (bytes_c ⊗ C) b e p k, sorted_end (n - 1) (p + 1)) (go (ok_at b last p)))
+  pub sorted_broken : (a n : ℕ) (last : Option ℕ) (p : ℕ) → a ≡ sorted C b e n last p → 0 < n → e < p → e + 1 ≡ a
+  sorted_broken a n last p i h k = sym (i ∙ sorted_next n last p h ∙ rw (skip_past (bytes_c ⊗ C) b e p k, sorted_end (n - 1) (Some p)) (go (ok_at b last p)))
     where
       go : (t : Bool) → pick t (e + 1) (e + 1) ≡ e + 1
       go true = refl
       go false = refl
 
-  pub sorted_done : (a n last p : ℕ) → a ≡ sorted C b e n last p → n ≤ 0 → p ≡ a
+  pub sorted_done : (a n : ℕ) (last : Option ℕ) (p : ℕ) → a ≡ sorted C b e n last p → n ≤ 0 → p ≡ a
   unfolding sorted
   sorted_done a n last p i h = let z : n ≡ 0 = omega arith in sym (i ∙ rw z)

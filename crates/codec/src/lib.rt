@@ -1,15 +1,19 @@
-// Reading by place: each function answers the place behind what it reads, or one past the end where it is bad.
+// Reading by place: each reader answers the place behind what it reads, or one past the end where it is bad.
 #![tactic(auto)]
 
-ghost use Rattle.std.specs.Prelude.{◌≡◌, ℕ, ◌+◌, ◌≤◌, ◌<◌, get_or, length, set, [], ◌∷◌, true};
-ghost use Rattle.std.proofs.Math.Option.{Option};
+pub mod forms;
+mod section;
+
+ghost use Rattle.std.specs.Prelude.{◌≡◌, ℕ, ◌+◌, ◌≤◌, ◌<◌, ◌^◌, get_or, length, set, [], ◌∷◌, true, IfSome, Option};
 ghost use Rattle.codec.specs.Codec.{le, le_c, list_c, pick};
 ghost use Rattle.codec.specs.Skip.{skip, count_at, tag_at, case_end, Is};
 ghost use Rattle.codec.specs.Forms.{num_c, bytes_c, opt_c};
 ghost use Rattle.codec.specs.Ways.{opt_end};
 ghost use Rattle.codec.specs.Strings.{less_at, ok_at};
 ghost use Rattle.codec.specs.Rows.{stored, small};
-ghost use Rattle.codec.specs.Answers.{opt_num};
+
+pub use forms::Form;
+pub use section::Section;
 
 // The byte at a place, 0 past the last.
 pub fn byte_at(b: &[u8], at: usize) -> usize
@@ -22,29 +26,15 @@ pub fn byte_at(b: &[u8], at: usize) -> usize
 }
 
 // A byte that is there.
-fn byte_in(b: &[u8], at: usize) -> usize
+pub(crate) fn byte_in(b: &[u8], at: usize) -> usize
     requires { at < length b.now }
     ensures { (result ≡ get_or b.now at 0) × (result < 256) }
 {
     b[at] as usize
 }
 
-// A number of w bytes.
-pub fn le_at(b: &[u8], w: u8, at: usize, end: u32) -> usize
-    ensures { result ≡ skip (le_c w) b.now at end }
-{
-    let e = end as usize;
-    if e < at {
-        return e + 1;
-    }
-    if e - at < w as usize {
-        return e + 1;
-    }
-    at + w as usize
-}
-
 // The number in four bytes that are all there: the compiler makes one load of it.
-fn num_in(b: &[u8], at: usize) -> usize
+pub(crate) fn num_in(b: &[u8], at: usize) -> usize
     requires { at + 4 ≤ length b.now }
     ensures { (result ≡ le 4 b.now at) × (result < 4294967296) }
 {
@@ -93,118 +83,6 @@ pub fn long(b: &[u8], at: usize) -> u64
     low + 4294967296 * high
 }
 
-// The count in front of a list, 0 where there is none.
-pub fn count_at(b: &[u8], at: usize, end: u32) -> usize
-    requires { end ≤ length b.now }
-    ensures { (result ≡ count_at b.now at end) × (result < 4294967296) }
-{
-    let e = end as usize;
-    if e < at {
-        return 0;
-    }
-    if e - at < 4 {
-        return 0;
-    }
-    num_in(b, at)
-}
-
-// A list of numbers of w bytes.
-pub fn les_at(b: &[u8], w: u8, at: usize, end: u32) -> usize
-    requires { end ≤ length b.now }
-    ensures { result ≡ skip (list_c (le_c w)) b.now at end }
-{
-    let n = count_at(b, at, end);
-    let p = le_at(b, 4, at, end);
-    let e = end as usize;
-    if e < p {
-        return e + 1;
-    }
-    if e - p < n * w as usize {
-        return e + 1;
-    }
-    p + n * w as usize
-}
-
-// The byte of a case at a place, 256 where there is none.
-pub fn tag_at(b: &[u8], at: usize, end: u32) -> usize
-    requires { end ≤ length b.now }
-    ensures { result ≡ tag_at b.now at end }
-{
-    if end as usize <= at {
-        return 256;
-    }
-    byte_in(b, at)
-}
-
-// The end of an option whose value, if it has one, ends at p.
-pub fn opt_end(b: &[u8], at: usize, end: u32, p: usize) -> usize
-    requires { end ≤ length b.now }
-    ensures { result ≡ opt_end b.now at end p }
-{
-    let t = tag_at(b, at, end);
-    if t == 0 {
-        return at + 1;
-    }
-    if t == 1 {
-        return p;
-    }
-    end as usize + 1
-}
-
-// An enum of n cases that hold nothing.
-pub fn case_at(b: &[u8], n: u8, at: usize, end: u32) -> usize
-    requires { end ≤ length b.now }
-    ensures { result ≡ case_end b.now at end n }
-{
-    let t = tag_at(b, at, end);
-    if t < n as usize {
-        return at + 1;
-    }
-    end as usize + 1
-}
-
-pub fn bytes_at(b: &[u8], at: usize, end: u32) -> usize
-    requires { end ≤ length b.now }
-    ensures { result ≡ skip bytes_c b.now at end }
-{
-    les_at(b, 1, at, end)
-}
-
-pub fn opt_num_at(b: &[u8], at: usize, end: u32) -> usize
-    requires { end ≤ length b.now }
-    ensures { result ≡ skip (opt_c num_c) b.now at end }
-{
-    let t = le_at(b, 1, at, end);
-    let p = le_at(b, 4, t, end);
-    opt_end(b, at, end, p)
-}
-
-pub fn opt_bytes_at(b: &[u8], at: usize, end: u32) -> usize
-    requires { end ≤ length b.now }
-    ensures { result ≡ skip (opt_c bytes_c) b.now at end }
-{
-    let t = le_at(b, 1, at, end);
-    let p = bytes_at(b, t, end);
-    opt_end(b, at, end, p)
-}
-
-// A list of byte strings.
-pub fn strings_at(b: &[u8], at: usize, end: u32) -> usize
-    requires { end ≤ length b.now }
-    ensures { result ≡ skip (list_c bytes_c) b.now at end }
-{
-    let mut left = count_at(b, at, end);
-    let mut p = le_at(b, 4, at, end);
-    while 0 < left {
-        if (end as usize) < p {
-            return end as usize + 1;
-        }
-        p = bytes_at(b, p, end);
-        left = left - 1;
-    }
-    p
-}
-
 // Whether the byte string at p is before the one at q.
 pub fn less_at(b: &[u8], p: usize, q: usize) -> bool
     requires { (p < 8589934592) × (q < 8589934592) }
@@ -214,6 +92,7 @@ pub fn less_at(b: &[u8], p: usize, q: usize) -> bool
     let mut m = num(b, q);
     let mut i = p + 4;
     let mut j = q + 4;
+    // No `for`: either of the two counts ends it.
     while 0 < m {
         if n == 0 {
             return true;
@@ -234,15 +113,16 @@ pub fn less_at(b: &[u8], p: usize, q: usize) -> bool
     false
 }
 
-// Whether the key at p may follow the one before: last is 0 where there is none, else one more than its place.
-pub fn follows(b: &[u8], last: usize, p: usize) -> bool
-    requires { (last < 8589934592) × (p < 8589934592) }
+// Whether the key at p may follow the one before, if there is one.
+pub fn follows(b: &[u8], last: Option<usize>, p: usize) -> bool
+    requires before { IfSome last (λ q. q < 8589934592) }
+    requires place { p < 8589934592 }
     ensures { result ≡ ok_at b.now last p }
 {
-    if last == 0 {
-        return true;
+    match last {
+        None => true,
+        Some(q) => less_at(b, q, p),
     }
-    less_at(b, last - 1, p)
 }
 
 // Stores a place, where there is room.
@@ -288,6 +168,7 @@ pub fn place(index: &[u16], k: usize) -> usize
     0
 }
 
+// Both tests are made, and joined. No `||`: it parts what is proved behind it into ways, one for each test.
 pub fn either(x: bool, y: bool) -> bool
     ensures { result ≡ pick x true y }
 {
@@ -297,19 +178,14 @@ pub fn either(x: bool, y: bool) -> bool
     y
 }
 
-#[derive(Clone, Copy)]
-pub enum OptNum {
-    Num(usize),
-    Nothing,
-}
-
-pub fn opt_num(b: &[u8], at: usize) -> OptNum
+// A number that may be absent.
+pub fn opt_num(b: &[u8], at: usize) -> Option<usize>
     requires { at < 4294967296 }
-    ensures { (e : ℕ) (v : Option ℕ) → Is (opt_c num_c) b.now e at v → result ≡ opt_num v }
+    ensures { (e : ℕ) (v : Option ℕ) → Is (opt_c num_c) b.now e at v → result ≡ v }
 {
     let t = byte_at(b, at);
     if t == 0 {
-        return OptNum::Nothing;
+        return None;
     }
-    OptNum::Num(num(b, at + 1))
+    Some(num(b, at + 1))
 }

@@ -3,9 +3,9 @@ use Prim.Native.Nat.{ℕ, ◌≤◌}
 use mathlib.Core.Path.{◌≡◌, refl, sym, ◌∙◌}
 use mathlib.Core.Logic.{◌≢◌}
 use mathlib.Core.List.{List, [], ◌∷◌}
-use mathlib.Core.Option.{Option, none, some}
 use mathlib.Core.Bool.{Bool, true, false, not}
 use native.Mathlib.Omega.{arith}
+use Rattle.std.specs.Prelude.{Option, None, Some}
 use lib.Dec.{eqb}
 use borrow.Author.Tests.{ltb-false, eqb-true, le-ltb, eq-eqb}
 use Rattle.codec.specs.Codec.{pick}
@@ -53,8 +53,8 @@ refute_all f P h (x ∷ xs) = refute_either (f x) (any_of f xs) (P x) (All P xs)
 
 pub refute_there : {A : Type 0} (f : A → Bool) (P : A → Type 0) → ((x : A) → Refutes (f x) (P x)) → (o : Option A) → Refutes (if_some f o) (IfThere P o)
 unfolding if_some
-refute_there f P h none = (λ i. tt, λ i. no_way (sym i))
-refute_there f P h (some x) = h x
+refute_there f P h None = (λ i. tt, λ i. no_way (sym i))
+refute_there f P h (Some x) = h x
 
 pub refute_low : (n : ℕ) → Refutes (low n) (1 ≤ n)
 unfolding low

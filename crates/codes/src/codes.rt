@@ -9,6 +9,12 @@ ghost use Rattle.format.specs.Plan.{element_plan_c, loop_plan_c, segment_plan_c,
 ghost use Rattle.says.specs.Says.{Says};
 ghost use Rattle.codes.specs.Codes.{mark, marked, marked_component, marked_element, marked_element_plan, marked_loop_plan, marked_segment, marked_segment_plan, marked_value, marked_version};
 
+use codec::forms::{Bytes, Le, NumMap};
+use codec::{Form, Section};
+use format::{
+    Component, Element, ElementPlan, Instances, Kind, LoopPlan, SegmentPlan, Source, Version,
+};
+
 // The separators of elements, components and segments.
 #[derive(Clone, Copy)]
 pub struct Marks {
@@ -17,238 +23,141 @@ pub struct Marks {
     pub segment: usize,
 }
 
-fn mark_at(b: &[u8], at: usize, end: u32, m: Marks) -> bool
-    requires { end ≤ length b.now }
-    ensures { Says byte_c b.now end at (mark m) result }
+fn mark_at(s: Section, at: usize, m: Marks) -> bool
+    ensures { Says byte_c s.entry.bytes.now s.entry.end at (mark m) result }
 {
-    let c = codec::tag_at(b, at, end);
+    let c = s.tag_at(at);
     let x = m.element;
     let y = m.component;
     let z = m.segment;
     codec::either(c == x, codec::either(c == y, c == z))
 }
 
-fn text_marked(b: &[u8], at: usize, end: u32, m: Marks) -> bool
-    requires { end ≤ length b.now }
-    ensures { Says bytes_c b.now end at (marked m) result }
+fn text_marked(s: Section, at: usize, m: Marks) -> bool
+    ensures { Says bytes_c s.entry.bytes.now s.entry.end at (marked m) result }
 {
-    let mut left = codec::count_at(b, at, end);
-    let mut p = codec::le_at(b, 4, at, end);
-    while 0 < left {
-        if mark_at(b, p, end, m) {
-            return true;
-        }
-        p = codec::le_at(b, 1, p, end);
-        left = left - 1;
-    }
-    false
+    says::lists::any_at::<Le<1>, _>(s, at, |p| mark_at(s, p, m))
 }
 
-fn texts_marked(b: &[u8], at: usize, end: u32, m: Marks) -> bool
-    requires { end ≤ length b.now }
-    ensures { Says (list_c bytes_c) b.now end at (any_of (marked m)) result }
+fn texts_marked(s: Section, at: usize, m: Marks) -> bool
+    ensures { Says (list_c bytes_c) s.entry.bytes.now s.entry.end at (any_of (marked m)) result }
 {
-    let mut left = codec::count_at(b, at, end);
-    let mut p = codec::le_at(b, 4, at, end);
-    while 0 < left {
-        if text_marked(b, p, end, m) {
-            return true;
-        }
-        p = codec::bytes_at(b, p, end);
-        left = left - 1;
-    }
-    false
+    says::lists::any_at::<Bytes, _>(s, at, |p| text_marked(s, p, m))
 }
 
 // ---- the plan
 
-fn value_marked(b: &[u8], at: usize, end: u32, m: Marks) -> bool
-    requires { end ≤ length b.now }
-    ensures { Says value_c b.now end at (marked_value m) result }
+fn value_marked(s: Section, at: usize, m: Marks) -> bool
+    ensures { Says value_c s.entry.bytes.now s.entry.end at (marked_value m) result }
 {
-    if codec::tag_at(b, at, end) == 2 {
-        let p = codec::le_at(b, 1, at, end);
-        return text_marked(b, p, end, m);
+    if s.tag_at(at) == 2 {
+        let p = s.le_at(1, at);
+        return text_marked(s, p, m);
     }
     false
 }
 
-fn element_plan_marked(b: &[u8], at: usize, end: u32, m: Marks) -> bool
-    requires { end ≤ length b.now }
-    ensures { Says element_plan_c b.now end at (marked_element_plan m) result }
+fn element_plan_marked(s: Section, at: usize, m: Marks) -> bool
+    ensures { Says element_plan_c s.entry.bytes.now s.entry.end at (marked_element_plan m) result }
 {
-    let component = codec::le_at(b, 4, at, end);
-    let value = codec::opt_num_at(b, component, end);
-    value_marked(b, value, end, m)
+    let component = s.le_at(4, at);
+    let value = s.opt_num_at(component);
+    value_marked(s, value, m)
 }
 
-fn element_plans_marked(b: &[u8], at: usize, end: u32, m: Marks) -> bool
-    requires { end ≤ length b.now }
-    ensures { Says (list_c element_plan_c) b.now end at (any_of (marked_element_plan m)) result }
+fn element_plans_marked(s: Section, at: usize, m: Marks) -> bool
+    ensures { Says (list_c element_plan_c) s.entry.bytes.now s.entry.end at (any_of (marked_element_plan m)) result }
 {
-    let mut left = codec::count_at(b, at, end);
-    let mut p = codec::le_at(b, 4, at, end);
-    while 0 < left {
-        if element_plan_marked(b, p, end, m) {
-            return true;
-        }
-        p = format::element_plan_at(b, p, end);
-        left = left - 1;
-    }
-    false
+    says::lists::any_at::<ElementPlan, _>(s, at, |p| element_plan_marked(s, p, m))
 }
 
-fn segment_plan_marked(b: &[u8], at: usize, end: u32, m: Marks) -> bool
-    requires { end ≤ length b.now }
-    ensures { Says segment_plan_c b.now end at (marked_segment_plan m) result }
+fn segment_plan_marked(s: Section, at: usize, m: Marks) -> bool
+    ensures { Says segment_plan_c s.entry.bytes.now s.entry.end at (marked_segment_plan m) result }
 {
-    let source = codec::le_at(b, 4, at, end);
-    let elements = format::source_at(b, source, end);
-    element_plans_marked(b, elements, end, m)
+    let source = s.le_at(4, at);
+    let elements = Source::ends_at(s, source);
+    element_plans_marked(s, elements, m)
 }
 
-fn segment_plans_marked(b: &[u8], at: usize, end: u32, m: Marks) -> bool
-    requires { end ≤ length b.now }
-    ensures { Says (list_c segment_plan_c) b.now end at (any_of (marked_segment_plan m)) result }
+fn segment_plans_marked(s: Section, at: usize, m: Marks) -> bool
+    ensures { Says (list_c segment_plan_c) s.entry.bytes.now s.entry.end at (any_of (marked_segment_plan m)) result }
 {
-    let mut left = codec::count_at(b, at, end);
-    let mut p = codec::le_at(b, 4, at, end);
-    while 0 < left {
-        if segment_plan_marked(b, p, end, m) {
-            return true;
-        }
-        p = format::segment_plan_at(b, p, end);
-        left = left - 1;
-    }
-    false
+    says::lists::any_at::<SegmentPlan, _>(s, at, |p| segment_plan_marked(s, p, m))
 }
 
-fn loop_plan_marked(b: &[u8], at: usize, end: u32, m: Marks) -> bool
-    requires { end ≤ length b.now }
-    ensures { Says loop_plan_c b.now end at (marked_loop_plan m) result }
+fn loop_plan_marked(s: Section, at: usize, m: Marks) -> bool
+    ensures { Says loop_plan_c s.entry.bytes.now s.entry.end at (marked_loop_plan m) result }
 {
-    let segments = format::instances_at(b, at, end);
-    segment_plans_marked(b, segments, end, m)
+    let segments = Instances::ends_at(s, at);
+    segment_plans_marked(s, segments, m)
 }
 
-pub fn plan_marked(b: &[u8], at: usize, end: u32, m: Marks) -> bool
-    requires { end ≤ length b.now }
-    ensures { Says (list_c loop_plan_c) b.now end at (any_of (marked_loop_plan m)) result }
+pub fn plan_marked(s: Section, at: usize, m: Marks) -> bool
+    ensures { Says (list_c loop_plan_c) s.entry.bytes.now s.entry.end at (any_of (marked_loop_plan m)) result }
 {
-    let mut left = codec::count_at(b, at, end);
-    let mut p = codec::le_at(b, 4, at, end);
-    while 0 < left {
-        if loop_plan_marked(b, p, end, m) {
-            return true;
-        }
-        p = format::loop_plan_at(b, p, end);
-        left = left - 1;
-    }
-    false
+    says::lists::any_at::<LoopPlan, _>(s, at, |p| loop_plan_marked(s, p, m))
 }
 
 // ---- the spec
 
-fn component_marked(b: &[u8], at: usize, end: u32, m: Marks) -> bool
-    requires { end ≤ length b.now }
-    ensures { Says (num_c ⊗ component_c) b.now end at (marked_component m) result }
+fn component_marked(s: Section, at: usize, m: Marks) -> bool
+    ensures { Says (num_c ⊗ component_c) s.entry.bytes.now s.entry.end at (marked_component m) result }
 {
-    let value = codec::le_at(b, 4, at, end);
-    let kind = format::kind_at(b, value, end);
-    let min = codec::opt_num_at(b, kind, end);
-    let max = codec::opt_num_at(b, min, end);
-    texts_marked(b, max, end, m)
+    let value = s.le_at(4, at);
+    let kind = Kind::ends_at(s, value);
+    let min = s.opt_num_at(kind);
+    let max = s.opt_num_at(min);
+    texts_marked(s, max, m)
 }
 
-fn components_marked(b: &[u8], at: usize, end: u32, m: Marks) -> bool
-    requires { end ≤ length b.now }
-    ensures { Says (list_c (num_c ⊗ component_c)) b.now end at (any_of (marked_component m)) result }
+fn components_marked(s: Section, at: usize, m: Marks) -> bool
+    ensures { Says (list_c (num_c ⊗ component_c)) s.entry.bytes.now s.entry.end at (any_of (marked_component m)) result }
 {
-    let mut left = codec::count_at(b, at, end);
-    let mut p = codec::le_at(b, 4, at, end);
-    while 0 < left {
-        if component_marked(b, p, end, m) {
-            return true;
-        }
-        let value = codec::le_at(b, 4, p, end);
-        p = format::component_at(b, value, end);
-        left = left - 1;
-    }
-    false
+    says::lists::any_at::<(Le<4>, Component), _>(s, at, |p| component_marked(s, p, m))
 }
 
-fn element_marked(b: &[u8], at: usize, end: u32, m: Marks) -> bool
-    requires { end ≤ length b.now }
-    ensures { Says (num_c ⊗ element_c) b.now end at (marked_element m) result }
+fn element_marked(s: Section, at: usize, m: Marks) -> bool
+    ensures { Says (num_c ⊗ element_c) s.entry.bytes.now s.entry.end at (marked_element m) result }
 {
-    let value = codec::le_at(b, 4, at, end);
-    let kind = format::kind_at(b, value, end);
-    let min = codec::opt_num_at(b, kind, end);
-    let max = codec::opt_num_at(b, min, end);
-    let components = format::components_at(b, max, end);
-    let x = texts_marked(b, components, end, m);
-    let y = components_marked(b, max, end, m);
+    let value = s.le_at(4, at);
+    let kind = Kind::ends_at(s, value);
+    let min = s.opt_num_at(kind);
+    let max = s.opt_num_at(min);
+    let components = NumMap::<Component>::ends_at(s, max);
+    let x = texts_marked(s, components, m);
+    let y = components_marked(s, max, m);
     codec::either(x, y)
 }
 
-fn elements_marked(b: &[u8], at: usize, end: u32, m: Marks) -> bool
-    requires { end ≤ length b.now }
-    ensures { Says (list_c (num_c ⊗ element_c)) b.now end at (any_of (marked_element m)) result }
+fn elements_marked(s: Section, at: usize, m: Marks) -> bool
+    ensures { Says (list_c (num_c ⊗ element_c)) s.entry.bytes.now s.entry.end at (any_of (marked_element m)) result }
 {
-    let mut left = codec::count_at(b, at, end);
-    let mut p = codec::le_at(b, 4, at, end);
-    while 0 < left {
-        if element_marked(b, p, end, m) {
-            return true;
-        }
-        let value = codec::le_at(b, 4, p, end);
-        p = format::element_at(b, value, end);
-        left = left - 1;
-    }
-    false
+    says::lists::any_at::<(Le<4>, Element), _>(s, at, |p| element_marked(s, p, m))
 }
 
-fn segment_marked(b: &[u8], at: usize, end: u32, m: Marks) -> bool
-    requires { end ≤ length b.now }
-    ensures { Says (bytes_c ⊗ segment_c) b.now end at (marked_segment m) result }
+fn segment_marked(s: Section, at: usize, m: Marks) -> bool
+    ensures { Says (bytes_c ⊗ segment_c) s.entry.bytes.now s.entry.end at (marked_segment m) result }
 {
-    let value = codec::bytes_at(b, at, end);
-    elements_marked(b, value, end, m)
+    let value = s.bytes_at(at);
+    elements_marked(s, value, m)
 }
 
-pub fn segments_marked(b: &[u8], at: usize, end: u32, m: Marks) -> bool
-    requires { end ≤ length b.now }
-    ensures { Says (list_c (bytes_c ⊗ segment_c)) b.now end at (any_of (marked_segment m)) result }
+pub fn segments_marked(s: Section, at: usize, m: Marks) -> bool
+    ensures { Says (list_c (bytes_c ⊗ segment_c)) s.entry.bytes.now s.entry.end at (any_of (marked_segment m)) result }
 {
-    let mut left = codec::count_at(b, at, end);
-    let mut p = codec::le_at(b, 4, at, end);
-    while 0 < left {
-        if segment_marked(b, p, end, m) {
-            return true;
-        }
-        let value = codec::bytes_at(b, p, end);
-        p = format::elements_at(b, value, end);
-        left = left - 1;
-    }
-    false
+    says::lists::any_at::<(Bytes, NumMap<Element>), _>(s, at, |p| segment_marked(s, p, m))
 }
 
-fn version_marked(b: &[u8], at: usize, end: u32, m: Marks) -> bool
-    requires { end ≤ length b.now }
-    ensures { Says version_c b.now end at (marked_version m) result }
+fn version_marked(s: Section, at: usize, m: Marks) -> bool
+    ensures { Says version_c s.entry.bytes.now s.entry.end at (marked_version m) result }
 {
-    let segment = codec::bytes_at(b, at, end);
-    let element = codec::le_at(b, 4, segment, end);
-    text_marked(b, element, end, m)
+    let segment = s.bytes_at(at);
+    let element = s.le_at(4, segment);
+    text_marked(s, element, m)
 }
 
-pub fn opt_version_marked(b: &[u8], at: usize, end: u32, m: Marks) -> bool
-    requires { end ≤ length b.now }
-    ensures { Says (opt_c version_c) b.now end at (if_some (marked_version m)) result }
+pub fn opt_version_marked(s: Section, at: usize, m: Marks) -> bool
+    ensures { Says (opt_c version_c) s.entry.bytes.now s.entry.end at (if_some (marked_version m)) result }
 {
-    if codec::tag_at(b, at, end) == 1 {
-        let p = codec::le_at(b, 1, at, end);
-        return version_marked(b, p, end, m);
-    }
-    false
+    says::lists::opt_at::<Version, _>(s, at, |p| version_marked(s, p, m))
 }

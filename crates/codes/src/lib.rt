@@ -18,6 +18,9 @@ ghost use Rattle.nest.specs.Ready.{Ready};
 ghost use Rattle.codes.specs.Fits.{MapsFit, RulesFit};
 
 use crate::codes::Marks;
+use codec::forms::{BytesMap, Items, NumMap};
+use codec::{Form, Section};
+use format::{Element, Loop, Table};
 
 // One of the trailer's numbers: k is its place there.
 pub fn start(b: &[u8], k: u8) -> u32
@@ -34,7 +37,13 @@ pub fn rules_fit(job: &[u8]) -> bool
     ensures { Decides result (RulesFit (job_of job.now)) }
 {
     let plan = start(job, 4);
-    !rules::loops_wrong(job, 0, plan)
+    !rules::loops_wrong(
+        Section {
+            bytes: job,
+            end: plan,
+        },
+        0,
+    )
 }
 
 // The spec's maps.
@@ -42,10 +51,13 @@ pub fn maps_fit(job: &[u8]) -> bool
     requires { Passed job.now }
     ensures { Decides result (MapsFit (job_of job.now)) }
 {
-    let plan = start(job, 4);
-    let loops = format::loops_at(job, 0, plan);
-    let roots = codec::les_at(job, 4, loops, plan);
-    !maps::segments_low(job, roots, plan)
+    let s = Section {
+        bytes: job,
+        end: start(job, 4),
+    };
+    let loops = Items::<Loop>::ends_at(s, 0);
+    let roots = s.les_at(4, loops);
+    !maps::segments_low(s, roots)
 }
 
 fn marks(job: &[u8], index: &[u16]) -> Marks
@@ -62,16 +74,15 @@ fn marks(job: &[u8], index: &[u16]) -> Marks
     }
 }
 
-fn spec_marked(job: &[u8], end: u32, m: Marks) -> bool
-    requires { end ≤ length job.now }
-    ensures { Says spec_c job.now end 0 (marked_spec m) result }
+fn spec_marked(s: Section, m: Marks) -> bool
+    ensures { Says spec_c s.entry.bytes.now s.entry.end 0 (marked_spec m) result }
 {
-    let loops = format::loops_at(job, 0, end);
-    let roots = codec::les_at(job, 4, loops, end);
-    let segments = format::segments_at(job, roots, end);
-    let tables = format::tables_at(job, segments, end);
-    let x = codes::segments_marked(job, roots, end, m);
-    let y = codes::opt_version_marked(job, tables, end, m);
+    let loops = Items::<Loop>::ends_at(s, 0);
+    let roots = s.les_at(4, loops);
+    let segments = BytesMap::<NumMap<Element>>::ends_at(s, roots);
+    let tables = Items::<Table>::ends_at(s, segments);
+    let x = codes::segments_marked(s, roots, m);
+    let y = codes::opt_version_marked(s, tables, m);
     codec::either(x, y)
 }
 
@@ -83,7 +94,20 @@ pub fn codes_clear(job: &[u8], index: &[u16]) -> bool
     let m = marks(job, index);
     let plan = start(job, 4);
     let layout = start(job, 8);
-    let x = codes::plan_marked(job, plan as usize, layout, m);
-    let y = spec_marked(job, plan, m);
+    let x = codes::plan_marked(
+        Section {
+            bytes: job,
+            end: layout,
+        },
+        plan as usize,
+        m,
+    );
+    let y = spec_marked(
+        Section {
+            bytes: job,
+            end: plan,
+        },
+        m,
+    );
     !codec::either(x, y)
 }

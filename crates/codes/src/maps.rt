@@ -8,82 +8,49 @@ ghost use Rattle.says.specs.Says.{Says};
 ghost use Rattle.codes.specs.Maps.{low_component, low_element, low_segment};
 
 use crate::rules::low_at;
+use codec::forms::{Bytes, Le, NumMap};
+use codec::{Form, Section};
+use format::{Component, Element, Kind};
 
-fn component_low(b: &[u8], at: usize, end: u32) -> bool
-    requires { end ≤ length b.now }
-    ensures { Says (num_c ⊗ component_c) b.now end at low_component result }
+fn component_low(s: Section, at: usize) -> bool
+    ensures { Says (num_c ⊗ component_c) s.entry.bytes.now s.entry.end at low_component result }
 {
-    low_at(b, at, end)
+    low_at(s, at)
 }
 
-fn components_low(b: &[u8], at: usize, end: u32) -> bool
-    requires { end ≤ length b.now }
-    ensures { Says (list_c (num_c ⊗ component_c)) b.now end at (any_of low_component) result }
+fn components_low(s: Section, at: usize) -> bool
+    ensures { Says (list_c (num_c ⊗ component_c)) s.entry.bytes.now s.entry.end at (any_of low_component) result }
 {
-    let mut left = codec::count_at(b, at, end);
-    let mut p = codec::le_at(b, 4, at, end);
-    while 0 < left {
-        if component_low(b, p, end) {
-            return true;
-        }
-        let value = codec::le_at(b, 4, p, end);
-        p = format::component_at(b, value, end);
-        left = left - 1;
-    }
-    false
+    says::lists::any_at::<(Le<4>, Component), _>(s, at, |p| component_low(s, p))
 }
 
-fn element_low(b: &[u8], at: usize, end: u32) -> bool
-    requires { end ≤ length b.now }
-    ensures { Says (num_c ⊗ element_c) b.now end at low_element result }
+fn element_low(s: Section, at: usize) -> bool
+    ensures { Says (num_c ⊗ element_c) s.entry.bytes.now s.entry.end at low_element result }
 {
-    let value = codec::le_at(b, 4, at, end);
-    let kind = format::kind_at(b, value, end);
-    let min = codec::opt_num_at(b, kind, end);
-    let max = codec::opt_num_at(b, min, end);
-    let x = low_at(b, at, end);
-    let y = components_low(b, max, end);
+    let value = s.le_at(4, at);
+    let kind = Kind::ends_at(s, value);
+    let min = s.opt_num_at(kind);
+    let max = s.opt_num_at(min);
+    let x = low_at(s, at);
+    let y = components_low(s, max);
     codec::either(x, y)
 }
 
-fn elements_low(b: &[u8], at: usize, end: u32) -> bool
-    requires { end ≤ length b.now }
-    ensures { Says (list_c (num_c ⊗ element_c)) b.now end at (any_of low_element) result }
+fn elements_low(s: Section, at: usize) -> bool
+    ensures { Says (list_c (num_c ⊗ element_c)) s.entry.bytes.now s.entry.end at (any_of low_element) result }
 {
-    let mut left = codec::count_at(b, at, end);
-    let mut p = codec::le_at(b, 4, at, end);
-    while 0 < left {
-        if element_low(b, p, end) {
-            return true;
-        }
-        let value = codec::le_at(b, 4, p, end);
-        p = format::element_at(b, value, end);
-        left = left - 1;
-    }
-    false
+    says::lists::any_at::<(Le<4>, Element), _>(s, at, |p| element_low(s, p))
 }
 
-fn segment_low(b: &[u8], at: usize, end: u32) -> bool
-    requires { end ≤ length b.now }
-    ensures { Says (bytes_c ⊗ segment_c) b.now end at low_segment result }
+fn segment_low(s: Section, at: usize) -> bool
+    ensures { Says (bytes_c ⊗ segment_c) s.entry.bytes.now s.entry.end at low_segment result }
 {
-    let value = codec::bytes_at(b, at, end);
-    elements_low(b, value, end)
+    let value = s.bytes_at(at);
+    elements_low(s, value)
 }
 
-pub fn segments_low(b: &[u8], at: usize, end: u32) -> bool
-    requires { end ≤ length b.now }
-    ensures { Says (list_c (bytes_c ⊗ segment_c)) b.now end at (any_of low_segment) result }
+pub fn segments_low(s: Section, at: usize) -> bool
+    ensures { Says (list_c (bytes_c ⊗ segment_c)) s.entry.bytes.now s.entry.end at (any_of low_segment) result }
 {
-    let mut left = codec::count_at(b, at, end);
-    let mut p = codec::le_at(b, 4, at, end);
-    while 0 < left {
-        if segment_low(b, p, end) {
-            return true;
-        }
-        let value = codec::bytes_at(b, p, end);
-        p = format::elements_at(b, value, end);
-        left = left - 1;
-    }
-    false
+    says::lists::any_at::<(Bytes, NumMap<Element>), _>(s, at, |p| segment_low(s, p))
 }

@@ -2,9 +2,9 @@
 use Prim.Native.Nat.{ℕ, ◌+◌, ◌*◌, ◌/◌, ◌%◌, ◌^◌, ◌≤◌, ◌<◌}
 use mathlib.Core.Path.{◌≡◌, sym, ◌∙◌}
 use mathlib.Core.List.{List}
-use mathlib.Core.Option.{none, some}
 use mathlib.Core.Bool.{Bool}
 use native.Mathlib.Omega.{arith}
+use Rattle.std.specs.Prelude.{None, Some}
 use lib.ListN.{length, get_or}
 use lib.Dec.{eqb}
 use borrow.Author.Tests.{lt-ltb, le-ltb}
@@ -32,14 +32,14 @@ pub bit_outside : {A : Type 0} (b : List ℕ) (at n : ℕ) → n ≡ le 4 b at �
 bit_outside b at n i h e bytes count l is = absurd (omega (arith, (is_le 4 b e (at + 4 + n) count (split b e at n bytes count i is).1).0))
 
 module _ (b : List ℕ) (at row n k : ℕ) (i : n ≡ le 4 b at) (j : k ≡ le 4 b (at + 4 + n)) where
-  pub bit_past : k ≤ row → (e : ℕ) (bytes : List ℕ) (count : ℕ) → e ≤ length b → Is (bytes_c ⊗ num_c) b e at (bytes, count) → none ≡ bit_of bytes count row
+  pub bit_past : k ≤ row → (e : ℕ) (bytes : List ℕ) (count : ℕ) → e ≤ length b → Is (bytes_c ⊗ num_c) b e at (bytes, count) → None ≡ bit_of bytes count row
   unfolding bit_of
   bit_past h e bytes count l is =
       let t = counts b e at n k bytes count i j is in
       let q : count ≤ row = rw t.1 h in
       sym (simp (le-ltb _ _ q))
 
-  pub bit_short : row < k → n ≤ row / 8 → (e : ℕ) (bytes : List ℕ) (count : ℕ) → e ≤ length b → Is (bytes_c ⊗ num_c) b e at (bytes, count) → none ≡ bit_of bytes count row
+  pub bit_short : row < k → n ≤ row / 8 → (e : ℕ) (bytes : List ℕ) (count : ℕ) → e ≤ length b → Is (bytes_c ⊗ num_c) b e at (bytes, count) → None ≡ bit_of bytes count row
   unfolding bit_of
   bit_short h m e bytes count l is =
       let t = counts b e at n k bytes count i j is in
@@ -48,7 +48,7 @@ module _ (b : List ℕ) (at row n k : ℕ) (i : n ≡ le 4 b at) (j : k ≡ le 4
       sym (simp (lt-ltb _ _ q, le-ltb _ _ r))
 
   pub bit_is_lem : row < k → row / 8 < n → (x : ℕ) (v : Bool) → x ≡ get_or b (at + 4 + row / 8) 0 → v ≡ eqb (x / 2 ^ (row % 8) % 2) 1
-      → (e : ℕ) (bytes : List ℕ) (count : ℕ) → e ≤ length b → Is (bytes_c ⊗ num_c) b e at (bytes, count) → some v ≡ bit_of bytes count row
+      → (e : ℕ) (bytes : List ℕ) (count : ℕ) → e ≤ length b → Is (bytes_c ⊗ num_c) b e at (bytes, count) → Some v ≡ bit_of bytes count row
   unfolding bit_of
   bit_is_lem h m x v f g e bytes count l is =
       let t = counts b e at n k bytes count i j is in

@@ -2,9 +2,9 @@
 use Prim.Native.Nat.{ℕ, ◌+◌, ◌*◌, ◌≤◌, ◌<◌}
 use mathlib.Core.Path.{◌≡◌, refl, sym, ap, ◌∙◌}
 use mathlib.Core.List.{List}
-use mathlib.Core.Option.{Option, none, some}
 use mathlib.Core.Bool.{Bool, true, false}
 use native.Mathlib.Omega.{arith}
+use Rattle.std.specs.Prelude.{Option, None, Some}
 use lib.ListN.{length, get_or}
 use Rattle.codec.specs.Codec.{◌⊗◌, le, le_c}
 use Rattle.codec.specs.Skip.{skip, Is, skip_map, skip_pair, skip_le}
@@ -14,12 +14,10 @@ use Rattle.codec.specs.Ways.{tag_in, opt_none, opt_some, skip_opt}
 use Rattle.codec.specs.Answers.{skip_les}
 use Rattle.format.specs.Data.{Values, values_c, Column, column_c}
 use Rattle.column.specs.Cell.{Cell, bit_of, value_of, get, opt_get, validated, int64_of}
-use Rattle.column.specs.Answers.{Reads, bit_is}
+use Rattle.column.specs.Answers.{Reads}
 use Rattle.column.specs.Parts.{ColumnIs, is_column}
 use Rattle.column.specs.declared.Cell.{Cell as Read}
-use Rattle.column.specs.declared.Cell.TheVariants.{None, Null}
-use Rattle.column.specs.declared.Bit.{Bit}
-use Rattle.column.specs.declared.Bit.TheVariants.{Missing, Unset, Set}
+use Rattle.column.specs.declared.Cell.TheVariants.{None as NoAnswer, Null}
 use Rattle.column.proofs.Bits.{bit_outside}
 use Rattle.column.proofs.Read.{reads_none, reads_null}
 use Rattle.column.proofs.Values.{Reader, Ending, value_is, other_value, ending_room, ends_at}
@@ -43,23 +41,23 @@ column_outside b at n k p i h j o e v l is =
     bit_outside b p (le 4 b p) refl (omega arith) e v.validity v.length l (rw q c.validity)
 
 -- ---- the cell of a row in a column of kind k, whose validity stands at p: its bit decides
-module _ (b : List ℕ) (at row n k p : ℕ) (i : n ≡ le 4 b (at + 1)) (h : get_or b at 0 ≡ k) (j : p ≡ Ending b at n k) (bit : Bit)
-    (g : (e : ℕ) (bytes : List ℕ) (count : ℕ) → e ≤ length b → Is (bytes_c ⊗ num_c) b e p (bytes, count) → bit_is bit ≡ bit_of bytes count row) where
-  told : (t : Bit) → bit ≡ t → (e : ℕ) (v : Column) → e ≤ length b → Is column_c b e at v → validated (bit_is t) (value_of v.values row) ≡ get v row
+module _ (b : List ℕ) (at row n k p : ℕ) (i : n ≡ le 4 b (at + 1)) (h : get_or b at 0 ≡ k) (j : p ≡ Ending b at n k) (bit : Option Bool)
+    (g : (e : ℕ) (bytes : List ℕ) (count : ℕ) → e ≤ length b → Is (bytes_c ⊗ num_c) b e p (bytes, count) → bit ≡ bit_of bytes count row) where
+  told : (t : Option Bool) → bit ≡ t → (e : ℕ) (v : Column) → e ≤ length b → Is column_c b e at v → validated t (value_of v.values row) ≡ get v row
   unfolding get
   told t m e v l is =
       let c : ColumnIs b e at v = is_column b e at v is in
       let q : p ≡ skip values_c b at e = ends_at b at n k p i h j e v.values c.values in
-      rw (ap bit_is (sym m) ∙ g e v.validity v.length l (rw q c.validity))
+      rw ((sym m) ∙ g e v.validity v.length l (rw q c.validity))
 
-  pub get_missing : bit ≡ Missing → (e : ℕ) (v : Column) → e ≤ length b → Is column_c b e at v → Reads b None (get v row)
-  get_missing m e v l is = reads_none b (told Missing m e v l is)
+  pub get_missing : bit ≡ None → (e : ℕ) (v : Column) → e ≤ length b → Is column_c b e at v → Reads b NoAnswer (get v row)
+  get_missing m e v l is = reads_none b (told None m e v l is)
 
-  pub get_unset : bit ≡ Unset → (e : ℕ) (v : Column) → e ≤ length b → Is column_c b e at v → Reads b Null (get v row)
-  get_unset m e v l is = reads_null b (told Unset m e v l is)
+  pub get_unset : bit ≡ Some false → (e : ℕ) (v : Column) → e ≤ length b → Is column_c b e at v → Reads b Null (get v row)
+  get_unset m e v l is = reads_null b (told (Some false) m e v l is)
 
-  pub get_set : bit ≡ Set → (r : Read) → Reader b (at + 1) row r k → (e : ℕ) (v : Column) → e ≤ length b → Is column_c b e at v → Reads b r (get v row)
-  get_set m r f e v l is = rw (← told Set m e v l is) (value_is b at row r k h f e v.values l (is_column b e at v is).values)
+  pub get_set : bit ≡ Some true → (r : Read) → Reader b (at + 1) row r k → (e : ℕ) (v : Column) → e ≤ length b → Is column_c b e at v → Reads b r (get v row)
+  get_set m r f e v l is = rw (← told (Some true) m e v l is) (value_is b at row r k h f e v.values l (is_column b e at v is).values)
 
 -- ---- optional columns
 column_room : (b : List ℕ) (e at : ℕ) (v : Column) → Is column_c b e at v → at + 5 ≤ e
@@ -70,37 +68,37 @@ column_room b e at v is =
     let q : Ending b at n k ≡ skip values_c b at e = ends_at b at n k _ refl refl refl e v.values c.values in
     omega (arith, ending_room b at n k, is_in (bytes_c ⊗ num_c) b e (skip values_c b at e) _ c.validity)
 
-pub opt_zero : (b : List ℕ) (at : ℕ) → get_or b at 0 ≡ 0 → (e : ℕ) (o : Option Column) → e ≤ length b → Is (opt_c column_c) b e at o → o ≡ none
-opt_zero b at h e none l is = refl
-opt_zero b at h e (some x) l is = absurd (omega (arith, (is_some column_c b e at x is).0))
+pub opt_zero : (b : List ℕ) (at : ℕ) → get_or b at 0 ≡ 0 → (e : ℕ) (o : Option Column) → e ≤ length b → Is (opt_c column_c) b e at o → o ≡ None
+opt_zero b at h e None l is = refl
+opt_zero b at h e (Some x) l is = absurd (omega (arith, (is_some column_c b e at x is).0))
 
-pub opt_short : (b : List ℕ) (at : ℕ) → length b < at + 6 → (e : ℕ) (o : Option Column) → e ≤ length b → Is (opt_c column_c) b e at o → o ≡ none
-opt_short b at h e none l is = refl
-opt_short b at h e (some x) l is = absurd (omega (arith, column_room b e (at + 1) x (is_some column_c b e at x is).1))
+pub opt_short : (b : List ℕ) (at : ℕ) → length b < at + 6 → (e : ℕ) (o : Option Column) → e ≤ length b → Is (opt_c column_c) b e at o → o ≡ None
+opt_short b at h e None l is = refl
+opt_short b at h e (Some x) l is = absurd (omega (arith, column_room b e (at + 1) x (is_some column_c b e at x is).1))
 
-pub opt_absent : (b : List ℕ) (row : ℕ) (o : Option Column) → o ≡ none → Reads b None (opt_get o row)
+pub opt_absent : (b : List ℕ) (row : ℕ) (o : Option Column) → o ≡ None → Reads b NoAnswer (opt_get o row)
 unfolding opt_get
 opt_absent b row o h = rw h (reads_none b refl)
 
 pub opt_there : (b : List ℕ) (at row : ℕ) (r : Read) → (get_or b at 0 ≡ 0 → ⊥) → ((e : ℕ) (v : Column) → e ≤ length b → Is column_c b e (at + 1) v → Reads b r (get v row)) → (e : ℕ) (o : Option Column) → e ≤ length b → Is (opt_c column_c) b e at o → Reads b r (opt_get o row)
 unfolding opt_get
-opt_there b at row r h f e none l is = absurd (h (is_none column_c b e at is))
-opt_there b at row r h f e (some x) l is = f e x l (is_some column_c b e at x is).1
+opt_there b at row r h f e None l is = absurd (h (is_none column_c b e at is))
+opt_there b at row r h f e (Some x) l is = f e x l (is_some column_c b e at x is).1
 
 -- a column that is not there, or of another kind, has no Int64
-pub int_absent : (row : ℕ) (o : Option Column) → o ≡ none → none ≡ int64_of (opt_get o row)
+pub int_absent : (row : ℕ) (o : Option Column) → o ≡ None → None ≡ int64_of (opt_get o row)
 unfolding opt_get
 int_absent row o h = rw h
 
-pub int_other : (b : List ℕ) (at row : ℕ) → (get_or b (at + 1) 0 ≡ 1 → ⊥) → (e : ℕ) (o : Option Column) → Is (opt_c column_c) b e at o → none ≡ int64_of (opt_get o row)
+pub int_other : (b : List ℕ) (at row : ℕ) → (get_or b (at + 1) 0 ≡ 1 → ⊥) → (e : ℕ) (o : Option Column) → Is (opt_c column_c) b e at o → None ≡ int64_of (opt_get o row)
 unfolding opt_get get
-int_other b at row h e none is = refl
-int_other b at row h e (some x) is = go (bit_of x.validity x.length row) (value_of x.values row) (other_value b e (at + 1) row x.values (is_column b e (at + 1) x (is_some column_c b e at x is).1).values h)
+int_other b at row h e None is = refl
+int_other b at row h e (Some x) is = go (bit_of x.validity x.length row) (value_of x.values row) (other_value b e (at + 1) row x.values (is_column b e (at + 1) x (is_some column_c b e at x is).1).values h)
   where
-    go : (t : Option Bool) (y : Option Cell) → none ≡ int64_of y → none ≡ int64_of (validated t y)
-    go none y q = refl
-    go (some false) y q = refl
-    go (some true) y q = q
+    go : (t : Option Bool) (y : Option Cell) → None ≡ int64_of y → None ≡ int64_of (validated t y)
+    go None y q = refl
+    go (Some false) y q = refl
+    go (Some true) y q = q
 
 opt_room : (b : List ℕ) (e at : ℕ) (o : Option Column) → Is (opt_c column_c) b e at o → at < e
 unfolding opt_c
@@ -110,8 +108,8 @@ pub opt_end_absent : (b : List ℕ) (at : ℕ) → get_or b at 0 ≡ 0 → (e : 
 opt_end_absent b at h e o is = sym (skip_opt column_c b at e ∙ opt_none b at e _ (tag_in b at e (opt_room b e at o is) ∙ h))
 
 pub opt_end_there : (b : List ℕ) (at p : ℕ) → (get_or b at 0 ≡ 0 → ⊥) → ((e : ℕ) (v : Column) → Is column_c b e (at + 1) v → p ≡ skip column_c b (at + 1) e) → (e : ℕ) (o : Option Column) → Is (opt_c column_c) b e at o → p ≡ skip (opt_c column_c) b at e
-opt_end_there b at p h f e none is = absurd (h (is_none column_c b e at is))
-opt_end_there b at p h f e (some x) is =
+opt_end_there b at p h f e None is = absurd (h (is_none column_c b e at is))
+opt_end_there b at p h f e (Some x) is =
     let t = is_some column_c b e at x is in
     let q : at + 1 ≤ e = is_in column_c b e (at + 1) x t.1 in
     let k : skip (le_c 1) b at e ≡ at + 1 = skip_le 1 b at e q in

@@ -2,10 +2,10 @@
 use Prim.Native.Nat.{ℕ, zero, suc, ◌+◌, ◌*◌, ◌-◌, ◌≤◌, ◌<◌}
 use mathlib.Core.Path.{◌≡◌, refl, sym, ap, ◌∙◌}
 use mathlib.Core.List.{List}
-use mathlib.Core.Option.{none, some}
 use mathlib.Core.Bool.{Bool, true, false}
 use native.Mathlib.Omega.{arith}
 use native.Mathlib.Nat.{add-zero, zero-add, mul_assoc}
+use Rattle.std.specs.Prelude.{None, Some}
 use lib.ListN.{length, get_or, take, drop, length-drop}
 use lib.Dec.{leb}
 use lib.Seq.{ext_get_or, get_or-take, get_or-drop, length-take-le}
@@ -17,7 +17,7 @@ use Rattle.codec.specs.Forms.{num_c, byte_c, wide_c, bytes_c}
 use Rattle.codec.specs.Answers.{skip_les, byte_item}
 use Rattle.column.specs.Cell.{Cell, held, between, bytes_of}
 use Rattle.column.specs.Answers.{Reads}
-use Rattle.column.specs.declared.Cell.TheVariants.{None, Bytes, Wide}
+use Rattle.column.specs.declared.Cell.TheVariants.{None as NoAnswer, Bytes, Wide}
 use Rattle.column.proofs.Read.{reads_none, reads_bytes, reads_wide}
 
 -- ---- lists of numbers of w bytes: at is the place of the column, behind its kind stands the list
@@ -36,11 +36,11 @@ item : (w : ℕ) (b : List ℕ) (at m x : ℕ) → x ≡ le w b (at + 5 + m * w)
 item w b at m x j e xs is q = item_of b e x (at + 1) (at + 1) w m xs (rw (place at m w) j) refl is q
 
 module _ (f : ℕ → Cell) (w : ℕ) (b : List ℕ) (at row n : ℕ) (i : n ≡ le 4 b (at + 1)) where
-  pub held_past : n ≤ row → (e : ℕ) (xs : List ℕ) → Is (list_c (le_c w)) b e (at + 1) xs → none ≡ held f xs row
+  pub held_past : n ≤ row → (e : ℕ) (xs : List ℕ) → Is (list_c (le_c w)) b e (at + 1) xs → None ≡ held f xs row
   unfolding held
   held_past h e xs is = let q : length xs ≤ row = rw ((is_list (le_c w) b e (at + 1) xs is).counted, ← i) h in sym (simp (le-ltb _ _ q))
 
-  pub held_is : row < n → (x : ℕ) → x ≡ le w b (at + 5 + row * w) → (e : ℕ) (xs : List ℕ) → Is (list_c (le_c w)) b e (at + 1) xs → some (f x) ≡ held f xs row
+  pub held_is : row < n → (x : ℕ) → x ≡ le w b (at + 5 + row * w) → (e : ℕ) (xs : List ℕ) → Is (list_c (le_c w)) b e (at + 1) xs → Some (f x) ≡ held f xs row
   unfolding held
   held_is h x j e xs is =
       let q : row < length xs = rw ((is_list (le_c w) b e (at + 1) xs is).counted, ← i) h in
@@ -66,15 +66,15 @@ pick_same true x = refl
 pick_same false x = refl
 
 module _ (at n from to : ℕ) where
-  pub to_negative : 2147483648 ≤ to → (b : List ℕ) (e : ℕ) (bytes : List ℕ) → n ≡ le 4 b at → e ≤ length b → Is bytes_c b e at bytes → Reads b None (between bytes from to)
+  pub to_negative : 2147483648 ≤ to → (b : List ℕ) (e : ℕ) (bytes : List ℕ) → n ≡ le 4 b at → e ≤ length b → Is bytes_c b e at bytes → Reads b NoAnswer (between bytes from to)
   unfolding between
-  to_negative j b e bytes i l is = reads_none b (sym (simp (le-leb _ _ j) (pick_same (leb 2147483648 from) none)))
+  to_negative j b e bytes i l is = reads_none b (sym (simp (le-leb _ _ j) (pick_same (leb 2147483648 from) None)))
 
-  pub falling : to < 2147483648 → to < from → (b : List ℕ) (e : ℕ) (bytes : List ℕ) → n ≡ le 4 b at → e ≤ length b → Is bytes_c b e at bytes → Reads b None (between bytes from to)
+  pub falling : to < 2147483648 → to < from → (b : List ℕ) (e : ℕ) (bytes : List ℕ) → n ≡ le 4 b at → e ≤ length b → Is bytes_c b e at bytes → Reads b NoAnswer (between bytes from to)
   unfolding between
-  falling j k b e bytes i l is = reads_none b (sym (simp (lt-leb _ _ j, lt-ltb _ _ k) (pick_same (leb 2147483648 from) none)))
+  falling j k b e bytes i l is = reads_none b (sym (simp (lt-leb _ _ j, lt-ltb _ _ k) (pick_same (leb 2147483648 from) None)))
 
-  pub passing : to < 2147483648 → from ≤ to → n < to → (b : List ℕ) (e : ℕ) (bytes : List ℕ) → n ≡ le 4 b at → e ≤ length b → Is bytes_c b e at bytes → Reads b None (between bytes from to)
+  pub passing : to < 2147483648 → from ≤ to → n < to → (b : List ℕ) (e : ℕ) (bytes : List ℕ) → n ≡ le 4 b at → e ≤ length b → Is bytes_c b e at bytes → Reads b NoAnswer (between bytes from to)
   unfolding between
   passing j k m b e bytes i l is =
       let h : from < 2147483648 = omega arith in
@@ -87,7 +87,7 @@ module _ (at n from to : ℕ) where
       let h : from < 2147483648 = omega arith in
       let q : to ≤ length bytes = rw ((is_list (le_c 1) b e at bytes is).counted, ← i) m in
       let r : at + 4 + length bytes ≤ e = fits (length bytes) refl in
-      reads_bytes b _ _ (omega arith) (ap (λ (xs : List ℕ). some (Cell.binary xs)) (equal q r) ∙ sym (simp (lt-leb _ _ h, lt-leb _ _ j, le-ltb _ _ k, le-ltb _ _ q)))
+      reads_bytes b _ _ (omega arith) (ap (λ (xs : List ℕ). Some (Cell.binary xs)) (equal q r) ∙ sym (simp (lt-leb _ _ h, lt-leb _ _ j, le-ltb _ _ k, le-ltb _ _ q)))
     where
       fits : (m : ℕ) → m ≡ length bytes → at + 4 + m ≤ e
       fits zero q = omega (arith, (is_list (le_c 1) b e at bytes is).room)
@@ -108,7 +108,7 @@ module _ (at n from to : ℕ) where
               rw (get_or-take, get_or-drop, get_or-take, get_or-drop, p) (sym (byte_item b e at bytes (from + g) is z))
 
 module _ (b : List ℕ) (at row n : ℕ) (i : n ≡ le 4 b (at + 1)) where
-  pub offsets_past : n ≤ row + 1 → (e : ℕ) (offsets bytes : List ℕ) → e ≤ length b → Is (list_c num_c ⊗ bytes_c) b e (at + 1) (offsets, bytes) → Reads b None (bytes_of offsets bytes row)
+  pub offsets_past : n ≤ row + 1 → (e : ℕ) (offsets bytes : List ℕ) → e ≤ length b → Is (list_c num_c ⊗ bytes_c) b e (at + 1) (offsets, bytes) → Reads b NoAnswer (bytes_of offsets bytes row)
   unfolding bytes_of
   offsets_past h e offsets bytes l is =
       let t = behind 4 bytes_c b at n i e offsets bytes is in
@@ -134,7 +134,7 @@ unfolding le
 le_one b at = omega arith
 
 module _ (b : List ℕ) (at row n : ℕ) (i : n ≡ le 4 b (at + 1)) where
-  pub wide_past : n ≤ row → (e : ℕ) (xs : List ℕ) (scale : ℕ) → Is (list_c wide_c ⊗ byte_c) b e (at + 1) (xs, scale) → Reads b None (held (λ x. Cell.decimal x scale) xs row)
+  pub wide_past : n ≤ row → (e : ℕ) (xs : List ℕ) (scale : ℕ) → Is (list_c wide_c ⊗ byte_c) b e (at + 1) (xs, scale) → Reads b NoAnswer (held (λ x. Cell.decimal x scale) xs row)
   wide_past h e xs scale is = reads_none b (held_past (λ x. Cell.decimal x scale) 16 b at row n i h e xs (behind 16 byte_c b at n i e xs scale is).0)
 
   pub wide_is : row < n → (low high s : ℕ) → low ≡ le 8 b (at + 5 + row * 16) → high ≡ le 8 b (at + 5 + row * 16 + 8) → s ≡ get_or b (at + 5 + n * 16) 0

@@ -2,32 +2,28 @@
 use Prim.Native.Nat.{ℕ, suc, ◌+◌, ◌-◌, ◌≤◌, ◌<◌}
 use mathlib.Core.Path.{◌≡◌, refl, sym, ap, ◌∙◌}
 use mathlib.Core.List.{List, [], ◌∷◌}
-use mathlib.Core.Option.{Option, none}
 use native.Mathlib.Omega.{arith}
+use Rattle.std.specs.Prelude.{Option, None, Some, unwrap_or}
 use lib.ListN.{length, get_or}
 use borrow.Author.Tests.{eq-eqb, ne_eqb}
 use Rattle.codec.specs.Codec.{Codec, ◌⊗◌, le}
 use Rattle.codec.specs.Skip.{skip, steps, Is, skip_pair, skip_le}
 use Rattle.codec.specs.Field.{ListIs, is_pair, is_list, is_le}
 use Rattle.codec.specs.Forms.{num_c, opt_c}
-use Rattle.codec.specs.declared.OptNum.{OptNum}
-use Rattle.codec.specs.declared.OptNum.TheVariants.{Num, Nothing}
 use Rattle.format.specs.Data.{Column, column_c}
 use Rattle.column.specs.Cell.{opt_get, int64_of, or_else, key_in, ref_column, reference_in}
-use Rattle.column.specs.Answers.{int_is, OptColumnAt}
+use Rattle.column.specs.Answers.{OptColumnAt}
 use Rattle.column.specs.Parts.{refs_c}
-use Rattle.column.specs.declared.OptInt.{OptInt}
-use Rattle.column.specs.declared.OptInt.TheVariants.{Number, NoNumber}
 
 -- ---- the key of a row
-module _ (b : List ℕ) (at row : ℕ) (x : OptInt) (f : (e : ℕ) (o : Option Column) → e ≤ length b → Is (opt_c column_c) b e at o → int_is x ≡ int64_of (opt_get o row)) where
-  pub key_is : (n : ℕ) → x ≡ Number n → (e : ℕ) (o : Option Column) → e ≤ length b → Is (opt_c column_c) b e at o → n ≡ key_in o row
-  unfolding key_in
-  key_is n h e o l is = ap (λ (y : OptInt). or_else row (int_is y)) (sym h) ∙ ap (or_else row) (f e o l is)
+unwrapped : (d : ℕ) (o : Option ℕ) → unwrap_or o d ≡ or_else d o
+unwrapped d None = refl
+unwrapped d (Some x) = refl
 
-  pub key_else : x ≡ NoNumber → (e : ℕ) (o : Option Column) → e ≤ length b → Is (opt_c column_c) b e at o → row ≡ key_in o row
-  unfolding key_in
-  key_else h e o l is = ap (λ (y : OptInt). or_else row (int_is y)) (sym h) ∙ ap (or_else row) (f e o l is)
+pub key_is : (b : List ℕ) (at row : ℕ) (x : Option ℕ) → ((e : ℕ) (o : Option Column) → e ≤ length b → Is (opt_c column_c) b e at o → x ≡ int64_of (opt_get o row))
+    → (n : ℕ) → n ≡ unwrap_or x row → (e : ℕ) (o : Option Column) → e ≤ length b → Is (opt_c column_c) b e at o → n ≡ key_in o row
+unfolding key_in
+key_is b at row x f n h e o l is = h ∙ unwrapped row x ∙ ap (or_else row) (f e o l is)
 
 -- ---- the first column of references to a table
 -- the items of a list stand one behind the other
@@ -48,10 +44,10 @@ pub record Rest (b : List ℕ) (above e left p : ℕ) (o : Option Column) : Type
   pub gives : o ≡ ref_column entries above
 
 module _ (b : List ℕ) (above : ℕ) where
-  pub rest_start : (at n : ℕ) → n ≡ le 4 b at → (e : ℕ) (refs : List (ℕ × Option Column)) → e ≤ length b → Is refs_c b e at refs → Rest b above e n (at + 4) (ref_column refs above)
+  pub rest_start : (at n : ℕ) → n ≡ le 4 b at → (e : ℕ) (refs : List (ℕ × Option Column)) → e ≤ length b → Is refs_c b e at refs → Rest b above e (n - 0) (at + 4) (ref_column refs above)
   rest_start at n i e refs l is =
       let t : ListIs (num_c ⊗ opt_c column_c) b e at refs = is_list _ b e at refs is in
-      record { entries = refs; many = t.counted ∙ sym i; stand = items _ b e (at + 4) refs t.item; gives = refl }
+      record { entries = refs; many = (let z = t.counted in omega arith); stand = items _ b e (at + 4) refs t.item; gives = refl }
 
   module _ (e left p : ℕ) (o : Option Column) where
     entry : (r : ℕ × Option Column) → Is (num_c ⊗ opt_c column_c) b e p r → (r.0 ≡ le 4 b p) × (Is (opt_c column_c) b e (p + 4) r.1 × (skip (num_c ⊗ opt_c column_c) b p e ≡ skip (opt_c column_c) b (p + 4) e))
@@ -80,11 +76,11 @@ module _ (b : List ℕ) (above : ℕ) where
             let z : o ≡ w.1 = g ∙ simp (eq-eqb _ _ q) in
             rw z u.1.0
 
-    pub rest_next : Rest b above e left p o → 0 < left → (t : ℕ) → t ≡ le 4 b p → (t ≡ above → ⊥) → (q : ℕ) → ((e : ℕ) (o : Option Column) → Is (opt_c column_c) b e (p + 4) o → q ≡ skip (opt_c column_c) b (p + 4) e) → Rest b above e (left - 1) q o
+    pub rest_next : Rest b above e left p o → (more : ℕ) → left ≡ more + 1 → (t : ℕ) → t ≡ le 4 b p → (t ≡ above → ⊥) → (q : ℕ) → ((e : ℕ) (o : Option Column) → Is (opt_c column_c) b e (p + 4) o → q ≡ skip (opt_c column_c) b (p + 4) e) → Rest b above e more q o
     unfolding ref_column
-    rest_next r h t i j q f = go r.entries r.many r.stand r.gives
+    rest_next r more h t i j q f = go r.entries r.many r.stand r.gives
       where
-        go : (ws : List (ℕ × Option Column)) → length ws ≡ left → Items (num_c ⊗ opt_c column_c) b e p ws → o ≡ ref_column ws above → Rest b above e (left - 1) q o
+        go : (ws : List (ℕ × Option Column)) → length ws ≡ left → Items (num_c ⊗ opt_c column_c) b e p ws → o ≡ ref_column ws above → Rest b above e more q o
         go [] m s g = absurd (omega arith)
         go (w ∷ ws) m s g =
             let u = entry w s.0 in
@@ -92,25 +88,25 @@ module _ (b : List ℕ) (above : ℕ) where
             let z : skip (num_c ⊗ opt_c column_c) b p e ≡ q = u.1.1 ∙ sym (f e w.1 u.1.0) in
             record { entries = ws; many = omega arith; stand = rw z at s.1; gives = g ∙ simp (ne_eqb _ _ n) }
 
-    pub rest_done : Rest b above e left p o → left ≤ 0 → o ≡ none
+    pub rest_done : Rest b above e left p o → left ≤ 0 → o ≡ None
     unfolding ref_column
     rest_done r h = go r.entries r.many r.gives
       where
-        go : (ws : List (ℕ × Option Column)) → length ws ≡ left → o ≡ ref_column ws above → o ≡ none
+        go : (ws : List (ℕ × Option Column)) → length ws ≡ left → o ≡ ref_column ws above → o ≡ None
         go [] m g = g
         go (w ∷ ws) m g = absurd (omega arith)
 
 -- ---- the reference of a row
-module _ (b : List ℕ) (at above row : ℕ) (found : OptNum) (f : (e : ℕ) (refs : List (ℕ × Option Column)) → e ≤ length b → Is refs_c b e at refs → OptColumnAt b e found (ref_column refs above)) where
-  pub reference_is : (p : ℕ) → found ≡ Num p → (x : OptInt) → ((e : ℕ) (o : Option Column) → e ≤ length b → Is (opt_c column_c) b e p o → int_is x ≡ int64_of (opt_get o row))
-      → (e : ℕ) (refs : List (ℕ × Option Column)) → e ≤ length b → Is refs_c b e at refs → int_is x ≡ reference_in refs above row
+module _ (b : List ℕ) (at above row : ℕ) (found : Option ℕ) (f : (e : ℕ) (refs : List (ℕ × Option Column)) → e ≤ length b → Is refs_c b e at refs → OptColumnAt b e found (ref_column refs above)) where
+  pub reference_is : (p : ℕ) → found ≡ Some p → (x : Option ℕ) → ((e : ℕ) (o : Option Column) → e ≤ length b → Is (opt_c column_c) b e p o → x ≡ int64_of (opt_get o row))
+      → (e : ℕ) (refs : List (ℕ × Option Column)) → e ≤ length b → Is refs_c b e at refs → x ≡ reference_in refs above row
   unfolding reference_in
   reference_is p q x h e refs l is =
-      let w : OptColumnAt b e (Num p) (ref_column refs above) = rw q at (f e refs l is) in
+      let w : OptColumnAt b e (Some p) (ref_column refs above) = rw q at (f e refs l is) in
       h e (ref_column refs above) l w
 
-  pub reference_none : found ≡ Nothing → (e : ℕ) (refs : List (ℕ × Option Column)) → e ≤ length b → Is refs_c b e at refs → none ≡ reference_in refs above row
+  pub reference_none : found ≡ None → (e : ℕ) (refs : List (ℕ × Option Column)) → e ≤ length b → Is refs_c b e at refs → None ≡ reference_in refs above row
   unfolding reference_in opt_get
   reference_none q e refs l is =
-      let w : OptColumnAt b e Nothing (ref_column refs above) = rw q at (f e refs l is) in
+      let w : OptColumnAt b e None (ref_column refs above) = rw q at (f e refs l is) in
       sym (rw w)

@@ -2,9 +2,9 @@
 use Prim.Native.Nat.{ℕ, zero, suc, ◌+◌, ◌*◌, ◌-◌, ◌≤◌, ◌<◌}
 use mathlib.Core.Path.{◌≡◌, refl, sym, ap, subst, ◌∙◌}
 use mathlib.Core.List.{List}
-use mathlib.Core.Option.{none, some}
 use mathlib.Core.Bool.{Bool, true, false}
 use native.Mathlib.Omega.{arith}
+use Rattle.std.specs.Prelude.{None, Some}
 use lib.ListN.{length, get_or, take, drop}
 use lib.Dec.{leb, ltb}
 use Rattle.codec.specs.Codec.{◌⊗◌, ◌⊕◌, le, le_c, list_c, pick}
@@ -70,19 +70,19 @@ value_is b at row r k h f e v l is = go v is (subst (λ (j : ℕ). Reader b (at 
     go (time32 x) is f i = f e x i
 
 -- an Int64 stands only in case 1
-other_held : (f : ℕ → Cell) → ((x : ℕ) → none ≡ int64_of (some (f x))) → (xs : List ℕ) (row : ℕ) → none ≡ int64_of (held f xs row)
+other_held : (f : ℕ → Cell) → ((x : ℕ) → None ≡ int64_of (Some (f x))) → (xs : List ℕ) (row : ℕ) → None ≡ int64_of (held f xs row)
 unfolding held
 other_held f g xs row = go (ltb row (length xs))
   where
-    go : (t : Bool) → none ≡ int64_of (pick t (some (f (get_or xs row 0))) none)
+    go : (t : Bool) → None ≡ int64_of (pick t (Some (f (get_or xs row 0))) None)
     go true = g _
     go false = refl
 
-other_bytes : (xs ys : List ℕ) (row : ℕ) → none ≡ int64_of (bytes_of xs ys row)
+other_bytes : (xs ys : List ℕ) (row : ℕ) → None ≡ int64_of (bytes_of xs ys row)
 unfolding bytes_of between
 other_bytes xs ys row = let from = get_or xs row 0 in let to = get_or xs (row + 1) 0 in go (ltb (row + 1) (length xs)) (leb 2147483648 from) (leb 2147483648 to) (ltb to from) (ltb (length ys) to) (take (to - from) (drop from ys))
   where
-    go : (t u v w x : Bool) (zs : List ℕ) → none ≡ int64_of (pick t (pick u none (pick v none (pick w none (pick x none (some (Cell.binary zs)))))) none)
+    go : (t u v w x : Bool) (zs : List ℕ) → None ≡ int64_of (pick t (pick u None (pick v None (pick w None (pick x None (Some (Cell.binary zs)))))) None)
     go false u v w x zs = refl
     go true true v w x zs = refl
     go true false true w x zs = refl
@@ -90,7 +90,7 @@ other_bytes xs ys row = let from = get_or xs row 0 in let to = get_or xs (row + 
     go true false false false true zs = refl
     go true false false false false zs = refl
 
-pub other_value : (b : List ℕ) (e at row : ℕ) (v : Values) → Is values_c b e at v → (get_or b at 0 ≡ 1 → ⊥) → none ≡ int64_of (value_of v row)
+pub other_value : (b : List ℕ) (e at row : ℕ) (v : Values) → Is values_c b e at v → (get_or b at 0 ≡ 1 → ⊥) → None ≡ int64_of (value_of v row)
 unfolding value_of
 other_value b e at row (binary x y) is h = other_bytes x y row
 other_value b e at row (int64 x y) is h = absurd (h (values_tag b e at (int64 x y) is))

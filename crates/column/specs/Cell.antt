@@ -1,7 +1,6 @@
 -- What a cell is and which cell a column holds at a row: document 01 on `column/mod.rs` and `write/data.rs`, and the Rust's
 -- `Bitmap::get`, `ColumnData::get` and `Data`. A signed number is kept as its bits.
-use Rattle.std.specs.Prelude.{ℕ, ◌+◌, ◌-◌, ◌/◌, ◌%◌, ◌^◌, List, [], ◌∷◌, Bool, true, false, length, get_or, take, drop, leb, ltb, eqb}
-use Rattle.std.proofs.Math.Option.{Option, none, some}
+use Rattle.std.specs.Prelude.{ℕ, ◌+◌, ◌-◌, ◌/◌, ◌%◌, ◌^◌, List, [], ◌∷◌, Bool, true, false, length, get_or, take, drop, leb, ltb, eqb, Option, None, Some}
 use Rattle.codec.specs.Codec.{pick}
 use Rattle.format.specs.Data.{Values, Column, TableData}
 
@@ -16,24 +15,24 @@ pub data Cell : Type 0 where
 -- ---- one column
 -- the validity bit of a row, the lowest of a byte first; none past the bits and past the bytes
 unfoldable pub bit_of : List ℕ → ℕ → ℕ → Option Bool
-bit_of bytes count row = pick (ltb row count) (pick (ltb (row / 8) (length bytes)) (some (eqb (get_or bytes (row / 8) 0 / 2 ^ (row % 8) % 2) 1)) none) none
+bit_of bytes count row = pick (ltb row count) (pick (ltb (row / 8) (length bytes)) (Some (eqb (get_or bytes (row / 8) 0 / 2 ^ (row % 8) % 2) 1)) None) None
 
 -- the value of a row in a list of one value a row; none past its end
 unfoldable pub held : (ℕ → Cell) → List ℕ → ℕ → Option Cell
-held f values row = pick (ltb row (length values)) (some (f (get_or values row 0))) none
+held f values row = pick (ltb row (length values)) (Some (f (get_or values row 0))) None
 
 -- the bytes from one offset up to another; none where an offset is negative (32 bits, two's complement), falls or passes the bytes
 unfoldable pub between : List ℕ → ℕ → ℕ → Option Cell
 between bytes from to =
-    pick (leb 2147483648 from) none
-    (pick (leb 2147483648 to) none
-    (pick (ltb to from) none
-    (pick (ltb (length bytes) to) none
-    (some (binary (take (to - from) (drop from bytes)))))))
+    pick (leb 2147483648 from) None
+    (pick (leb 2147483648 to) None
+    (pick (ltb to from) None
+    (pick (ltb (length bytes) to) None
+    (Some (binary (take (to - from) (drop from bytes)))))))
 
 -- the bytes of a row, which end where those of the next begin
 unfoldable pub bytes_of : List ℕ → List ℕ → ℕ → Option Cell
-bytes_of offsets bytes row = pick (ltb (row + 1) (length offsets)) (between bytes (get_or offsets row 0) (get_or offsets (row + 1) 0)) none
+bytes_of offsets bytes row = pick (ltb (row + 1) (length offsets)) (between bytes (get_or offsets row 0) (get_or offsets (row + 1) 0)) None
 
 unfoldable pub value_of : Values → ℕ → Option Cell
 value_of (Values.binary offsets bytes) row = bytes_of offsets bytes row
@@ -44,9 +43,9 @@ value_of (Values.time32 values) row = held time32 values row
 
 -- without its bit a row has no answer; an unset bit gives null, whatever the values hold
 abbrev pub validated : Option Bool → Option Cell → Option Cell
-validated none value = none
-validated (some false) value = some null
-validated (some true) value = value
+validated None value = None
+validated (Some false) value = Some null
+validated (Some true) value = value
 
 unfoldable pub get : Column → ℕ → Option Cell
 get c row = validated (bit_of c.validity c.length row) (value_of c.values row)
@@ -54,36 +53,36 @@ get c row = validated (bit_of c.validity c.length row) (value_of c.values row)
 -- ---- a table's data
 -- a column that is not there has no answers
 unfoldable pub opt_get : Option Column → ℕ → Option Cell
-opt_get none row = none
-opt_get (some c) row = get c row
+opt_get None row = None
+opt_get (Some c) row = get c row
 
 -- a cell without an answer reads as null
 abbrev pub or_null : Option Cell → Cell
-or_null none = null
-or_null (some c) = c
+or_null None = null
+or_null (Some c) = c
 
 unfoldable pub cell_in : Option Column → ℕ → Cell
 cell_in column row = or_null (opt_get column row)
 
 abbrev pub cell_of : TableData → ℕ → ℕ → Cell
-cell_of t column row = cell_in (get_or t.columns column none) row
+cell_of t column row = cell_in (get_or t.columns column None) row
 
 -- a `segment` column keeps that there is no answer
 abbrev pub segment_cell : TableData → ℕ → Option Cell
 segment_cell t row = opt_get t.segment row
 
 abbrev pub int64_of : Option Cell → Option ℕ
-int64_of none = none
-int64_of (some null) = none
-int64_of (some (binary bytes)) = none
-int64_of (some (int64 x)) = some x
-int64_of (some (decimal x scale)) = none
-int64_of (some (date32 x)) = none
-int64_of (some (time32 x)) = none
+int64_of None = None
+int64_of (Some null) = None
+int64_of (Some (binary bytes)) = None
+int64_of (Some (int64 x)) = Some x
+int64_of (Some (decimal x scale)) = None
+int64_of (Some (date32 x)) = None
+int64_of (Some (time32 x)) = None
 
 abbrev pub or_else : ℕ → Option ℕ → ℕ
-or_else d none = d
-or_else d (some x) = x
+or_else d None = d
+or_else d (Some x) = x
 
 -- a key that is no Int64 is the row's own number
 unfoldable pub key_in : Option Column → ℕ → ℕ
@@ -94,7 +93,7 @@ key_of t row = key_in t.row row
 
 -- the first entry for a table counts, also where its column is absent
 unfoldable pub ref_column : List (ℕ × Option Column) → ℕ → Option Column
-ref_column [] above = none
+ref_column [] above = None
 ref_column (r ∷ refs) above = pick (eqb r.0 above) r.1 (ref_column refs above)
 
 unfoldable pub reference_in : List (ℕ × Option Column) → ℕ → ℕ → Option ℕ
@@ -142,10 +141,10 @@ same_cells (a ∷ cs) (b ∷ ds) = both (same_cell a b) (same_cells cs ds)
 
 -- two answers, of which none and null differ
 unfoldable pub same_answer : Option Cell → Option Cell → Bool
-same_answer none none = true
-same_answer none (some b) = false
-same_answer (some a) none = false
-same_answer (some a) (some b) = same_cell a b
+same_answer None None = true
+same_answer None (Some b) = false
+same_answer (Some a) None = false
+same_answer (Some a) (Some b) = same_cell a b
 
 abbrev pub is_null : Cell → Bool
 is_null null = true

@@ -1,6 +1,5 @@
 -- Where the parts of a column and of a table's data stand, and what stands there.
-use Rattle.std.specs.Prelude.{ℕ, ◌+◌, ◌≤◌, ◌<◌, ◌≡◌, refl, List, length, get_or}
-use Rattle.std.proofs.Math.Option.{Option, none}
+use Rattle.std.specs.Prelude.{ℕ, ◌+◌, ◌≤◌, ◌<◌, ◌≡◌, refl, List, length, get_or, Option, None}
 use Rattle.std.proofs.Math.ListN.{get_or-eq_default}
 use Rattle.codec.specs.Codec.{Codec, ◌⊗◌, list_c}
 use Rattle.codec.specs.Skip.{skip, steps, Is, skip_le}
@@ -40,7 +39,7 @@ pub record TableDataIs (b : List ℕ) (e at : ℕ) (v : TableData) : Type 0 wher
   pub segment : Is (opt_c column_c) b e (segment_place b e at) v.segment
   pub refs : Is refs_c b e (refs_place b e at) v.refs
   pub columns : Is (list_c (opt_c column_c)) b e (columns_place b e at) v.columns
-  pub column : (i : ℕ) → i < length v.columns → Is (opt_c column_c) b e (column_place b e at i) (get_or v.columns i none)
+  pub column : (i : ℕ) → i < length v.columns → Is (opt_c column_c) b e (column_place b e at i) (get_or v.columns i None)
 
 pub is_table_data : (b : List ℕ) (e at : ℕ) (v : TableData) → Is table_data_c b e at v → TableDataIs b e at v
 unfolding table_data_c
@@ -63,7 +62,7 @@ is_table_data b e at v h = go t (skip_le 4 b at e (is_le 4 b e at v.rows t.0).0)
           segment = w.0;
           refs = x.0;
           columns = x.1;
-          column = λ i k. (is_list (opt_c column_c) b e (columns_place b e at) v.columns x.1).item i none k;
+          column = λ i k. (is_list (opt_c column_c) b e (columns_place b e at) v.columns x.1).item i None k;
         }
 
 -- table i of a job's data
@@ -71,13 +70,13 @@ pub is_data : (b : List ℕ) (e at : ℕ) (ts : List TableData) → Is (list_c t
 is_data b e at ts h i k = is_table_data b e _ _ ((is_list table_data_c b e at ts h).item i no_table_data k)
 
 -- ---- what is not there
-pub absent_cell : (row : ℕ) → cell_in none row ≡ Cell.null
+pub absent_cell : (row : ℕ) → cell_in None row ≡ Cell.null
 unfolding cell_in opt_get
 absent_cell row = refl
 
 pub past_cell : (t : TableData) (column row : ℕ) → length t.columns ≤ column → cell_of t column row ≡ Cell.null
-past_cell t column row h = rw (get_or-eq_default t.columns none h) (absent_cell row)
+past_cell t column row h = rw (get_or-eq_default t.columns None h) (absent_cell row)
 
-pub absent_key : (row : ℕ) → key_in none row ≡ row
+pub absent_key : (row : ℕ) → key_in None row ≡ row
 unfolding key_in opt_get
 absent_key row = refl

@@ -1,7 +1,6 @@
 -- The tests of equality decide it.
-use Rattle.std.specs.Prelude.{ℕ, zero, suc, ◌≡◌, refl, List, [], ◌∷◌, Bool, true, false, get_or, eqb}
+use Rattle.std.specs.Prelude.{ℕ, zero, suc, ◌≡◌, refl, List, [], ◌∷◌, Bool, true, false, get_or, eqb, Option, None, Some}
 use Rattle.std.proofs.Common.{sym, ap, ◌∙◌, arith, eq-eqb, eqb-true}
-use Rattle.std.proofs.Math.Option.{Option, none, some}
 use Rattle.column.specs.Cell.{Cell, null, binary, int64, decimal, date32, time32, both, kind_of, numbers_of, same_bytes, same_cell, same_cells, same_answer}
 
 no : {A : Type 0} → false ≡ true → A
@@ -73,16 +72,16 @@ cells_same (a ∷ l) = rw (cell_same a) (cells_same l)
 
 pub same_answer_lem : (x y : Option Cell) → same_answer x y ≡ true → x ≡ y
 unfolding same_answer
-same_answer_lem none none h = refl
-same_answer_lem none (some b) h = no h
-same_answer_lem (some a) none h = no h
-same_answer_lem (some a) (some b) h = ap some (same_cell_lem a b h)
+same_answer_lem None None h = refl
+same_answer_lem None (Some b) h = no h
+same_answer_lem (Some a) None h = no h
+same_answer_lem (Some a) (Some b) h = ap Some (same_cell_lem a b h)
 
 pub answer_same : (x : Option Cell) → same_answer x x ≡ true
 unfolding same_answer
-answer_same none = refl
-answer_same (some a) = cell_same a
+answer_same None = refl
+answer_same (Some a) = cell_same a
 
-pub answers_cells : (a b : Cell) → same_answer (some a) (some b) ≡ same_cell a b
+pub answers_cells : (a b : Cell) → same_answer (Some a) (Some b) ≡ same_cell a b
 unfolding same_answer
 answers_cells a b = refl

@@ -1,16 +1,14 @@
 // A table's data: optional columns, keys and references.
-ghost use Rattle.std.specs.Prelude.{◌≡◌, List, ℕ, ◌+◌, ◌≤◌, ◌<◌, length};
-ghost use Rattle.std.proofs.Math.Option.{Option, some};
+ghost use Rattle.std.specs.Prelude.{◌≡◌, List, ℕ, ◌+◌, ◌≤◌, ◌<◌, length, Option, Some};
 ghost use Rattle.codec.specs.Skip.{skip, Is};
 ghost use Rattle.codec.specs.Forms.{opt_c};
 ghost use Rattle.format.specs.Data.{Column, column_c};
 ghost use Rattle.column.specs.Cell.{Cell as CellOf, opt_get, cell_in, key_in, ref_column, reference_in, or_null, is_null, int64_of};
-ghost use Rattle.column.specs.Answers.{Reads, cell_at, int_is, OptColumnAt, place_of};
+ghost use Rattle.column.specs.Answers.{Reads, cell_at, OptColumnAt, place_of};
 ghost use Rattle.column.specs.Parts.{refs_c};
 
+use crate::Cell;
 use crate::get::{after_column, get, int_cell};
-use crate::{Cell, OptInt};
-use codec::OptNum;
 
 // The answer of the optional column that stands at a place, as a `segment` column keeps it. A column that is there has six bytes or more.
 pub fn opt_get(job: &[u8], at: usize, row: u32) -> Cell
@@ -41,16 +39,11 @@ pub fn after_opt(job: &[u8], at: usize) -> usize
 
 // No answer reads as null.
 pub fn or_null(cell: Cell) -> Cell
-    ensures { (b : List ℕ) (x : Option CellOf) → Reads b cell x → Reads b result (some (or_null x)) }
+    ensures { (b : List ℕ) (x : Option CellOf) → Reads b cell x → Reads b result (Some (or_null x)) }
 {
     match cell {
         Cell::None => Cell::Null,
-        Cell::Null => cell,
-        Cell::Bytes(_, _) => cell,
-        Cell::Int(_) => cell,
-        Cell::Wide(_, _, _) => cell,
-        Cell::Days(_) => cell,
-        Cell::Seconds(_) => cell,
+        _ => cell,
     }
 }
 
@@ -58,48 +51,35 @@ pub fn or_null(cell: Cell) -> Cell
 pub fn is_null(cell: Cell) -> bool
     ensures { (b : List ℕ) → result ≡ is_null (or_null (cell_at b cell)) }
 {
-    match cell {
-        Cell::None => true,
-        Cell::Null => true,
-        Cell::Bytes(_, _) => false,
-        Cell::Int(_) => false,
-        Cell::Wide(_, _, _) => false,
-        Cell::Days(_) => false,
-        Cell::Seconds(_) => false,
-    }
+    matches!(cell, Cell::None | Cell::Null)
 }
 
 // The number of an Int64 cell.
-pub fn int_of(cell: Cell) -> OptInt
-    ensures { (b : List ℕ) → int_is result ≡ int64_of (cell_at b cell) }
+pub fn int_of(cell: Cell) -> Option<u64>
+    ensures { (b : List ℕ) → result ≡ int64_of (cell_at b cell) }
 {
     match cell {
-        Cell::None => OptInt::NoNumber,
-        Cell::Null => OptInt::NoNumber,
-        Cell::Bytes(_, _) => OptInt::NoNumber,
-        Cell::Int(x) => OptInt::Number(x),
-        Cell::Wide(_, _, _) => OptInt::NoNumber,
-        Cell::Days(_) => OptInt::NoNumber,
-        Cell::Seconds(_) => OptInt::NoNumber,
+        Cell::Int(x) => Some(x),
+        _ => None,
     }
 }
 
 // The number of the optional column that stands at a place: only an Int64 column has one.
-pub fn opt_int(job: &[u8], at: usize, row: u32) -> OptInt
+pub fn opt_int(job: &[u8], at: usize, row: u32) -> Option<u64>
     requires { at < 1099511627776 }
-    ensures { (e : ℕ) (o : Option Column) → e ≤ length job.now → Is (opt_c column_c) job.now e at o → int_is result ≡ int64_of (opt_get o row) }
+    ensures { (e : ℕ) (o : Option Column) → e ≤ length job.now → Is (opt_c column_c) job.now e at o → result ≡ int64_of (opt_get o row) }
 {
     if job.len() < at + 6 {
-        return OptInt::NoNumber;
+        return None;
     }
     let there = codec::byte_at(job, at);
     if there == 0 {
-        return OptInt::NoNumber;
+        return None;
     }
     let p = at + 1;
     let kind = codec::byte_at(job, p);
     if kind != 1 {
-        return OptInt::NoNumber;
+        return None;
     }
     let n = codec::num(job, p + 1);
     int_of(int_cell(job, p, n, row))
@@ -108,7 +88,7 @@ pub fn opt_int(job: &[u8], at: usize, row: u32) -> OptInt
 // The cell of the optional column that stands at a place.
 pub fn cell(job: &[u8], at: usize, row: u32) -> Cell
     requires { at < 1099511627776 }
-    ensures { (e : ℕ) (o : Option Column) → e ≤ length job.now → Is (opt_c column_c) job.now e at o → Reads job.now result (some (cell_in o row)) }
+    ensures { (e : ℕ) (o : Option Column) → e ≤ length job.now → Is (opt_c column_c) job.now e at o → Reads job.now result (Some (cell_in o row)) }
 {
     or_null(opt_get(job, at, row))
 }
@@ -118,42 +98,37 @@ pub fn key(job: &[u8], at: usize, row: u32) -> u64
     requires { at < 1099511627776 }
     ensures { (e : ℕ) (o : Option Column) → e ≤ length job.now → Is (opt_c column_c) job.now e at o → result ≡ key_in o row }
 {
-    let x = opt_int(job, at, row);
-    match x {
-        OptInt::Number(n) => n,
-        OptInt::NoNumber => row as u64,
-    }
+    opt_int(job, at, row).unwrap_or(row as u64)
 }
 
 // The place of the first column of references to a table, in the list that stands at a place.
-pub fn find_ref(job: &[u8], at: usize, above: u32) -> OptNum
+pub fn find_ref(job: &[u8], at: usize, above: u32) -> Option<usize>
     requires { (at < 1099511627776) × (length job.now < 4294967296) }
     ensures { ((e : ℕ) (refs : List (ℕ × Option Column)) → e ≤ length job.now → Is refs_c job.now e at refs → OptColumnAt job.now e result (ref_column refs above)) × (place_of result < 1099511627776) }
 {
-    let mut left = codec::num(job, at);
+    let n = codec::num(job, at);
     let mut p = at + 4;
-    while 0 < left {
+    for _i in 0..n {
         if job.len() < p + 4 {
-            return OptNum::Nothing;
+            return None;
         }
         let table = codec::num(job, p);
         if table == above as usize {
-            return OptNum::Num(p + 4);
+            return Some(p + 4);
         }
         p = after_opt(job, p + 4);
-        left = left - 1;
     }
-    OptNum::Nothing
+    None
 }
 
 // The reference of a row to a table, by the list of references that stands at a place.
-pub fn reference(job: &[u8], at: usize, above: u32, row: u32) -> OptInt
+pub fn reference(job: &[u8], at: usize, above: u32, row: u32) -> Option<u64>
     requires { (at < 1099511627776) × (length job.now < 4294967296) }
-    ensures { (e : ℕ) (refs : List (ℕ × Option Column)) → e ≤ length job.now → Is refs_c job.now e at refs → int_is result ≡ reference_in refs above row }
+    ensures { (e : ℕ) (refs : List (ℕ × Option Column)) → e ≤ length job.now → Is refs_c job.now e at refs → result ≡ reference_in refs above row }
 {
     let found = find_ref(job, at, above);
     match found {
-        OptNum::Num(p) => opt_int(job, p, row),
-        OptNum::Nothing => OptInt::NoNumber,
+        Some(p) => opt_int(job, p, row),
+        None => None,
     }
 }

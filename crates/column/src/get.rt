@@ -7,8 +7,8 @@ ghost use Rattle.format.specs.Data.{Values, values_c, Column, column_c};
 ghost use Rattle.column.specs.Cell.{between, get as getOf};
 ghost use Rattle.column.specs.Answers.{Reads};
 
+use crate::Cell;
 use crate::bitmap::{bit_at, bit_in};
-use crate::{Bit, Cell};
 
 // The bytes from one offset up to another of the n bytes whose count stands at a place.
 pub fn stretch(at: usize, n: usize, from: u32, to: u32) -> Cell
@@ -43,9 +43,9 @@ pub fn bytes_cell(job: &[u8], at: usize, n: usize, row: u32) -> Cell
     }
     let bit = bit_in(job, data + m + 4, room - m, row);
     match bit {
-        Bit::Missing => Cell::None,
-        Bit::Unset => Cell::Null,
-        Bit::Set => {
+        None => Cell::None,
+        Some(false) => Cell::Null,
+        Some(true) => {
             let next = at + 9 + row as usize * 4;
             if data <= next {
                 return Cell::None;
@@ -64,9 +64,9 @@ pub fn int_cell(job: &[u8], at: usize, n: usize, row: u32) -> Cell
 {
     let bit = bit_at(job, at + 5 + n * 8 + 1, row);
     match bit {
-        Bit::Missing => Cell::None,
-        Bit::Unset => Cell::Null,
-        Bit::Set => {
+        None => Cell::None,
+        Some(false) => Cell::Null,
+        Some(true) => {
             if n <= row as usize {
                 return Cell::None;
             }
@@ -82,9 +82,9 @@ pub fn wide_cell(job: &[u8], at: usize, n: usize, row: u32) -> Cell
 {
     let bit = bit_at(job, at + 5 + n * 16 + 1, row);
     match bit {
-        Bit::Missing => Cell::None,
-        Bit::Unset => Cell::Null,
-        Bit::Set => {
+        None => Cell::None,
+        Some(false) => Cell::Null,
+        Some(true) => {
             if n <= row as usize {
                 return Cell::None;
             }
@@ -103,9 +103,9 @@ pub fn short_cell(job: &[u8], at: usize, kind: usize, n: usize, row: u32) -> Cel
 {
     let bit = bit_at(job, at + 5 + n * 4, row);
     match bit {
-        Bit::Missing => Cell::None,
-        Bit::Unset => Cell::Null,
-        Bit::Set => {
+        None => Cell::None,
+        Some(false) => Cell::Null,
+        Some(true) => {
             if n <= row as usize {
                 return Cell::None;
             }

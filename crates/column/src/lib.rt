@@ -9,7 +9,8 @@ pub mod get;
 pub mod same;
 
 // A cell: None where there is no answer; bytes as a stretch of the job (start, length); a number by its bits;
-// a number of 128 bits (low half, high half, scale); days since 1970; seconds since midnight.
+// a number of 128 bits (low half, high half, scale); days since 1970; seconds since midnight. No Option round it: a reader passes None on beside
+// Null, and all but the `segment` columns then read it as Null (`or_null`).
 #[derive(Clone, Copy)]
 pub enum Cell {
     None,
@@ -19,19 +20,4 @@ pub enum Cell {
     Wide(u64, u64, u8),
     Days(u32),
     Seconds(u32),
-}
-
-// The validity of a row; Missing past the bits and past their bytes.
-#[derive(Clone, Copy)]
-pub enum Bit {
-    Missing,
-    Unset,
-    Set,
-}
-
-// The number of an Int64 cell, if it is one.
-#[derive(Clone, Copy)]
-pub enum OptInt {
-    Number(u64),
-    NoNumber,
 }

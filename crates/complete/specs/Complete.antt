@@ -2,8 +2,7 @@
 -- Where its words leave a choice: row segments' places rise strictly; every planned element is a place, `Group` values in row segments and the
 -- unread lists of `Envelope` segments included; a control rule counts also without `end`; the version's element is no place; "one entry a
 -- loop" speaks of the outer lists.
-use Rattle.std.specs.Prelude.{ℕ, ◌+◌, ◌*◌, ◌≤◌, ◌<◌, max, ◌≡◌, ◌≢◌, ◌⊎◌, List, [], ◌∷◌, length}
-use Rattle.std.proofs.Math.Option.{Option, none, some}
+use Rattle.std.specs.Prelude.{ℕ, ◌+◌, ◌*◌, ◌≤◌, ◌<◌, max, ◌≡◌, ◌≢◌, ◌⊎◌, List, [], ◌∷◌, length, Option, None, Some}
 use Rattle.format.specs.Spec.{Control, Loop, ComponentDef, ElementDef, SegmentDef, Version}
 use Rattle.format.specs.Plan.{Source, from_envelope, from_row, from_repeat, Value, from_column, from_group, from_code, ElementPlan, SegmentPlan, LoopPlan}
 use Rattle.format.specs.Job.{Job}
@@ -28,8 +27,8 @@ Each2 R xs = All (λ x. All (R x) xs) xs
 
 -- what is there is so
 abbrev pub IfThere : {A : Type 0} → (A → Type 0) → Option A → Type 0
-IfThere P none = Unit {0}
-IfThere P (some x) = P x
+IfThere P None = Unit {0}
+IfThere P (Some x) = P x
 
 -- all segments that a plan has
 abbrev pub Segments : (SegmentPlan → Type 0) → Job → Type 0
@@ -95,7 +94,7 @@ OwnApart j s a = (k n : ℕ) → k < reach j s a.value → n < reach j s a.value
 
 -- no element has plain parts by a and component parts by b
 abbrev pub Unmixed : Job → Source → ElementPlan → ElementPlan → Type 0
-Unmixed j s a b = (k n : ℕ) → k < reach j s a.value → n < reach j s b.value → element_of j s a k ≡ element_of j s b n → a.component ≡ none → b.component ≡ none
+Unmixed j s a b = (k n : ℕ) → k < reach j s a.value → n < reach j s b.value → element_of j s a k ≡ element_of j s b n → a.component ≡ None → b.component ≡ None
 
 -- row segments' places rise, a repeat segment's for a full chunk don't collide
 abbrev pub Placed : Job → Source → List ElementPlan → Type 0
@@ -113,16 +112,16 @@ pub record SegmentFits (j : Job) (p : SegmentPlan) : Type 0 where
 -- an element of a loop's trigger, with its number: not the control number's, but the component separator's, or the repetition separator's where it has no code
 pub record GivesSeparator (j : Job) (l : ℕ) (c : Control) (x : ℕ × ElementDef) : Type 0 where
   pub not_opener : x.0 ≢ c.opener
-  pub by_field : (field_at (depth_of j l) x.0 ≡ some component)
-      ⊎ ((field_at (depth_of j l) x.0 ≡ some repetition) × (x.1.codes ≡ []) × (j.envelope.repetition ≢ none))
+  pub by_field : (field_at (depth_of j l) x.0 ≡ Some component)
+      ⊎ ((field_at (depth_of j l) x.0 ≡ Some repetition) × (x.1.codes ≡ []) × (j.envelope.repetition ≢ None))
 
 -- neither its definition has components nor the segment's own list plans one there
 pub record StandsAlone (p : SegmentPlan) (x : ℕ × ElementDef) : Type 0 where
   pub no_components : x.1.components ≡ []
-  pub plain : All (λ (e : ElementPlan). e.element ≡ x.0 → e.component ≡ none) p.elements
+  pub plain : All (λ (e : ElementPlan). e.element ≡ x.0 → e.component ≡ None) p.elements
 
 abbrev pub SeparatorsAlone : Job → Type 0
-SeparatorsAlone j = (l : ℕ) → l < length j.plan → (c : Control) → (loop_of j l).control ≡ some c
+SeparatorsAlone j = (l : ℕ) → l < length j.plan → (c : Control) → (loop_of j l).control ≡ Some c
     → All (λ (p : SegmentPlan). p.source ≡ from_envelope
     → All (λ x. GivesSeparator j l c x → StandsAlone p x) (on (segment_def j (loop_of j l).trigger) (λ d. d) [])) (plan_of j l).segments
 

@@ -3,7 +3,6 @@ use Prim.Native.Nat.{ℕ, ◌+◌, ◌≤◌, ◌<◌}
 use mathlib.Core.Path.{◌≡◌, refl, sym, ap, ◌∙◌}
 use mathlib.Core.Bool.{Bool, true, false, not, ◌&&◌, ◌||◌}
 use mathlib.Core.List.{List, [], ◌∷◌, ◌++◌}
-use mathlib.Core.Option.{Option, some}
 use native.Mathlib.Omega.{arith}
 use lib.ListN.{length, get_or, drop}
 use Rattle.format.specs.Plan as P
@@ -21,17 +20,18 @@ use Rattle.plan.specs.declared.answers.ValueSource.TheVariants.{Column}
 use Rattle.nest.specs.Lists.{each, some_of}
 use Rattle.nest.specs.OfJob.{outline_of, group_table, repeat_table, same_in, same_chunk_in, filled_in, column_in, columns_in}
 use Rattle.nest.proofs.Scan.{some_at, some_not_at, some_past}
-use Rattle.due.specs.Cells.{has_value, differ}
+use Rattle.std.specs.Prelude.{unwrap_or, Option, Some}
+use Rattle.due.specs.Cells.{has_value, differ, groups_in, repeats_in}
 use Rattle.due.proofs.Bridge.{filled_is, group_is, chunk_is}
 
 -- ---- one cell, two cells
 
-pub has_value_lem : (b : List ℕ) (r : Read) (x : Cell) (y : Bool) → Reads b r (some x) → ((l : List ℕ) → y ≡ is_null (or_null (cell_at l r))) → not y ≡ not (is_null x)
+pub has_value_lem : (b : List ℕ) (r : Read) (x : Cell) (y : Bool) → Reads b r (Some x) → ((l : List ℕ) → y ≡ is_null (or_null (cell_at l r))) → not y ≡ not (is_null x)
 has_value_lem b r x y h e = ap not (e b ∙ ap (λ c. is_null (or_null c)) h.cell)
 
-pub apart : (b : List ℕ) (r s : Read) (x y : Cell) (z : Bool) → Reads b r (some x) → Reads b s (some y) → ((u v : Option Cell) → Reads b r u → Reads b s v → z ≡ same_answer u v)
+pub apart : (b : List ℕ) (r s : Read) (x y : Cell) (z : Bool) → Reads b r (Some x) → Reads b s (Some y) → ((u v : Option Cell) → Reads b r u → Reads b s v → z ≡ same_answer u v)
     → not z ≡ not (same_cell x y)
-apart b r s x y z h i e = ap not (e (some x) (some y) h i ∙ answers_cells x y)
+apart b r s x y z h i e = ap not (e (Some x) (Some y) h i ∙ answers_cells x y)
 
 -- the column that a planned value names
 pub column_value : (q : ℕ → Bool) (b : List ℕ) (v : ValueSource) (n : ℕ) (x : Bool) → v ≡ Column n → x ≡ q n → x ≡ some_of q (column_in (value_of b v))
@@ -64,38 +64,52 @@ pub columns_some : (q : ℕ → Bool) (s : P.SegmentPlan) → some_of q (columns
 unfolding columns_in
 columns_some q s = some_each q (λ (e : P.ElementPlan). column_in e.value) s.elements
 
-pub record Searching (b : List ℕ) (q : ℕ → Bool) (vs : List P.ElementPlan) (n p k : ℕ) : Type 0 where
+-- where they stand
+pub record Placed (b : List ℕ) (vs : List P.ElementPlan) (n p k : ℕ) : Type 0 where
   pub count : n ≡ length vs
   pub place : Elements b p (drop k vs)
-  pub rest : some_of (names q) vs ≡ some_of (names q) (drop k vs)
+
+pub placed_next : {b : List ℕ} {vs : List P.ElementPlan} {n p k : ℕ} {e : ElementPlan} → Placed b vs n p k → ElementStep b k vs e → Placed b vs n e.next (k + 1)
+placed_next w s = record { count = w.count; place = s.rest }
+
+-- no column before element k passes
+abbrev pub None_before : (ℕ → Bool) → List P.ElementPlan → ℕ → Type 0
+None_before q vs k = some_of (names q) vs ≡ some_of (names q) (drop k vs)
 
 value_is : {b : List ℕ} (q : ℕ → Bool) {vs : List P.ElementPlan} {k : ℕ} {e : ElementPlan} → ElementStep b k vs e → names q (get_or vs k P.no_element_plan) ≡ some_of q (column_in (value_of b e.value))
 value_is q s = ap (names q) (sym s.plan)
 
-module _ {b : List ℕ} (q : ℕ → Bool) {vs : List P.ElementPlan} {n : ℕ} where
-  pub search_start : {p : ℕ} → n ≡ length vs → Elements b p vs → Searching b q vs n p 0
-  search_start c h = record { count = c; place = h; rest = refl }
+module _ {b : List ℕ} (q : ℕ → Bool) {vs : List P.ElementPlan} {n p k : ℕ} (w : Placed b vs n p k) (r : None_before q vs k) where
+  module _ {e : ElementPlan} {x : Bool} (h : k < n) (s : ElementStep b k vs e) (d : x ≡ some_of q (column_in (value_of b e.value))) where
+    pub search_found : x ≡ true → some_of (names q) vs ≡ true
+    search_found y = r ∙ some_at (names q) vs k P.no_element_plan (omega (arith, h, w.count)) (value_is q s ∙ sym d ∙ y)
 
-  pub search_found : {p k : ℕ} {e : ElementPlan} {x : Bool} → Searching b q vs n p k → k < n → ElementStep b k vs e → x ≡ some_of q (column_in (value_of b e.value)) → x ≡ true
-      → some_of (names q) vs ≡ true
-  search_found {p} {k} w h s e y = w.rest ∙ some_at (names q) vs k P.no_element_plan (omega (arith, w.count)) (value_is q s ∙ sym e ∙ y)
+    pub search_next : x ≡ false → None_before q vs (k + 1)
+    search_next y = r ∙ some_not_at (names q) vs k P.no_element_plan (omega (arith, h, w.count)) (value_is q s ∙ sym d ∙ y)
 
-  pub search_next : {p k : ℕ} {e : ElementPlan} {x : Bool} → Searching b q vs n p k → k < n → ElementStep b k vs e → x ≡ some_of q (column_in (value_of b e.value)) → x ≡ false
-      → Searching b q vs n e.next (k + 1)
-  search_next {p} {k} w h s e y = record {
-    count = w.count;
-    place = s.rest;
-    rest = w.rest ∙ some_not_at (names q) vs k P.no_element_plan (omega (arith, w.count)) (value_is q s ∙ sym e ∙ y);
-  }
-
-  pub search_end : {p k : ℕ} → Searching b q vs n p k → n ≤ k → some_of (names q) vs ≡ false
-  search_end {p} {k} w h = w.rest ∙ some_past (names q) vs k (omega (arith, w.count))
+  pub search_end : n ≤ k → some_of (names q) vs ≡ false
+  search_end h = r ∙ some_past (names q) vs k (omega (arith, h, w.count))
 
 -- ---- whether a planned segment has a value in a row
 
-pub filled_some : (j : Job) (l i t r : ℕ) → (outline_of j).filled l i t r ≡ some_of (names (has_value j t r)) (A.planned_of j l i).elements
+pub filled_columns : (j : Job) (l i t r : ℕ) → (outline_of j).filled l i t r ≡ some_of (has_value j t r) (columns_in (A.planned_of j l i))
 unfolding filled_in
-filled_some j l i t r = filled_is j l i t r ∙ columns_some (has_value j t r) (A.planned_of j l i)
+filled_columns j l i t r = filled_is j l i t r
+
+-- ---- the tables of a loop with groups and of a repeat segment; 0 where there is none
+
+pub group_zero : (k : P.Instances) → (unwrap_or (groups_in k) (record { 0 = 0 })).0 ≡ group_table k
+group_zero P.absent = refl
+group_zero P.enveloped = refl
+group_zero (P.rows_of t) = refl
+group_zero (P.inside t) = refl
+group_zero (P.groups_of t) = refl
+group_zero P.implied = refl
+
+pub repeat_zero : (s : P.Source) → (unwrap_or (repeats_in s) (record { 0 = 0 })).0 ≡ repeat_table s
+repeat_zero P.from_envelope = refl
+repeat_zero (P.from_row t) = refl
+repeat_zero (P.from_repeat t) = refl
 
 -- ---- whether two rows agree in the columns from place k on
 

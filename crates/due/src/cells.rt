@@ -1,18 +1,20 @@
 // The cells that loops and segments look at.
-ghost use Rattle.std.specs.Prelude.{◌≡◌, ◌<◌, length, drop};
+ghost use Rattle.std.specs.Prelude.{ℕ, ◌≡◌, ◌<◌, ◌^◌, Bool, List, length, drop};
 ghost use Rattle.format.specs.Sections.{job_of};
 ghost use Rattle.format.specs.Ask.{planned_of, data_of};
 ghost use Rattle.column.specs.Cell.{segment_cell, same_answer};
 ghost use Rattle.plan.specs.Answers.{instances_of, source_of, value_of};
 ghost use Rattle.nest.specs.Lists.{is, some_of};
 ghost use Rattle.nest.specs.Outline.{inside_table, source_table};
-ghost use Rattle.nest.specs.OfJob.{kind_in, source_in, group_table, repeat_table, columns_in};
+ghost use Rattle.nest.specs.OfJob.{kind_in, source_in, column_in, columns_in};
+ghost use Rattle.plan.specs.Planned.{PlannedIs};
 ghost use Rattle.plan.specs.Elements.{Elements, ElementStep};
 ghost use Rattle.nest.specs.Ready.{Ready};
+ghost use Rattle.nest.specs.Seek.{AnswersAs};
 ghost use Rattle.walk.specs.Tour.{is_opener};
-ghost use Rattle.due.specs.Cells.{has_value, differ, gives_value, sets_apart};
+ghost use Rattle.due.specs.Cells.{has_value, differ, groups_in, repeats_in};
 
-use plan::answers::{ElementPlan, Instances, Source, ValueSource};
+use plan::answers::{ElementPlan, Instances, Planned, Source, ValueSource};
 use spec::ids::{LoopId, RowId, TableId};
 
 // Whether a column has a value in a row.
@@ -44,25 +46,13 @@ pub fn same_segment(job: &[u8], index: &[u16], t: TableId, a: RowId, b: RowId) -
     column::same::same(job, x, y)
 }
 
-// Whether the column that a planned value names has a value in a row.
-pub fn gives_value(job: &[u8], index: &[u16], t: TableId, r: RowId, v: ValueSource) -> bool
-    requires { Ready job.now index.now }
-    ensures { result ≡ gives_value (job_of job.now) t.0 r.0 (value_of job.now v) }
+// Whether the column that a planned value names passes; it may name none.
+pub fn column_passes<F: Fn(u32) -> bool>(v: ValueSource, passes: &F) -> bool
+    requires { (c : ℕ) → c < 2 ^ 32 → F.pre passes.now c }
+    ensures { (b : List ℕ) (p : ℕ → Bool) → AnswersAs (F.post passes.now) p (2 ^ 32) → result ≡ some_of p (column_in (value_of b v)) }
 {
     match v {
-        ValueSource::Column(n) => has_value(job, index, t, n, r),
-        ValueSource::Group(_) => false,
-        ValueSource::Code(_) => false,
-    }
-}
-
-// Whether two rows differ in the column that a planned value names.
-pub fn sets_apart(job: &[u8], index: &[u16], t: TableId, a: RowId, b: RowId, v: ValueSource) -> bool
-    requires { Ready job.now index.now }
-    ensures { result ≡ sets_apart (job_of job.now) t.0 a.0 b.0 (value_of job.now v) }
-{
-    match v {
-        ValueSource::Column(n) => differs(job, index, t, n, a, b),
+        ValueSource::Column(n) => passes(n),
         ValueSource::Group(_) => false,
         ValueSource::Code(_) => false,
     }
@@ -76,57 +66,48 @@ pub fn element(job: &[u8], index: &[u16], l: LoopId, i: u32, k: u32, p: usize) -
     plan::read::element_at(job, p)
 }
 
-// Whether two rows differ in a column that planned segment i of loop l names.
-pub fn columns_differ(
+// Whether one of the columns that planned segment i of loop l, which is s, names passes.
+pub fn some_column<F: Fn(u32) -> bool>(
     job: &[u8],
     index: &[u16],
     l: LoopId,
     i: u32,
-    t: TableId,
-    a: RowId,
-    b: RowId,
+    s: Planned,
+    passes: F,
 ) -> bool
-    requires { Ready job.now index.now × (l.0 < 32) }
-    ensures { result ≡ some_of (differ (job_of job.now) t.0 a.0 b.0) (columns_in (planned_of (job_of job.now) l.0 i)) }
+    requires ready { Ready job.now index.now }
+    requires planned { PlannedIs job.now l.0 i s }
+    requires callable { (c : ℕ) → c < 2 ^ 32 → F.pre passes c }
+    ensures { (p : ℕ → Bool) → AnswersAs (F.post passes) p (2 ^ 32) → result ≡ some_of p (columns_in (planned_of (job_of job.now) l.0 i)) }
 {
-    let s = plan::planned::segment(job, index, l, i);
     let mut p = s.first;
-    let mut k: u32 = 0;
-    while k < s.count {
+    for k in 0..s.count {
         let e = element(job, index, l, i, k, p);
-        let v = e.value;
-        let apart = sets_apart(job, index, t, a, b, v);
-        if apart {
+        if column_passes(e.value, &passes) {
             return true;
         }
         p = e.next;
-        k = k + 1;
     }
     false
 }
 
-// The table of a loop whose instances are groups; 0 where they are not.
-pub fn group_table(k: Instances) -> TableId
-    ensures { result.0 ≡ group_table (instances_of k) }
+// The table of a loop whose instances are groups.
+pub fn group_table(k: Instances) -> Option<TableId>
+    ensures { result ≡ groups_in (instances_of k) }
 {
     match k {
-        Instances::Absent => TableId(0),
-        Instances::Envelope => TableId(0),
-        Instances::Rows(_) => TableId(0),
-        Instances::Inside(_) => TableId(0),
-        Instances::Groups(t) => t,
-        Instances::Implied => TableId(0),
+        Instances::Groups(t) => Some(t),
+        _ => None,
     }
 }
 
-// The table of a repeat segment; 0 where it is none.
-pub fn repeat_table(s: Source) -> TableId
-    ensures { result.0 ≡ repeat_table (source_of s) }
+// The table of a repeat segment.
+pub fn repeat_table(s: Source) -> Option<TableId>
+    ensures { result ≡ repeats_in (source_of s) }
 {
     match s {
-        Source::Envelope => TableId(0),
-        Source::Row(_) => TableId(0),
-        Source::Repeat(t) => t,
+        Source::Repeat(t) => Some(t),
+        _ => None,
     }
 }
 

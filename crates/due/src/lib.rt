@@ -12,8 +12,8 @@ ghost use Rattle.walk.specs.Instances.{own_data, has_data, shown};
 ghost use Rattle.walk.specs.Tour.{due_row, is_opener, opens_at, opened};
 
 use crate::cells::{
-    columns_differ, differs, element, filled_by, gives_value, group_table, is_opener, repeat_table,
-    same_segment, stands_inside,
+    differs, filled_by, group_table, has_value, is_opener, repeat_table, same_segment, some_column,
+    stands_inside,
 };
 use plan::answers::{Item, Planned};
 use spec::ids::{LoopId, RowId, TableId};
@@ -33,19 +33,7 @@ pub fn filled(
     requires { Ready job.now index.now × PlannedIs job.now l.0 i s }
     ensures { result ≡ (outline_at job.now).filled l.0 i t.0 r.0 }
 {
-    let mut p = s.first;
-    let mut k: u32 = 0;
-    while k < s.count {
-        let e = element(job, index, l, i, k, p);
-        let v = e.value;
-        let found = gives_value(job, index, t, r, v);
-        if found {
-            return true;
-        }
-        p = e.next;
-        k = k + 1;
-    }
-    false
+    some_column(job, index, l, i, s, |c| has_value(job, index, t, c, r))
 }
 
 // Whether a row segment is written: data has the table, and the segment is forced or filled.
@@ -101,13 +89,11 @@ fn own_data(job: &[u8], index: &[u16], l: LoopId, t: TableId, r: RowId) -> bool
     ensures { result ≡ own_data (outline_at job.now) l.0 t.0 r.0 }
 {
     let n = plan::planned::planned_count(job, index, l);
-    let mut i: u32 = 0;
-    while i < n {
+    for i in 0..n {
         let found = row_fills(job, index, l, i, t, r);
         if found {
             return true;
         }
-        i = i + 1;
     }
     false
 }
@@ -134,8 +120,7 @@ pub fn has_data(job: &[u8], index: &[u16], l: LoopId, t: TableId, r: RowId, heig
         return true;
     }
     let n = spec::loops::child_count(job, index, l);
-    let mut k: u32 = 0;
-    while k < n {
+    for k in 0..n {
         let c = spec::loops::child(job, index, l, k);
         let below = inside(job, index, c, t);
         if below {
@@ -144,7 +129,6 @@ pub fn has_data(job: &[u8], index: &[u16], l: LoopId, t: TableId, r: RowId, heig
                 return true;
             }
         }
-        k = k + 1;
     }
     false
 }
@@ -165,36 +149,33 @@ pub fn shown(job: &[u8], index: &[u16], l: LoopId, t: TableId, r: RowId) -> bool
     has_data(job, index, l, t, r, n)
 }
 
-// Whether two rows have equal cells in the columns that make the groups of a loop.
+// Whether two rows have equal cells in the columns that make the groups of a loop; without groups, as rows of table 0.
 pub fn same_group(job: &[u8], index: &[u16], l: LoopId, a: RowId, b: RowId) -> bool
     requires { Ready job.now index.now × (l.0 < 32) }
     ensures { result ≡ (outline_at job.now).same_group l.0 a.0 b.0 }
 {
     let kind = plan::planned::instances(job, index, l);
-    let t = group_table(kind);
+    let t = group_table(kind).unwrap_or(TableId(0));
     let n = plan::layout::group_column_count(job, index, l);
-    let mut k: u32 = 0;
-    while k < n {
+    for k in 0..n {
         let column = plan::layout::group_column(job, index, l, k);
         let apart = differs(job, index, t, column, a, b);
         if apart {
             return false;
         }
-        k = k + 1;
     }
     true
 }
 
-// Whether two rows may share a repeat segment: their `segment` cells agree, and so do the columns outside the groups.
+// Whether two rows may share a repeat segment: their `segment` cells agree, and so do the columns outside the groups; of no repeat segment, as rows of table 0.
 pub fn same_chunk(job: &[u8], index: &[u16], l: LoopId, i: u32, a: RowId, b: RowId) -> bool
     requires { Ready job.now index.now × (l.0 < 32) }
     ensures { result ≡ (outline_at job.now).same_chunk l.0 i a.0 b.0 }
 {
-    let s = plan::planned::source(job, index, l, i);
-    let t = repeat_table(s);
-    let same = same_segment(job, index, t, a, b);
-    if same {
-        return !columns_differ(job, index, l, i, t, a, b);
+    let s = plan::planned::segment(job, index, l, i);
+    let t = repeat_table(s.source).unwrap_or(TableId(0));
+    if same_segment(job, index, t, a, b) {
+        return !some_column(job, index, l, i, s, |c| differs(job, index, t, c, a, b));
     }
     false
 }
@@ -229,14 +210,12 @@ pub fn opened(job: &[u8], index: &[u16], l: LoopId) -> bool
     ensures { result ≡ opened (outline_at job.now) l.0 }
 {
     let n = plan::layout::order_count(job, index, l);
-    let mut k: u32 = 0;
-    while k < n {
+    for k in 0..n {
         let item = plan::layout::item(job, index, l, k);
         let opens = opens_at(job, index, l, item);
         if opens {
             return true;
         }
-        k = k + 1;
     }
     false
 }

@@ -1,6 +1,4 @@
 // Dates of cells and of the envelope, by the days since 1970-01-01.
-ghost use Rattle.std.specs.Prelude.{◌<◌};
-
 use crate::shown::{at_most, said, signed};
 use std::io;
 
@@ -62,12 +60,6 @@ const ROWS: [[i32; 2]; 46] = [
     [-2147483647, 6],
 ];
 
-fn at(i: usize) -> [i32; 2]
-    requires { i < 46 }
-{
-    ROWS[i]
-}
-
 fn row(rt: &impl Print, r: [i32; 2]) -> io::Result<()> {
     let days = r[0];
     let max = r[1];
@@ -78,10 +70,8 @@ fn row(rt: &impl Print, r: [i32; 2]) -> io::Result<()> {
 }
 
 pub(crate) fn all(rt: &impl Print) -> io::Result<()> {
-    let mut i: usize = 0;
-    while i < 46 {
-        row(rt, at(i))?;
-        i += 1;
+    for x in ROWS {
+        row(rt, x)?;
     }
     Ok(())
 }

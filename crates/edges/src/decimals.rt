@@ -1,6 +1,4 @@
 // Decimals.
-ghost use Rattle.std.specs.Prelude.{◌<◌};
-
 use crate::shown::{label, named, show};
 use std::io;
 use texts::number::Wide;
@@ -57,12 +55,6 @@ const ROWS: [[u64; 3]; 42] = [
     [0x8000000000000000, 0x0, 255],
 ];
 
-fn at(i: usize) -> [u64; 3]
-    requires { i < 42 }
-{
-    ROWS[i]
-}
-
 fn row(rt: &impl Print, r: [u64; 3]) -> io::Result<()> {
     let hi = r[0];
     let lo = r[1];
@@ -78,10 +70,8 @@ fn row(rt: &impl Print, r: [u64; 3]) -> io::Result<()> {
 }
 
 pub(crate) fn all(rt: &impl Print) -> io::Result<()> {
-    let mut i: usize = 0;
-    while i < 42 {
-        row(rt, at(i))?;
-        i += 1;
+    for x in ROWS {
+        row(rt, x)?;
     }
     Ok(())
 }

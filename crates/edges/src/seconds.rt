@@ -1,6 +1,4 @@
 // Times of cells and of the envelope, by the seconds since midnight.
-ghost use Rattle.std.specs.Prelude.{◌<◌};
-
 use crate::shown::{at_most, said, signed};
 use std::io;
 
@@ -39,12 +37,6 @@ const ROWS: [[i32; 2]; 26] = [
     [-2147483647, 8],
 ];
 
-fn at(i: usize) -> [i32; 2]
-    requires { i < 26 }
-{
-    ROWS[i]
-}
-
 fn row(rt: &impl Print, r: [i32; 2]) -> io::Result<()> {
     let seconds = r[0];
     let max = r[1];
@@ -55,10 +47,8 @@ fn row(rt: &impl Print, r: [i32; 2]) -> io::Result<()> {
 }
 
 pub(crate) fn all(rt: &impl Print) -> io::Result<()> {
-    let mut i: usize = 0;
-    while i < 26 {
-        row(rt, at(i))?;
-        i += 1;
+    for x in ROWS {
+        row(rt, x)?;
     }
     Ok(())
 }

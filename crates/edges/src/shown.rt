@@ -1,7 +1,7 @@
 // What a line is made of, on standard output.
 use std::io;
 use texts::Text;
-use texts::render::{Max, Refused, Said};
+use texts::render::Refused;
 
 pub(crate) fn named(rt: &impl Print, text: &[u8]) -> io::Result<()> {
     rt.write_all(text)
@@ -52,13 +52,13 @@ fn whole(rt: &impl Print, value: i32) -> io::Result<()> {
     head(rt, &bytes, t.len)
 }
 
-pub(crate) fn at_most(max: i32) -> Max {
+pub(crate) fn at_most(max: i32) -> Option<usize> {
     match max {
-        4 => Max::At(4),
-        5 => Max::At(5),
-        6 => Max::At(6),
-        8 => Max::At(8),
-        _ => Max::Free,
+        4 => Some(4),
+        5 => Some(5),
+        6 => Some(6),
+        8 => Some(8),
+        _ => None,
     }
 }
 
@@ -69,14 +69,12 @@ fn reason(rt: &impl Print, digit: &[u8]) -> io::Result<()> {
 }
 
 // A text, or the reason why there is none.
-pub(crate) fn said(rt: &impl Print, s: Said) -> io::Result<()> {
-    let refused = s.refused;
-    let text = s.text;
-    match refused {
-        Refused::Nothing => show(rt, text),
-        Refused::Year => reason(rt, b"1"),
-        Refused::Window => reason(rt, b"2"),
-        Refused::Day => reason(rt, b"3"),
-        Refused::Seconds => reason(rt, b"4"),
+pub(crate) fn said(rt: &impl Print, s: Result<Text, Refused>) -> io::Result<()> {
+    match s {
+        Ok(text) => show(rt, text),
+        Err(Refused::Year) => reason(rt, b"1"),
+        Err(Refused::Window) => reason(rt, b"2"),
+        Err(Refused::Day) => reason(rt, b"3"),
+        Err(Refused::Seconds) => reason(rt, b"4"),
     }
 }

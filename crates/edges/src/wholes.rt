@@ -1,6 +1,4 @@
 // Whole numbers of 64 bits, signed and not.
-ghost use Rattle.std.specs.Prelude.{◌<◌};
-
 use crate::shown::{label, named, show};
 use std::io;
 
@@ -22,12 +20,6 @@ const VALUES: [u64; 15] = [
     0xffffffffffffffff,
 ];
 
-fn at(i: usize) -> u64
-    requires { i < 15 }
-{
-    VALUES[i]
-}
-
 fn row(rt: &impl Print, bits: u64) -> io::Result<()> {
     named(rt, b"signed ")?;
     label(rt, bits)?;
@@ -41,10 +33,8 @@ fn row(rt: &impl Print, bits: u64) -> io::Result<()> {
 }
 
 pub(crate) fn all(rt: &impl Print) -> io::Result<()> {
-    let mut i: usize = 0;
-    while i < 15 {
-        row(rt, at(i))?;
-        i += 1;
+    for x in VALUES {
+        row(rt, x)?;
     }
     Ok(())
 }

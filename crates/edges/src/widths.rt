@@ -1,10 +1,6 @@
 // Padding of envelope values and control numbers; a bar stands behind each text.
-ghost use Rattle.std.specs.Prelude.{◌<◌};
-
 use crate::shown::{head, named, run, spaced};
 use std::io;
-use texts::envelope::Min;
-use texts::render::Max;
 
 // The length of the text, whether it is a number, the min and the max; 99 for none.
 const ROWS: [[usize; 4]; 16] = [
@@ -28,22 +24,12 @@ const ROWS: [[usize; 4]; 16] = [
     [6, 0, 4, 4],
 ];
 
-fn least(n: usize) -> Min {
-    if n == 99 { Min::Free } else { Min::At(n) }
-}
-
-fn most(n: usize) -> Max {
-    if n == 99 { Max::Free } else { Max::At(n) }
-}
-
-fn at(i: usize) -> [usize; 4]
-    requires { i < 16 }
-{
-    ROWS[i]
+fn at_width(n: usize) -> Option<usize> {
+    if n == 99 { None } else { Some(n) }
 }
 
 fn value(rt: &impl Print, len: usize, numeric: usize, min: usize, max: usize) -> io::Result<()> {
-    let p = texts::envelope::pad(len, numeric == 1, least(min), most(max));
+    let p = texts::envelope::pad(len, numeric == 1, at_width(min), at_width(max));
     run(rt, 48, p.zeros)?;
     head(rt, b"123456789012345", len)?;
     run(rt, 32, p.spaces)?;
@@ -52,7 +38,7 @@ fn value(rt: &impl Print, len: usize, numeric: usize, min: usize, max: usize) ->
 
 fn control(rt: &impl Print, len: usize, min: usize) -> io::Result<()> {
     named(rt, b"control: ")?;
-    run(rt, 48, texts::envelope::control_padding(len, least(min)))?;
+    run(rt, 48, texts::envelope::control_padding(len, at_width(min)))?;
     head(rt, b"123456789012345", len)?;
     named(rt, b"|\n")
 }
@@ -69,10 +55,8 @@ fn row(rt: &impl Print, r: [usize; 4]) -> io::Result<()> {
 }
 
 pub(crate) fn all(rt: &impl Print) -> io::Result<()> {
-    let mut i: usize = 0;
-    while i < 16 {
-        row(rt, at(i))?;
-        i += 1;
+    for x in ROWS {
+        row(rt, x)?;
     }
     Ok(())
 }

@@ -2,7 +2,7 @@
 use Prim.Native.Nat.{ℕ}
 use mathlib.Core.Path.{◌≡◌}
 use mathlib.Core.List.{List}
-use mathlib.Core.Option.{Option, some}
+use Rattle.std.specs.Prelude.{Option, Some}
 use Rattle.format.specs.Sections.{job_of}
 use Rattle.format.specs.Ask.{max_of, data_of}
 use Rattle.texts.specs.Reason.{Outcome}
@@ -13,7 +13,7 @@ use Rattle.emit.specs.declared.cells.Written.{Written}
 use Rattle.emit.specs.Puts.{max_in, cell_text, cell_outcome}
 use Rattle.emit.specs.Written.{Writes}
 
-pub cell_outcome_lem : (b id : List ℕ) (t r e : ℕ) (c : Option ℕ) (column : ℕ) {read : Read} {w : Written} → Reads b read (some (cell_of (data_of (job_of b) t) column r))
+pub cell_outcome_lem : (b id : List ℕ) (t r e : ℕ) (c : Option ℕ) (column : ℕ) {read : Read} {w : Written} → Reads b read (Some (cell_of (data_of (job_of b) t) column r))
     → Writes b w (cell_text (or_null (cell_at b read)) (max_in (max_of (job_of b) id e c))) → Writes b w (cell_outcome (job_of b) id t r e c column)
 cell_outcome_lem b id t r e c column h f = rw h.cell at f
 

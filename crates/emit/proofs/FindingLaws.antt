@@ -3,15 +3,15 @@ use Prim.Native.Nat.{ℕ, zero, suc, ◌+◌, ◌≤◌, ◌<◌}
 use mathlib.Core.Path.{◌≡◌, refl, sym, ap, ◌∙◌}
 use mathlib.Core.Bool.{Bool, true, false}
 use mathlib.Core.List.{List, [], ◌∷◌, ◌++◌, append_assoc, append-nil}
-use native.Mathlib.Omega.{arith}
 use lib.Dec.{eqb}
 use lib.ListN.{length}
 use borrow.Author.Tests.{eqb-true, eqb-false, eq-eqb, ne_eqb}
 use Rattle.format.specs.Words.{member_of}
 use Rattle.format.specs.Envelope.{Envelope}
 use Rattle.format.specs.Refusal.{separators}
-use Rattle.emit.specs.declared.findings.Repetition.{Repetition}
-use Rattle.emit.specs.declared.findings.Repetition.TheVariants.{Absent, Byte}
+use Rattle.std.specs.Prelude as Rust
+use Rattle.std.specs.Prelude.{Some, None}
+use Rattle.std.specs.Option.{unwrap_or}
 use Rattle.emit.specs.declared.findings.Delimiters.{Delimiters}
 use native.Mathlib.Nat.{not-suc-le-zero}
 use Rattle.codec.specs.Codec.{pick as codec-pick}
@@ -20,7 +20,6 @@ use Rattle.lent.proofs.Laws.{stored_none, stored_append, stored_length}
 use Rattle.segment.specs.Parts.{pick}
 use Rattle.segment.specs.Pen.{holds, holds_any, one_of}
 use Rattle.segment.proofs.Texts.{none_of}
-use Rattle.nest.specs.Lists.{each}
 use Rattle.nest.specs.Finding.{Finding, Origin, cell, field, Place, of_text, delimiter, not_writable, record_of}
 use Rattle.emit.specs.declared.findings.Spot.{Spot}
 use Rattle.emit.specs.Puts.{held_in, unwritten}
@@ -103,21 +102,16 @@ none_left o p text role = refl
 pub none_tried : {d : List ℕ} {at n : ℕ} (o : Origin) (p : Place) (text : List ℕ) (role : ℕ) → n ≡ more at 0 → Noted d at (words_of (held_in o p text role [])) n d
 none_tried o p text role e = rw (none_left o p text role) (none_stored e)
 
--- the byte that is tried last, or the first again
-abbrev pub last_or : ℕ → Repetition → ℕ
-last_or a Absent = a
-last_or a (Byte b) = b
-
 -- none of the separators is held
-pub none_held : (o : Origin) (p : Place) (text : List ℕ) (a b c : ℕ) (r : Repetition) → holds_any (one_of a b c (last_or a r)) text ≡ false → held_in o p text 0 (a ∷ b ∷ c ∷ tried_last r) ≡ []
+pub none_held : (o : Origin) (p : Place) (text : List ℕ) (a b c : ℕ) (r : Rust.Option ℕ) → holds_any (one_of a b c (unwrap_or r a)) text ≡ false → held_in o p text 0 (a ∷ b ∷ c ∷ tried_last r) ≡ []
 none_held o p text a b c r e =
-    let n = none_of a b c (last_or a r) text e in
+    let n = none_of a b c (unwrap_or r a) text e in
     rw (held_rest o p text 0 a (b ∷ c ∷ tried_last r), not_held o p text 0 a n.0, held_rest o p text 1 b (c ∷ tried_last r), not_held o p text 1 b n.1, held_rest o p text 2 c (tried_last r), not_held o p text 2 c n.2)
     (go r n.3)
   where
-    go : (x : Repetition) → holds (last_or a x) text ≡ false → held_in o p text 3 (tried_last x) ≡ []
-    go Absent f = none_left o p text 3
-    go (Byte d) f = not_held o p text 3 d f
+    go : (x : Rust.Option ℕ) → holds (unwrap_or x a) text ≡ false → held_in o p text 3 (tried_last x) ≡ []
+    go None f = none_left o p text 3
+    go (Some d) f = not_held o p text 3 d f
 
 -- ---- a reason
 
@@ -148,6 +142,6 @@ pub tried_separators : (e : Envelope) (d : Delimiters) → d.element ≡ e.eleme
 unfolding separators
 tried_separators e d a b c r = rw (a, b, c, ← r) (go d.repetition)
   where
-    go : (x : Repetition) → e.element ∷ e.component ∷ e.segment ∷ tried_last x ≡ separators (record { sender_qualifier = e.sender_qualifier; sender_id = e.sender_id; receiver_qualifier = e.receiver_qualifier; receiver_id = e.receiver_id; application_sender = e.application_sender; application_receiver = e.application_receiver; date = e.date; time = e.time; usage_indicator = e.usage_indicator; control_number = e.control_number; element = e.element; component = e.component; segment = e.segment; repetition = repetition_of x; line_break = e.line_break })
-    go Absent = refl
-    go (Byte x) = refl
+    go : (x : Rust.Option ℕ) → e.element ∷ e.component ∷ e.segment ∷ tried_last x ≡ separators (record { sender_qualifier = e.sender_qualifier; sender_id = e.sender_id; receiver_qualifier = e.receiver_qualifier; receiver_id = e.receiver_id; application_sender = e.application_sender; application_receiver = e.application_receiver; date = e.date; time = e.time; usage_indicator = e.usage_indicator; control_number = e.control_number; element = e.element; component = e.component; segment = e.segment; repetition = repetition_of x; line_break = e.line_break })
+    go None = refl
+    go (Some x) = refl

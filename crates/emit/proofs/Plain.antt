@@ -6,7 +6,7 @@ use mathlib.Core.List.{List, [], ◌∷◌, ◌++◌}
 use native.Mathlib.Omega.{arith}
 use lib.Dec.{eqb, leb}
 use lib.IntN.{ℤ, pos, negsuc, nat_abs}
-use lib.ListN.{length, replicate, length-append}
+use lib.ListN.{replicate, length-append}
 use borrow.Author.Tests.{eqb-true, leb-true, le-leb}
 use Rattle.codec.specs.Codec.{pick}
 use Rattle.codec.specs.Limits.{any, any_of, none_of}
@@ -17,9 +17,8 @@ use Rattle.column.specs.Cell.{or_null}
 use Rattle.column.specs.declared.Cell.{Cell as Read}
 use Rattle.column.specs.declared.Cell.TheVariants.{None, Null, Bytes, Int, Wide, Days, Seconds}
 use Rattle.column.specs.Answers.{cell_at}
-use Rattle.texts.specs.declared.render.Max.{Max}
-use Rattle.texts.specs.Calendar.{Day, and, leap, month_length, civil_of, near}
-use Rattle.texts.specs.Reason.{Outcome, gives, refuses, pick as choose, shorter}
+use Rattle.texts.specs.Calendar.{Day, and, leap, civil_of, near}
+use Rattle.texts.specs.Reason.{Width, Outcome, gives, refuses, pick as choose, shorter}
 use Rattle.texts.specs.Number.{figures, count_text, minus, negative, int_text, trimmed, pointed, fixed_text, decimal_text}
 use Rattle.texts.specs.DateText.{two, month_day, long_date, short_date, day_text, date_text}
 use Rattle.texts.specs.DateText.{between as within}
@@ -122,7 +121,7 @@ month_day_lem z =
     let l = month_long (leap (civil_of z).year) (civil_of z).month v.to_december in
     pair_textual (two (civil_of z).month) (two (civil_of z).day) (two_textual (civil_of z).month (omega (arith, v.to_december))) (two_textual (civil_of z).day (omega (arith, l.1, v.to_last)))
 
-pub date_textual : (z : ℤ) (max : Max) → Textual (date_text z max).text
+pub date_textual : (z : ℤ) (max : Width) → Textual (date_text z max).text
 unfolding date_text long_date short_date
 date_textual z max =
     if_textual (near z) (day_text t max) (refuses 1)
@@ -141,7 +140,7 @@ date_textual z max =
     short : Textual (two (y % 100) ++ month_day t)
     short = pair_textual (two (y % 100)) (month_day t) (two_textual (y % 100) (omega arith)) (month_day_lem z)
 
-clock_textual : (n : ℕ) (max : Max) → n ≤ 86399 → Textual (clock n max).text
+clock_textual : (n : ℕ) (max : Width) → n ≤ 86399 → Textual (clock n max).text
 unfolding clock
 clock_textual n max h =
     if_textual (eqb (n % 60) 0) (gives (hours_minutes n)) (choose (shorter max 6) (refuses 4) (gives (hours_minutes_seconds n))) (λ e. pair_textual (two (n / 3600)) (two (n / 60 % 60)) hours minutes)
@@ -154,13 +153,13 @@ clock_textual n max h =
     minutes : Textual (two (n / 60 % 60))
     minutes = two_textual (n / 60 % 60) (omega arith)
 
-pub time_textual : (z : ℤ) (max : Max) → Textual (time_text z max).text
+pub time_textual : (z : ℤ) (max : Width) → Textual (time_text z max).text
 unfolding time_text
 time_textual z max = if_textual (within_day z) (clock (nat_abs z) max) (refuses 3) (λ e. clock_textual (nat_abs z) max (low_year 0 86399 z e)) (λ e. tt)
 
 -- ---- cells
 
-pub own_textual : (b : List ℕ) (c : Read) (max : Max) → is_own c ≡ true → Textual (cell_text (or_null (cell_at b c)) max).text
+pub own_textual : (b : List ℕ) (c : Read) (max : Width) → is_own c ≡ true → Textual (cell_text (or_null (cell_at b c)) max).text
 unfolding cell_text cell_at
 own_textual b None max e = tt
 own_textual b Null max e = tt

@@ -1,10 +1,10 @@
 -- What planned places put, one place after the other: for loops that step through the planned elements.
 use Prim.Native.Nat.{ℕ, zero, suc, ◌+◌, ◌≤◌, ◌<◌, max}
-use mathlib.Core.Path.{◌≡◌, refl, sym, ap, ◌∙◌}
+use mathlib.Core.Path.{◌≡◌, refl, ap, ◌∙◌}
 use mathlib.Core.List.{List, [], ◌∷◌, ◌++◌}
-use mathlib.Core.Option.{Option}
 use native.Mathlib.Numerals.{add-one}
 use native.Mathlib.Omega.{arith}
+use Rattle.std.specs.Prelude.{Option}
 use lib.ListN.{length, get_or, drop}
 use lib.Seq.{drop-cons}
 use Rattle.format.specs.Job.{Job}
@@ -12,6 +12,7 @@ use Rattle.format.specs.Refusal.{separators}
 use Rattle.segment.specs.Parts.{Part, highest}
 use Rattle.segment.specs.Pen.{value_text}
 use Rattle.nest.specs.Finding.{cell}
+use Rattle.texts.specs.Reason.{why_in}
 use Rattle.emit.specs.declared.cells.Written.{Written}
 use Rattle.emit.specs.declared.findings.Delimiters.{Delimiters}
 use Rattle.emit.specs.Puts.{Put, nothing, and_put, put_all, cell_outcome, place_of, part_at, held_in, delimited, unwritten, put_cell}
@@ -50,7 +51,7 @@ module _ (job : List ℕ) (j : Job) (id : List ℕ) (e : ℕ) (c : Option ℕ) (
   cell_parts = rw w.text
 
   pub cell_findings : (d : Delimiters) → tried d ≡ separators j.envelope
-      → (put_cell j id e c t column r).findings ≡ unwritten (cell t r column) (place_of id e c) x.reason ++ held_in (cell t r column) (place_of id e c) (value_text job x.value) 0 (tried d)
+      → (put_cell j id e c t column r).findings ≡ unwritten (cell t r column) (place_of id e c) (why_in x.reason) ++ held_in (cell t r column) (place_of id e c) (value_text job x.value) 0 (tried d)
   unfolding put_cell delimited
   cell_findings d q = rw (w.text, w.reason, q)
 

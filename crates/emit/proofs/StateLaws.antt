@@ -1,11 +1,11 @@
 -- The state as code moves it on.
-use Prim.Native.Nat.{ℕ, zero, suc, ◌+◌, ◌-◌, ◌%◌, ◌^◌, ◌≤◌, ◌<◌, max}
+use Prim.Native.Nat.{ℕ, zero, suc, ◌≤◌, ◌<◌}
 use mathlib.Core.Path.{◌≡◌, refl, sym, ap, ◌∙◌}
-use mathlib.Core.Bool.{Bool, true, false}
+use mathlib.Core.Bool.{true, false}
 use mathlib.Core.List.{List, [], ◌∷◌, map, append-nil}
-use mathlib.Core.Option.{Option, none, some}
 use native.Mathlib.Omega.{arith}
 use native.Mathlib.Nat.{max-eq_left, max-eq_right}
+use Rattle.std.specs.Prelude.{Option, None, Some}
 use lib.ListN.{length, get_or, set}
 use lib.Seq.{get_or-set_same, set-set}
 use Rattle.emit.specs.declared.state.Mark.{Mark}
@@ -15,7 +15,7 @@ use Rattle.emit.specs.Did.{mark_of, no_mark, state_of, state_with, traced_word, 
 
 -- ---- the marks
 
-pub mark_at : (l : List Mark) (t : ℕ) → mark_of (get_or l t no_mark) ≡ get_or (map mark_of l) t none
+pub mark_at : (l : List Mark) (t : ℕ) → mark_of (get_or l t no_mark) ≡ get_or (map mark_of l) t None
 mark_at [] t = refl
 mark_at (m ∷ l) zero = refl
 mark_at (m ∷ l) (suc t) = mark_at l t
@@ -26,7 +26,7 @@ mark_put (x ∷ l) zero m = refl
 mark_put (x ∷ l) (suc t) m = ap (λ (r : List (Option ℕ)). mark_of x ∷ r) (mark_put l t m)
 
 -- the mark that was put, and one put over it
-pub mark_in : (l : List Mark) (t : ℕ) (m : Mark) → t < length l → get_or (map mark_of (set l t m)) t none ≡ mark_of m
+pub mark_in : (l : List Mark) (t : ℕ) (m : Mark) → t < length l → get_or (map mark_of (set l t m)) t None ≡ mark_of m
 mark_in l t m h = sym (mark_at (set l t m) t) ∙ ap mark_of (get_or-set_same l t m no_mark h)
 
 pub mark_over : (l : List Mark) (t : ℕ) (m n : Mark) → map mark_of (set l t n) ≡ set (map mark_of (set l t m)) t (mark_of n)
@@ -35,12 +35,12 @@ mark_over l t m n = ap (map mark_of) (sym (set-set l t m n)) ∙ mark_put (set l
 -- ---- the highest row
 
 pub raise_same : (m : Mark) (r : ℕ) → m.seen ≡ true → r ≤ m.row → mark_of m ≡ F.higher (mark_of m) r
-raise_same m r e h = rw e (ap some (sym (max-eq_left h)))
+raise_same m r e h = rw e (ap Some (sym (max-eq_left h)))
 
-pub raise_up : (m : Mark) (r : ℕ) → m.seen ≡ true → m.row < r → some r ≡ F.higher (mark_of m) r
-raise_up m r e h = let q : m.row ≤ r = omega arith in rw e (ap some (sym (max-eq_right q)))
+pub raise_up : (m : Mark) (r : ℕ) → m.seen ≡ true → m.row < r → Some r ≡ F.higher (mark_of m) r
+raise_up m r e h = let q : m.row ≤ r = omega arith in rw e (ap Some (sym (max-eq_right q)))
 
-pub raise_first : (m : Mark) (r : ℕ) → m.seen ≡ false → some r ≡ F.higher (mark_of m) r
+pub raise_first : (m : Mark) (r : ℕ) → m.seen ≡ false → Some r ≡ F.higher (mark_of m) r
 raise_first m r e = rw e
 
 -- ---- control numbers

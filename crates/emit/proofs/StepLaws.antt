@@ -1,9 +1,9 @@
 -- What a finished segment and a stop come to.
 use Prim.Native.Nat.{ℕ, ◌≤◌}
-use mathlib.Core.Path.{◌≡◌, refl, sym, ◌∙◌}
+use mathlib.Core.Path.{◌≡◌, refl}
 use mathlib.Core.List.{List, [], ◌∷◌}
-use mathlib.Core.Option.{none}
 use native.Mathlib.Omega.{arith}
+use Rattle.std.specs.Prelude.{None}
 use Rattle.format.specs.Spec.{Control}
 use Rattle.format.specs.Job.{Job}
 use Rattle.lent.specs.Fit.{cap, more, Stored, Noted}
@@ -18,7 +18,7 @@ use Rattle.emit.specs.declared.state.From.TheVariants.{Envelope}
 use Rattle.emit.specs.Written.{words_of}
 use Rattle.emit.specs.Envelope.{closer_put}
 use Rattle.emit.specs.Fold.{separators_of, segment_out, order_findings, higher, stop_out}
-use Rattle.emit.specs.Did.{mark_of, state_of, state_with, stop_words, traced_words, row_in, DidCounts, DidMark, Within, Finished}
+use Rattle.emit.specs.Did.{mark_of, state_of, stop_words, traced_words, row_in, DidCounts, DidMark, Within, Finished}
 use Rattle.emit.proofs.FindingLaws.{none_stored}
 use Rattle.emit.proofs.StateLaws.{mark_in, mark_over}
 use Rattle.emit.proofs.JoinLaws.{closer_quiet}
@@ -56,7 +56,7 @@ did_stop o l t r k a m n s h y z e high counter b = record {
 pub did_closer : {s n : Counts} {d d' g g' : List ℕ} {b entries : ℕ} (j : Job) (sep : Separators) (id : List ℕ) (k : Control) (control : List ℕ) (count : ℕ) (f p : List ℕ)
     → separators_of j ≡ sep → Within s → entries ≡ (closer_put k control count).entries
     → Stored d s.bytes (joined sep id (closer_put k control count).parts) b d' → Finished Envelope entries b s.findings s n g g'
-    → DidCounts (segment_out j id (closer_put k control count).parts (closer_put k control count).findings (closer_put k control count).entries none) s n d d' g g' f f p p
+    → DidCounts (segment_out j id (closer_put k control count).parts (closer_put k control count).findings (closer_put k control count).entries None) s n d d' g g' f f p p
 did_closer {s = s} j sep id k control count f p q h e x z high counter =
     rw (closer_quiet k control count, ← e) (did_segment j id (closer_put k control count).parts [] _ Envelope h (rw q x) (none_stored (still s.findings h.findings)) z high counter)
   where

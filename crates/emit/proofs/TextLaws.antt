@@ -13,22 +13,31 @@ use mir.Val.{SFits, to_z, of_z}
 use mir.Facts.{to_z-of_z}
 use Rattle.segment.specs.declared.Value.{Value}
 use Rattle.segment.specs.Pen.{value_text}
+use Rattle.std.specs.Prelude as Rust
+use Rattle.std.specs.Prelude.{Result, Ok, Err}
+use Rattle.std.specs.Result.{result_err}
 use Rattle.texts.specs.declared.Text.{Text}
+use Rattle.texts.specs.declared.render.Refused.{Refused}
 use Rattle.texts.specs.Held.{held}
-use Rattle.texts.specs.Reason.{Outcome}
-use Rattle.texts.specs.declared.envelope.Min.{Min}
-use Rattle.texts.specs.declared.render.Max.{Max}
+use Rattle.texts.specs.Reason.{Width as Room, Outcome, text_of, why_of, why_in, Says}
 use Rattle.texts.specs.Number.{count_text}
 use Rattle.texts.specs.Pad.{padded, zero_padded, control_text}
 use Rattle.lent.specs.Fit.{stretch}
 use Rattle.lent.proofs.Laws.{length_stretch}
 use Rattle.emit.specs.Written.{Writes}
 
--- a text of its own
-pub writes_own : {job : List ℕ} {v : Value} {reason : ℕ} (t : Text) (o : Outcome) → value_text job v ≡ take t.len t.bytes → t ≡ held o.text → reason ≡ o.reason
-    → Writes job (record { value = v; reason = reason }) o
+-- a text of its own, with the reason where there is none
+pub why_err : (r : Result Text Refused) → why_in (result_err r) ≡ why_of r
+why_err (Ok t) = refl
+why_err (Err w) = refl
+
+pub writes_own : {job : List ℕ} {v : Value} {e : Rust.Option Refused} (r : Result Text Refused) (o : Outcome) → value_text job v ≡ take (text_of r).len (text_of r).bytes → e ≡ result_err r
+    → Says r o → Writes job (record { value = v; reason = e }) o
 unfolding held
-writes_own t o e h r = record { text = e ∙ rw h (take-append_seam o.text (replicate (48 - length o.text) 0)); reason = r }
+writes_own r o e q s = record {
+  text = e ∙ rw s.text (take-append_seam o.text (replicate (48 - length o.text) 0));
+  reason = ap why_in q ∙ why_err r ∙ s.reason;
+}
 
 -- the halves of a number
 pub halves : (lo hi : ℕ) → lo + hi * 2 ^ 64 ≡ lo + 18446744073709551616 * hi
@@ -48,13 +57,13 @@ held_length : (t : Text) (x : List ℕ) → t ≡ held x → length x ≡ t.len
 unfolding held
 held_length t x h = rw h
 
-pub control_text_lem : (job : List ℕ) (t : Text) (number zeros : ℕ) (min : Min) → t ≡ held (count_text number)
+pub control_text_lem : (job : List ℕ) (t : Text) (number zeros : ℕ) (min : Room) → t ≡ held (count_text number)
     → ((text : List ℕ) → length text ≡ t.len → replicate zeros 48 ++ text ≡ zero_padded min text)
     → value_text job (record { zeros = zeros; bytes = t.bytes; count = t.len; start = 0; len = 0; spaces = 0 }) ≡ control_text number min
 unfolding value_text control_text
 control_text_lem job t number zeros min h p = rw (append-nil (take t.len t.bytes), held_text t (count_text number) h) (p (count_text number) (held_length t (count_text number) h))
 
-pub padded_text : (job : List ℕ) (v : Value) (numeric : Bool) (min : Min) (max : Max) {own held : ℕ} → own ≡ length (take v.count v.bytes) → held ≡ length (stretch job v.start v.len)
+pub padded_text : (job : List ℕ) (v : Value) (numeric : Bool) (min : Room) (max : Room) {own held : ℕ} → own ≡ length (take v.count v.bytes) → held ≡ length (stretch job v.start v.len)
     → ((text : List ℕ) → length text ≡ own + held → replicate v.zeros 48 ++ (text ++ replicate v.spaces 32) ≡ padded numeric min max text)
     → value_text job v ≡ padded numeric min max (take v.count v.bytes ++ stretch job v.start v.len)
 unfolding value_text

@@ -1,9 +1,8 @@
 -- Steps taken one after the other.
-use Prim.Native.Nat.{ℕ, ◌+◌, ◌≤◌}
+use Prim.Native.Nat.{ℕ, ◌+◌}
 use mathlib.Core.Path.{◌≡◌, refl, sym, ap, ◌∙◌}
 use mathlib.Core.Bool.{Bool}
 use mathlib.Core.List.{List, [], ◌∷◌, ◌++◌, append_assoc, append-nil}
-use native.Mathlib.Omega.{arith}
 use Rattle.format.specs.Job.{Job}
 use Rattle.nest.specs.OfJob.{outline_of}
 use Rattle.walk.specs.Tour.{Step, enters, stop, opener, row_segment, fill, chunk, closer, segments_in}
@@ -13,7 +12,7 @@ use Rattle.emit.specs.declared.state.Taken.{Taken}
 use Rattle.emit.specs.Fold as F
 use Rattle.emit.specs.Fold.{Out, quiet, and_then, stop_out, opener_out, row_out, fill_out, chunk_out, closer_out, step_out, steps_out}
 use Rattle.emit.specs.Did.{state_of, Did, Fit, Small, Took}
-use Rattle.emit.proofs.DidLaws.{did_then, did_nothing, did_fit, did_small}
+use Rattle.emit.proofs.DidLaws.{did_then, did_nothing}
 
 -- ---- the fold
 

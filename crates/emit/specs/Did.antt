@@ -1,6 +1,5 @@
 -- What code did that writes an `Out`: the state that it returns, and the four lent lists.
-use Rattle.std.specs.Prelude.{ℕ, suc, ◌≤◌, ◌<◌, ◌≡◌, false, List, [], ◌∷◌, map, length, set}
-use Rattle.std.proofs.Math.Option.{Option, none, some}
+use Rattle.std.specs.Prelude.{ℕ, suc, ◌≤◌, ◌<◌, ◌≡◌, false, List, [], ◌∷◌, map, length, set, Option, None, Some}
 use Rattle.lent.specs.Fit.{cap, wide, more, Stored, Noted}
 use Rattle.segment.specs.Parts.{pick}
 use Rattle.nest.specs.Lists.{each}
@@ -18,7 +17,7 @@ use Rattle.emit.specs.Fold as F
 -- ---- the state
 
 abbrev pub mark_of : Mark → Option ℕ
-mark_of m = pick m.seen (some m.row) none
+mark_of m = pick m.seen (Some m.row) None
 
 unfoldable pub state_of : State → F.State
 state_of s = record { high = map mark_of s.high; counter = s.counter; entries = s.counts.entries; begun = s.counts.begun }
@@ -33,8 +32,8 @@ state_with h c s = record { high = h; counter = c; counts = s }
 
 -- three for a finished segment: its first trace entry, its table plus one or 0, its row
 abbrev pub row_words : Option (ℕ × ℕ) → List ℕ
-row_words none = 0 ∷ 0 ∷ []
-row_words (some x) = suc x.0 ∷ x.1 ∷ []
+row_words None = 0 ∷ 0 ∷ []
+row_words (Some x) = suc x.0 ∷ x.1 ∷ []
 
 abbrev pub traced_word : F.Traced → List ℕ
 traced_word t = t.entry ∷ row_words t.row
@@ -92,8 +91,8 @@ Small s = Within s.counts
 -- ---- what moves the state on
 
 abbrev pub row_in : From → Option (ℕ × ℕ)
-row_in Envelope = none
-row_in (Row t r) = some (t.0, r.0)
+row_in Envelope = None
+row_in (Row t r) = Some (t.0, r.0)
 
 -- e trace entries more, and the segment is finished; b bytes and f numbers of findings stand then
 pub record Finished (from : From) (e b f : ℕ) (s n : Counts) (g g' : List ℕ) : Type 0 where

@@ -1,15 +1,12 @@
 -- The trigger of an envelope loop and its closer (write/envelope.rs, write/emit.rs; document 01: "`LAYOUT` is a table of three rows").
-use Rattle.std.specs.Prelude.{ℕ, zero, suc, ◌+◌, ◌*◌, ◌-◌, ◌%◌, ◌^◌, Bool, true, false, List, [], ◌∷◌, ◌++◌, eqb, leb, get_or, length, take}
-use Rattle.std.proofs.Math.Option.{Option, none, some}
-use Rattle.format.specs.Spec.{Kind, kind_an, kind_id, kind_n, kind_r, kind_dt, kind_tm, ElementDef, Version, Control, Loop}
+use Rattle.std.specs.Prelude.{ℕ, zero, suc, Bool, true, false, List, [], ◌∷◌, ◌++◌, eqb, leb, get_or, Some, None, Option}
+use Rattle.format.specs.Spec.{Kind, kind_an, kind_id, kind_n, kind_r, kind_dt, kind_tm, ElementDef, Version, Control}
 use Rattle.format.specs.Envelope as E
 use Rattle.format.specs.Job.{Job}
-use Rattle.texts.specs.declared.envelope.Min.{Min}
-use Rattle.texts.specs.declared.envelope.Min.TheVariants as Min
 use Rattle.texts.specs.Number.{count_text}
 use Rattle.texts.specs.Pad.{padded, control_text}
 use Rattle.texts.specs.Floor.{signed32}
-use Rattle.texts.specs.Reason.{Outcome, gives}
+use Rattle.texts.specs.Reason.{Width, Outcome}
 use Rattle.texts.specs.DateText.{envelope_date}
 use Rattle.texts.specs.Clock.{envelope_time}
 use Rattle.segment.specs.Parts.{pick}
@@ -80,26 +77,26 @@ trim_end (b ∷ bs) = unless_last b (trim_end bs)
 
 -- the repetition element's own code, or else the separator where there is one
 abbrev pub repetition_given : Option (List ℕ) → Option ℕ → Option Given
-repetition_given (some code) r = some (plainly code)
-repetition_given none r = on r (λ b. some (separator b)) none
+repetition_given (Some code) r = Some (plainly code)
+repetition_given None r = on r (λ b. Some (separator b)) None
 
 -- what each field gives an element; none: the element is left out
 unfoldable pub field_given : E.Envelope → ElementDef → ℕ → Option Given
 field_given e d f = get_or
-    (some (plainly e.sender_qualifier)
-    ∷ some (plainly e.sender_id)
-    ∷ some (plainly e.receiver_qualifier)
-    ∷ some (plainly e.receiver_id)
-    ∷ some (plainly (on e.application_sender (λ x. x) (trim_end e.sender_id)))
-    ∷ some (plainly (on e.application_receiver (λ x. x) (trim_end e.receiver_id)))
-    ∷ some (outcome (envelope_date (signed32 e.date) (max_in d.max)))
-    ∷ some (outcome (envelope_time (signed32 e.time) (max_in d.max)))
-    ∷ some (plainly e.usage_indicator)
-    ∷ none
+    (Some (plainly e.sender_qualifier)
+    ∷ Some (plainly e.sender_id)
+    ∷ Some (plainly e.receiver_qualifier)
+    ∷ Some (plainly e.receiver_id)
+    ∷ Some (plainly (on e.application_sender (λ x. x) (trim_end e.sender_id)))
+    ∷ Some (plainly (on e.application_receiver (λ x. x) (trim_end e.receiver_id)))
+    ∷ Some (outcome (envelope_date (signed32 e.date) (max_in d.max)))
+    ∷ Some (outcome (envelope_time (signed32 e.time) (max_in d.max)))
+    ∷ Some (plainly e.usage_indicator)
+    ∷ None
     ∷ repetition_given (first d.codes) e.repetition
-    ∷ some (separator e.component)
+    ∷ Some (separator e.component)
     ∷ [])
-    f none
+    f None
 
 -- ---- the elements of a trigger
 
@@ -110,24 +107,24 @@ pub record Sourced : Type 0 where
 
 -- the version's first value, where the version names this segment and element
 abbrev pub version_at : Job → List ℕ → ℕ → Option (List ℕ)
-version_at j trigger position = on j.spec.version (λ (v : Version). pick (same_bytes v.segment trigger) (pick (eqb v.element position) (some v.first) none) none) none
+version_at j trigger position = on j.spec.version (λ (v : Version). pick (same_bytes v.segment trigger) (pick (eqb v.element position) (Some v.first) None) None) None
 
 abbrev pub unsourced : ElementDef → Sourced
-unsourced d = record { field = none; given = plainly (on (first d.codes) (λ c. c) []) }
+unsourced d = record { field = None; given = plainly (on (first d.codes) (λ c. c) []) }
 
 abbrev pub versioned : List ℕ → Sourced
-versioned text = record { field = some version; given = plainly text }
+versioned text = record { field = Some version; given = plainly text }
 
 abbrev pub fielded : E.Envelope → ElementDef → ℕ → Option Sourced
-fielded e d f = on (field_given e d f) (λ g. some (record { field = some f; given = g })) none
+fielded e d f = on (field_given e d f) (λ g. Some (record { field = Some f; given = g })) None
 
 -- in this order: the control number, the layout's field, the version, the first code; none: the element is left out
 unfoldable pub source_at : Job → List ℕ → ℕ → ℕ → List ℕ → ℕ → ElementDef → Option Sourced
 source_at j trigger depth opener control position d =
     pick (eqb position opener)
-    (some (record { field = some control_number; given = plainly control }))
+    (Some (record { field = Some control_number; given = plainly control }))
     (on (field_at depth position) (fielded j.envelope d)
-    (some (on (version_at j trigger position) versioned (unsourced d))))
+    (Some (on (version_at j trigger position) versioned (unsourced d))))
 
 abbrev pub is_numeric : Kind → Bool
 is_numeric kind_an = false
@@ -137,9 +134,9 @@ is_numeric (kind_r n) = false
 is_numeric kind_dt = false
 is_numeric kind_tm = false
 
-abbrev pub min_in : Option ℕ → Min
-min_in none = Min.Free
-min_in (some n) = Min.At n
+abbrev pub min_in : Option ℕ → Width
+min_in None = None
+min_in (Some n) = Some n
 
 -- padded to the element's width, but for a text that was refused
 abbrev pub padded_to : ElementDef → ℕ → List ℕ → List ℕ
@@ -148,15 +145,15 @@ padded_to d (suc reason) text = text
 
 abbrev pub field_findings : Job → List ℕ → ℕ → ℕ → Given → List ℕ → List Finding
 field_findings j trigger position f g text =
-    pick g.checked (delimited j (field f) (place_of trigger position none) text) [] ++ unwritten (field f) (place_of trigger position none) g.reason
+    pick g.checked (delimited j (field f) (place_of trigger position None) text) [] ++ unwritten (field f) (place_of trigger position None) g.reason
 
 -- only what comes from a field is tried, and has a trace entry
 abbrev pub put_sourced : Job → List ℕ → ℕ → ElementDef → Sourced → Put
 put_sourced j trigger position d s =
     let text = padded_to d s.given.reason s.given.text in
     on s.field
-    (λ f. record { parts = part_at position none text ∷ []; findings = field_findings j trigger position f s.given text; entries = 1 })
-    (put_text position none text)
+    (λ f. record { parts = part_at position None text ∷ []; findings = field_findings j trigger position f s.given text; entries = 1 })
+    (put_text position None text)
 
 unfoldable pub put_element : Job → List ℕ → ℕ → ℕ → List ℕ → ℕ × ElementDef → Put
 put_element j trigger depth opener control x = on (source_at j trigger depth opener control x.0 x.1) (put_sourced j trigger x.0 x.1) nothing
@@ -175,7 +172,7 @@ opener_put j l c number =
 
 -- the closer's two texts in the order of their elements, the count first where they are equal; entries are counted at the closer's element
 abbrev pub counted : ℕ → ℕ → List ℕ → Put
-counted closer e text = record { parts = part_at e none text ∷ []; findings = []; entries = pick (eqb e closer) 1 0 }
+counted closer e text = record { parts = part_at e None text ∷ []; findings = []; entries = pick (eqb e closer) 1 0 }
 
 unfoldable pub closer_put : Control → List ℕ → ℕ → Put
 closer_put c control count =

@@ -2,22 +2,20 @@
 -- The state is what a step needs to know of those before it: the highest row of each table, the counter of each loop, and how many trace
 -- entries there are, of which those since `begun` belong to the segment that is not finished yet. Entries are counted up to a cap that no
 -- job reaches.
-use Rattle.std.specs.Prelude.{ℕ, zero, suc, ◌+◌, ◌*◌, ◌-◌, ◌%◌, ◌^◌, max, Bool, true, false, List, [], ◌∷◌, ◌++◌, map, eqb, ltb, get_or, set, replicate}
-use Rattle.std.proofs.Math.Option.{Option, none, some}
-use Rattle.format.specs.Spec.{Loop, Control, Counted, count_segments, count_children}
-use Rattle.format.specs.Plan.{SegmentPlan}
+use Rattle.std.specs.Prelude.{ℕ, ◌+◌, ◌-◌, ◌%◌, ◌^◌, max, Bool, List, [], ◌∷◌, ◌++◌, ltb, get_or, set, replicate, Option, None, Some}
+use Rattle.format.specs.Spec.{Control, Counted, count_segments, count_children}
 use Rattle.format.specs.Job.{Job}
 use Rattle.segment.specs.declared.Separators.{Separators}
 use Rattle.segment.specs.Parts.{Part, pick, joined, sorted}
-use Rattle.nest.specs.Lists.{on, each}
+use Rattle.nest.specs.Lists.{on}
 use Rattle.nest.specs.Outline.{Outline, table_parent, repeated}
 use Rattle.nest.specs.Nest.{hook}
-use Rattle.nest.specs.Finding.{Finding, out_of_order, record_of}
+use Rattle.nest.specs.Finding.{Finding, out_of_order}
 use Rattle.nest.specs.OfJob.{outline_of}
 use Rattle.lent.specs.Fit.{more}
 use Rattle.walk.specs.Tour.{Step, enters, stop, opener, row_segment, fill, chunk, closer, Stop}
 use Rattle.format.specs.Ask.{loop_of, planned_of, identifier_of, step_of}
-use Rattle.emit.specs.Puts.{Put, nothing, row_put, chunk_put, chunk_puts}
+use Rattle.emit.specs.Puts.{row_put, chunk_put, chunk_puts}
 use Rattle.emit.specs.Envelope.{opener_put, closer_put, control_in}
 
 pub record State : Type 0 where
@@ -48,7 +46,7 @@ and_then a f =
 
 -- every counter starts at the envelope's control number
 abbrev pub start : Job → State
-start j = record { high = replicate 16 none; counter = replicate 32 j.envelope.control_number; entries = 0; begun = 0 }
+start j = record { high = replicate 16 None; counter = replicate 32 j.envelope.control_number; entries = 0; begun = 0 }
 
 abbrev pub separators_of : Job → Separators
 separators_of j = record { element = j.envelope.element; component = j.envelope.component; segment = j.envelope.segment; line_break = j.envelope.line_break }
@@ -57,18 +55,18 @@ separators_of j = record { element = j.envelope.element; component = j.envelope.
 
 -- the table that a row hangs on: a repeat row's is the one that placed it
 unfoldable pub above : Outline → ℕ → ℕ → Option ℕ
-above o t r = pick (repeated o t) (on (hook o t r) (λ h. some h.table) none) (table_parent o t)
+above o t r = pick (repeated o t) (on (hook o t r) (λ h. Some h.table) None) (table_parent o t)
 
 -- lower than the highest row yet entered
 abbrev pub order_findings : Outline → ℕ → ℕ → Option ℕ → List Finding
 order_findings o t r high = on high (λ h. pick (ltb r h) (on (above o t r) (λ u. out_of_order t r u (on (o.reference t u r) (λ v. v) 0) h ∷ []) []) []) []
 
 abbrev pub higher : Option ℕ → ℕ → Option ℕ
-higher high r = some (on high (λ h. max h r) r)
+higher high r = Some (on high (λ h. max h r) r)
 
 unfoldable pub stop_out : Outline → ℕ → ℕ → ℕ → State → Out
 stop_out o l t r s =
-    let high = get_or s.high t none in
+    let high = get_or s.high t None in
     record {
       bytes = [];
       segments = [];
@@ -93,7 +91,7 @@ segment_out j id parts findings entries row s =
 unfoldable pub row_out : Job → ℕ → ℕ → ℕ → ℕ → State → Out
 row_out j l i t r s =
     let p = row_put j (identifier_of j l i) t r (planned_of j l i).elements in
-    segment_out j (identifier_of j l i) p.parts p.findings p.entries (some (t, r)) s
+    segment_out j (identifier_of j l i) p.parts p.findings p.entries (Some (t, r)) s
 
 -- row number k of a chunk: findings and entries, the segment comes with its last
 unfoldable pub fill_out : Job → ℕ → ℕ → ℕ → ℕ → ℕ → State → Out
@@ -108,8 +106,8 @@ fill_out j l i t k r s =
     }
 
 abbrev pub first_row : ℕ → List ℕ → Option (ℕ × ℕ)
-first_row t [] = none
-first_row t (r ∷ rs) = some (t, r)
+first_row t [] = None
+first_row t (r ∷ rs) = Some (t, r)
 
 unfoldable pub chunk_out : Job → ℕ → ℕ → ℕ → List ℕ → State → Out
 chunk_out j l i t rs s =
@@ -126,7 +124,7 @@ counter_up l s = record { high = s.high; counter = set s.counter l (next (get_or
 unfoldable pub opener_out : Job → ℕ → State → Out
 opener_out j l s = on (loop_of j l).control (λ c.
     let p = opener_put j l c (get_or s.counter l 0) in
-    segment_out j (loop_of j l).trigger p.parts p.findings p.entries none (counter_up l s)) (quiet s)
+    segment_out j (loop_of j l).trigger p.parts p.findings p.entries None (counter_up l s)) (quiet s)
 
 -- the number that the last opener took
 abbrev pub previous : ℕ → ℕ
@@ -143,7 +141,7 @@ count_of count_children children segments = children
 unfoldable pub closer_out : Job → ℕ → Bool → ℕ → ℕ → State → Out
 closer_out j l opened children segments s = on (loop_of j l).control (λ (c : Control). on (loop_of j l).end (λ id.
     let p = closer_put c (pick opened (control_in j l c (taken l s)) []) (count_of c.counted children segments) in
-    segment_out j id p.parts p.findings p.entries none s) (quiet s)) (quiet s)
+    segment_out j id p.parts p.findings p.entries None s) (quiet s)) (quiet s)
 
 -- ---- the fold
 

@@ -1,32 +1,28 @@
 -- What a planned place puts into its segment: a part, the findings on its text, and its trace entry (write/cells.rs, write/trace.rs).
-use Rattle.std.specs.Prelude.{ℕ, zero, suc, ◌+◌, ◌*◌, List, [], ◌∷◌, ◌++◌, eqb}
-use Rattle.std.proofs.Math.Option.{Option, none, some}
+use Rattle.std.specs.Prelude.{ℕ, zero, suc, ◌+◌, ◌*◌, List, [], ◌∷◌, ◌++◌, eqb, Some, None, Option}
 use Rattle.format.specs.Words.{member_of}
 use Rattle.format.specs.Plan.{Value, from_column, from_group, from_code, ElementPlan}
 use Rattle.format.specs.Job.{Job}
 use Rattle.format.specs.Refusal.{separators}
 use Rattle.column.specs.Cell.{Cell, null, binary, int64, decimal, date32, time32, cell_of}
-use Rattle.texts.specs.declared.render.Max.{Max}
-use Rattle.texts.specs.declared.render.Max.TheVariants.{Free, At}
 use Rattle.texts.specs.Number.{int_text, decimal_text}
 use Rattle.texts.specs.Wide.{signed64, signed128}
 use Rattle.texts.specs.Floor.{signed32}
-use Rattle.texts.specs.Reason.{Outcome, gives}
+use Rattle.texts.specs.Reason.{Width, Outcome, gives}
 use Rattle.texts.specs.DateText.{date_text}
 use Rattle.texts.specs.Clock.{time_text}
 use Rattle.segment.specs.Parts.{Part, pick}
-use Rattle.nest.specs.Lists.{each, on}
 use Rattle.nest.specs.Finding.{Finding, Origin, cell, Place, delimiter, not_writable}
 use Rattle.format.specs.Ask.{max_of, data_of}
 
 -- ---- texts
 
-abbrev pub max_in : Option ℕ → Max
-max_in none = Free
-max_in (some n) = At n
+abbrev pub max_in : Option ℕ → Width
+max_in None = None
+max_in (Some n) = Some n
 
 -- a cell's text for an element with that max, or the reason why it has none; a null writes an empty place
-unfoldable pub cell_text : Cell → Max → Outcome
+unfoldable pub cell_text : Cell → Width → Outcome
 cell_text null max = gives []
 cell_text (binary bytes) max = gives bytes
 cell_text (int64 x) max = gives (int_text (signed64 x))

@@ -1,12 +1,11 @@
 -- The layout of the triggers as a table of equal rows, and the search in a row.
-use Rattle.std.specs.Prelude.{ℕ, zero, suc, ◌+◌, ◌*◌, List, [], ◌∷◌, eqb, get_or, cond}
-use Rattle.std.proofs.Math.Option.{Option, none, some}
-use Rattle.emit.specs.declared.envelope.Held.{Held}
-use Rattle.emit.specs.declared.envelope.Held.TheVariants.{Nothing, Field}
+use Rattle.std.specs.Prelude.{ℕ, zero, suc, ◌+◌, ◌*◌, List, [], ◌∷◌, eqb, get_or, cond, Option}
+use Rattle.std.specs.Prelude as Rust
+use Rattle.std.specs.Prelude.{Some, None}
 
-abbrev pub held_field : Held → Option ℕ
-held_field Nothing = none
-held_field (Field f) = some f
+abbrev pub held_field : Rust.Option ℕ → Option ℕ
+held_field None = None
+held_field (Some f) = Some f
 
 abbrev pub table : List (List ℕ)
 table =
@@ -17,5 +16,5 @@ table =
 
 -- the field of the first of n pairs from number i on that has this position
 unfoldable pub searched : List ℕ → ℕ → ℕ → ℕ → Option ℕ
-searched row zero i position = none
-searched row (suc n) i position = cond (eqb position (get_or row (i * 2) 0)) (some (get_or row (i * 2 + 1) 0)) (searched row n (i + 1) position)
+searched row zero i position = None
+searched row (suc n) i position = cond (eqb position (get_or row (i * 2) 0)) (Some (get_or row (i * 2 + 1) 0)) (searched row n (i + 1) position)

@@ -1,26 +1,24 @@
 -- What the code's answers on a text stand for: the text of a value with its reason; the place of a text in a finding; the separators that are tried.
-use Rattle.std.specs.Prelude.{ℕ, ◌≡◌, Bool, true, false, List, [], ◌∷◌}
-use Rattle.std.proofs.Math.Option.{Option, none, some}
+use Rattle.std.specs.Prelude.{ℕ, ◌≡◌, Bool, true, false, List, [], ◌∷◌, Option, None, Some}
+use Rattle.std.specs.Prelude as Rust
 use Rattle.column.specs.declared.Cell.{Cell as Read}
-use Rattle.column.specs.declared.Cell.TheVariants.{None, Null, Bytes, Int, Wide, Days, Seconds}
-use Rattle.texts.specs.Reason.{Outcome}
+use Rattle.column.specs.declared.Cell.TheVariants.{None as NoAnswer, Null, Bytes, Int, Wide, Days, Seconds}
+use Rattle.texts.specs.Reason.{Outcome, why_in}
 use Rattle.segment.specs.Pen.{value_text}
 use Rattle.nest.specs.Lists.{each}
 use Rattle.nest.specs.Finding.{Finding, Origin, cell, field, Place, number_from, or_zero, record_of}
 use Rattle.emit.specs.declared.cells.Written.{Written}
 use Rattle.emit.specs.declared.findings.Spot.{Spot}
-use Rattle.emit.specs.declared.findings.Repetition.{Repetition}
-use Rattle.emit.specs.declared.findings.Repetition.TheVariants.{Absent, Byte}
 use Rattle.emit.specs.declared.findings.Delimiters.{Delimiters}
 
 -- the value has this text, and this reason
 pub record Writes (job : List ℕ) (r : Written) (o : Outcome) : Type 0 where
   pub text : value_text job r.value ≡ o.text
-  pub reason : r.reason ≡ o.reason
+  pub reason : why_in r.reason ≡ o.reason
 
 -- the scale of a decimal, 0 of any other cell
 abbrev pub scale_in : Read → ℕ
-scale_in None = 0
+scale_in NoAnswer = 0
 scale_in Null = 0
 scale_in (Bytes start len) = 0
 scale_in (Int bits) = 0
@@ -30,7 +28,7 @@ scale_in (Seconds bits) = 0
 
 -- whether a cell's text is no stretch of the job
 abbrev pub is_own : Read → Bool
-is_own None = true
+is_own NoAnswer = true
 is_own Null = true
 is_own (Bytes start len) = false
 is_own (Int bits) = true
@@ -53,14 +51,14 @@ unfoldable pub words_of : List Finding → List ℕ
 words_of = each record_of
 
 -- in the order in which they are tried
-abbrev pub tried_last : Repetition → List ℕ
-tried_last Absent = []
-tried_last (Byte b) = b ∷ []
+abbrev pub tried_last : Rust.Option ℕ → List ℕ
+tried_last Rust.None = []
+tried_last (Rust.Some b) = b ∷ []
 
 abbrev pub tried : Delimiters → List ℕ
 tried d = d.element ∷ d.component ∷ d.segment ∷ tried_last d.repetition
 
 -- the separator of repetitions, if there is one
-abbrev pub repetition_of : Repetition → Option ℕ
-repetition_of Absent = none
-repetition_of (Byte b) = some b
+abbrev pub repetition_of : Rust.Option ℕ → Option ℕ
+repetition_of Rust.None = None
+repetition_of (Rust.Some b) = Some b

@@ -5,38 +5,37 @@ ghost use Rattle.format.specs.Ask.{max_of};
 ghost use Rattle.lent.specs.Fit.{stretch};
 ghost use Rattle.column.specs.Cell.{or_null};
 ghost use Rattle.column.specs.Answers.{cell_at};
-ghost use Rattle.texts.specs.declared.render.Max.{Max};
 ghost use Rattle.texts.specs.Held.{held};
-ghost use Rattle.texts.specs.Reason.{Outcome, reason_of, Says, gives};
+ghost use Rattle.texts.specs.Reason.{Width, Outcome, reason_of, text_of, Says, gives};
 ghost use Rattle.texts.specs.Wide.{signed64, signed128};
 ghost use Rattle.texts.specs.Floor.{signed32};
 ghost use Rattle.texts.specs.Number.{int_text, decimal_text};
 ghost use Rattle.texts.specs.DateText.{date_text};
 ghost use Rattle.texts.specs.Clock.{time_text};
-ghost use Rattle.spec.specs.Answers.{stretch_of, number_of};
+ghost use Rattle.spec.specs.declared.ids.Stretch as Held;
+ghost use Rattle.spec.specs.Answers.{stretch_of};
 ghost use Rattle.nest.specs.Ready.{Ready};
 ghost use Rattle.emit.specs.Puts.{max_in, cell_text, cell_outcome};
 ghost use Rattle.emit.specs.Written.{Writes, scale_in, is_own};
 
 use column::Cell;
 use segment::Value;
-use spec::ids::{Number, RowId, Stretch, TableId};
+use spec::ids::{RowId, Stretch, TableId};
 use texts::number::Wide;
-use texts::render::{Max, Refused, Said};
+use texts::render::Refused;
 use texts::{Text, number, parse, render};
 
-// A text, and the reason why there is none, or 0.
+// A text, and the reason why there is none.
 #[derive(Clone, Copy)]
 pub struct Written {
     pub value: Value,
-    pub reason: u64,
+    pub reason: Option<Refused>,
 }
 
 pub fn reason_of(why: Refused) -> u64
     ensures { result ≡ reason_of why }
 {
     match why {
-        Refused::Nothing => 0,
         Refused::Year => 1,
         Refused::Window => 2,
         Refused::Day => 3,
@@ -44,27 +43,35 @@ pub fn reason_of(why: Refused) -> u64
     }
 }
 
-fn of_text(text: Text, reason: u64) -> Written
-    ensures { (job : List ℕ) (o : Outcome) → text ≡ held o.text → reason ≡ o.reason → Writes job result o }
+// A text, empty where it is refused.
+pub fn text_in(said: Result<Text, Refused>) -> Text
+    ensures { result ≡ text_of said }
 {
-    let bytes = text.bytes;
-    let value = segment::own(bytes, text.len);
-    Written { value, reason }
+    match said {
+        Ok(text) => text,
+        Err(_) => render::empty(),
+    }
 }
 
-fn of_said(said: Said) -> Written
+fn of_said(said: Result<Text, Refused>) -> Written
     ensures { (job : List ℕ) (o : Outcome) → Says said o → Writes job result o }
 {
-    let text = said.text;
-    let refused = said.refused;
-    of_text(text, reason_of(refused))
+    let text = text_in(said);
+    let bytes = text.bytes;
+    Written {
+        value: segment::own(bytes, text.len),
+        reason: said.err(),
+    }
 }
 
 fn of_stretch(start: usize, len: usize) -> Written
     ensures { (job : List ℕ) → Writes job result (gives (stretch job start len)) }
 {
     let value = segment::held(start, len);
-    Written { value, reason: 0 }
+    Written {
+        value,
+        reason: None,
+    }
 }
 
 // The text of a whole number, by its 64 bits.
@@ -82,67 +89,39 @@ pub fn decimal_text(lo: u64, hi: u64, scale: u8) -> Text
     number::decimal_text(Wide { lo, hi }, scale)
 }
 
-fn said_int(bits: u64) -> Said
-    ensures { Says result (gives (int_text (signed64 bits))) }
-{
-    let text = int_text(bits);
-    Said {
-        text,
-        refused: Refused::Nothing,
-    }
-}
-
-fn said_decimal(lo: u64, hi: u64, scale: u8) -> Said
-    requires { scale ≤ 38 }
-    ensures { Says result (gives (decimal_text (signed128 (lo + 18446744073709551616 * hi)) scale)) }
-{
-    let text = decimal_text(lo, hi, scale);
-    Said {
-        text,
-        refused: Refused::Nothing,
-    }
-}
-
-fn said_days(bits: u32, max: Max) -> Said
+fn said_days(bits: u32, max: Option<usize>) -> Result<Text, Refused>
     ensures { Says result (date_text (signed32 bits) max) }
 {
     render::date_text(parse::from_bits(bits), max)
 }
 
-fn said_seconds(bits: u32, max: Max) -> Said
+fn said_seconds(bits: u32, max: Option<usize>) -> Result<Text, Refused>
     ensures { Says result (time_text (signed32 bits) max) }
 {
     render::time_text(parse::from_bits(bits), max)
 }
 
-fn said_nothing() -> Said
-    ensures { Says result (gives []) }
-{
-    let text = Text {
-        bytes: [0u8; 48],
-        len: 0,
-    };
-    Said {
-        text,
-        refused: Refused::Nothing,
-    }
-}
-
 // ---- at a place
 
-pub fn max_by(n: Number) -> Max
-    ensures { result ≡ max_in (number_of n) }
+pub fn max_by(n: Option<u32>) -> Option<usize>
+    ensures { result ≡ max_in n }
 {
     match n {
-        Number::None => Max::Free,
-        Number::Is(m) => Max::At(m as usize),
+        None => None,
+        Some(m) => Some(m as usize),
     }
 }
 
 // The most that a place takes.
-fn max_at(job: &[u8], index: &[u16], id: Stretch, element: u32, component: Number) -> Max
+fn max_at(
+    job: &[u8],
+    index: &[u16],
+    id: Stretch,
+    element: u32,
+    component: Option<u32>,
+) -> Option<usize>
     requires { Ready job.now index.now × (id.start + id.len ≤ length job.now) }
-    ensures { result ≡ max_in (max_of (job_of job.now) (stretch_of job.now id) element (number_of component)) }
+    ensures { result ≡ max_in (max_of (job_of job.now) (stretch_of job.now id) element component) }
 {
     max_by(spec::segments::max_of(job, index, id, element, component))
 }
@@ -153,64 +132,36 @@ pub fn own_text(
     index: &[u16],
     id: Stretch,
     element: u32,
-    component: Number,
+    component: Option<u32>,
     cell: Cell,
-) -> Said
+) -> Result<Text, Refused>
     requires { Ready job.now index.now × (id.start + id.len ≤ length job.now) × (scale_in cell ≤ 38) }
     ensures { (b : List ℕ) → is_own cell ≡ true
-        → Says result (cell_text (or_null (cell_at b cell)) (max_in (max_of (job_of job.now) (stretch_of job.now id) element (number_of component)))) }
+        → Says result (cell_text (or_null (cell_at b cell)) (max_in (max_of (job_of job.now) (stretch_of job.now id) element component))) }
 {
     match cell {
-        Cell::None => said_nothing(),
-        Cell::Null => said_nothing(),
-        Cell::Bytes(start, len) => said_nothing(),
-        Cell::Int(bits) => said_int(bits),
-        Cell::Wide(lo, hi, scale) => said_decimal(lo, hi, scale),
+        Cell::None => Ok(render::empty()),
+        Cell::Null => Ok(render::empty()),
+        Cell::Bytes(_, _) => Ok(render::empty()),
+        Cell::Int(bits) => Ok(int_text(bits)),
+        Cell::Wide(lo, hi, scale) => Ok(decimal_text(lo, hi, scale)),
         Cell::Days(bits) => said_days(bits, max_at(job, index, id, element, component)),
         Cell::Seconds(bits) => said_seconds(bits, max_at(job, index, id, element, component)),
     }
 }
 
-// Whether a cell's text is a stretch of the job, and which.
-#[derive(Clone, Copy)]
-pub struct Held {
-    pub is: bool,
-    pub start: usize,
-    pub len: usize,
-}
-
-fn held_at(start: usize, len: usize) -> Held
-    ensures { result ≡ record { is = true; start = start; len = len } }
-{
-    Held {
-        is: true,
-        start,
-        len,
-    }
-}
-
-fn not_held() -> Held
-    ensures { result ≡ record { is = false; start = 0; len = 0 } }
-{
-    Held {
-        is: false,
-        start: 0,
-        len: 0,
-    }
-}
-
 // The stretch of the job that is a cell's text; of a null it is empty.
-pub fn held_in(cell: Cell) -> Held
-    ensures { ((b : List ℕ) (max : Max) → result.is ≡ true → cell_text (or_null (cell_at b cell)) max ≡ gives (stretch b result.start result.len)) × (result.is ≡ false → is_own cell ≡ true) }
+pub fn held_in(cell: Cell) -> Option<Stretch>
+    ensures { ((b : List ℕ) (max : Width) (s : Held.Stretch) → result ≡ Some s → cell_text (or_null (cell_at b cell)) max ≡ gives (stretch b s.start s.len)) × (result ≡ None → is_own cell ≡ true) }
 {
     match cell {
-        Cell::None => held_at(0, 0),
-        Cell::Null => held_at(0, 0),
-        Cell::Bytes(start, len) => held_at(start, len),
-        Cell::Int(bits) => not_held(),
-        Cell::Wide(lo, hi, scale) => not_held(),
-        Cell::Days(bits) => not_held(),
-        Cell::Seconds(bits) => not_held(),
+        Cell::None => Some(Stretch { start: 0, len: 0 }),
+        Cell::Null => Some(Stretch { start: 0, len: 0 }),
+        Cell::Bytes(start, len) => Some(Stretch { start, len }),
+        Cell::Int(_) => None,
+        Cell::Wide(_, _, _) => None,
+        Cell::Days(_) => None,
+        Cell::Seconds(_) => None,
     }
 }
 
@@ -220,17 +171,16 @@ pub fn read_text(
     index: &[u16],
     id: Stretch,
     element: u32,
-    component: Number,
+    component: Option<u32>,
     cell: Cell,
 ) -> Written
     requires { Ready job.now index.now × (id.start + id.len ≤ length job.now) × (scale_in cell ≤ 38) }
-    ensures { Writes job.now result (cell_text (or_null (cell_at job.now cell)) (max_in (max_of (job_of job.now) (stretch_of job.now id) element (number_of component)))) }
+    ensures { Writes job.now result (cell_text (or_null (cell_at job.now cell)) (max_in (max_of (job_of job.now) (stretch_of job.now id) element component))) }
 {
-    let h = held_in(cell);
-    if h.is {
-        return of_stretch(h.start, h.len);
+    match held_in(cell) {
+        Some(s) => of_stretch(s.start, s.len),
+        None => of_said(own_text(job, index, id, element, component, cell)),
     }
-    of_said(own_text(job, index, id, element, component, cell))
 }
 
 // The same of a row's cell.
@@ -241,11 +191,11 @@ pub fn cell_text(
     t: TableId,
     r: RowId,
     element: u32,
-    component: Number,
+    component: Option<u32>,
     column: u32,
 ) -> Written
     requires { Ready job.now index.now × (id.start + id.len ≤ length job.now) }
-    ensures { Writes job.now result (cell_outcome (job_of job.now) (stretch_of job.now id) t.0 r.0 element (number_of component) column) }
+    ensures { Writes job.now result (cell_outcome (job_of job.now) (stretch_of job.now id) t.0 r.0 element component column) }
 {
     let cell = tables::data::cell(job, index, t, column, r);
     read_text(job, index, id, element, component, cell)

@@ -1,6 +1,5 @@
 // A segment of plain texts, and the closer of a loop.
-ghost use Rattle.std.specs.Prelude.{◌≡◌, false, List, [], ◌∷◌, ℕ, ◌≤◌, ◌<◌, max};
-ghost use Rattle.std.proofs.Math.Option.{none};
+ghost use Rattle.std.specs.Prelude.{◌≡◌, false, List, [], ◌∷◌, ℕ, ◌≤◌, ◌<◌, max, None};
 ghost use Rattle.lent.specs.Fit.{stretch, Stored};
 ghost use Rattle.segment.specs.Parts.{pick, is_empty, last_element, last_component, component_text, joined};
 ghost use Rattle.segment.specs.Pen.{value_text};
@@ -18,7 +17,7 @@ use segment::{Pen, Separators, Value};
 
 // A plain text at element p.
 pub fn put_plain(doc: &mut [u8], job: &[u8], s: Separators, pen: Pen, p: usize, v: Value) -> Pen
-    ensures { Group s (last_component (part_at p none (value_text job.now v) ∷ [])) (component_text (part_at p none (value_text job.now v) ∷ [])) p 1
+    ensures { Group s (last_component (part_at p None (value_text job.now v) ∷ [])) (component_text (part_at p None (value_text job.now v) ∷ [])) p 1
         pen doc.old result doc.new }
 {
     if segment::is_empty(job, v) {
@@ -47,8 +46,8 @@ fn put_same(
     v: Value,
     w: Value,
 ) -> Pen
-    ensures { Group s (last_component (part_at p none (value_text job.now v) ∷ part_at p none (value_text job.now w) ∷ []))
-        (component_text (part_at p none (value_text job.now v) ∷ part_at p none (value_text job.now w) ∷ [])) p 1 pen doc.old result doc.new }
+    ensures { Group s (last_component (part_at p None (value_text job.now v) ∷ part_at p None (value_text job.now w) ∷ []))
+        (component_text (part_at p None (value_text job.now v) ∷ part_at p None (value_text job.now w) ∷ [])) p 1 pen doc.old result doc.new }
 {
     if both_empty(job, v, w) {
         return segment::finish(doc, s, pen, p, 0);
@@ -68,7 +67,7 @@ fn filled(job: &[u8], v: Value, p: usize) -> usize
 
 // The last filled element of two plain texts.
 fn last_of(job: &[u8], p: usize, v: Value, q: usize, w: Value) -> usize
-    ensures { result ≡ last_element (part_at p none (value_text job.now v) ∷ part_at q none (value_text job.now w) ∷ []) }
+    ensures { result ≡ last_element (part_at p None (value_text job.now v) ∷ part_at q None (value_text job.now w) ∷ []) }
 {
     let a = filled(job, v, p);
     let b = filled(job, w, q);
@@ -91,7 +90,7 @@ fn put_two(
     last: usize,
 ) -> usize
     requires { p ≤ q }
-    ensures { Row s last 1 (part_at p none (value_text job.now v) ∷ part_at q none (value_text job.now w) ∷ []) pen doc.old result doc.new }
+    ensures { Row s last 1 (part_at p None (value_text job.now v) ∷ part_at q None (value_text job.now w) ∷ []) pen doc.old result doc.new }
 {
     if p < 1 {
         return segment::close(doc, s, pen, last);
@@ -120,7 +119,7 @@ pub fn join_two(
 ) -> usize
     requires { p ≤ q }
     ensures { Stored doc.old at
-        (joined s (stretch job.now start len) (part_at p none (value_text job.now v) ∷ part_at q none (value_text job.now w) ∷ [])) result doc.new }
+        (joined s (stretch job.now start len) (part_at p None (value_text job.now v) ∷ part_at q None (value_text job.now w) ∷ [])) result doc.new }
 {
     let last = last_of(job, p, v, q, w);
     let pen = segment::begin(doc, at, job, start, len);
@@ -176,7 +175,7 @@ pub fn write_closer(
 ) -> Counts
     ensures { (j : Job) (k : Control) (f p : List ℕ) → separators_of j ≡ s → k.closer ≡ closer → k.count ≡ count → Within state
         → DidCounts (segment_out j (stretch job.now start len) (closer_put k (value_text job.now control) counted).parts (closer_put k (value_text job.now control) counted).findings
-        (closer_put k (value_text job.now control) counted).entries none) state result doc.old doc.new segments.old segments.new f f p p }
+        (closer_put k (value_text job.now control) counted).entries None) state result doc.old doc.new segments.old segments.new f f p p }
 {
     let at = put_closer(
         doc,

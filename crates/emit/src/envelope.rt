@@ -8,12 +8,10 @@ ghost use Rattle.emit.specs.Envelope.{field_at};
 ghost use Rattle.emit.specs.Table.{table, searched, held_field};
 
 use segment::Value;
-use texts::envelope::Min;
-use texts::render::Max;
 use texts::{envelope, number};
 
 // A control number, with zeros in front up to its element's min.
-pub fn control_value(number: u64, min: Min) -> Value
+pub fn control_value(number: u64, min: Option<usize>) -> Value
     ensures { (job : List ℕ) → value_text job result ≡ control_text number min }
 {
     let text = number::count_text(number);
@@ -46,8 +44,8 @@ pub fn padded_value(
     start: usize,
     len: usize,
     numeric: bool,
-    min: Min,
-    max: Max,
+    min: Option<usize>,
+    max: Option<usize>,
 ) -> Value
     requires { (length job.now ≤ 65536) × (count ≤ 48) }
     ensures { value_text job.now result ≡ padded numeric min max (take count bytes ++ stretch job.now start len) }
@@ -63,13 +61,6 @@ pub fn padded_value(
         len,
         spaces: padding.spaces,
     }
-}
-
-// The field that an element of a trigger holds, by its case in the Rust's `Field`.
-#[derive(Clone, Copy)]
-pub enum Held {
-    Nothing,
-    Field(u8),
 }
 
 // ISA, GS and ST, one row for each depth: element positions, each with the number of its field; zeros behind them.
@@ -99,29 +90,27 @@ fn field_in(depth: usize, i: usize) -> u8
     LAYOUT[depth][i * 2 + 1]
 }
 
-fn search(depth: usize, position: u32) -> Held
+fn search(depth: usize, position: u32) -> Option<u8>
     requires { depth < 3 }
     ensures { held_field result ≡ searched (get_or table depth []) 9 0 position }
 {
-    let mut i: usize = 0;
-    while i < 9 {
+    for i in 0..9 {
         if position_in(depth, i) == position {
-            return Held::Field(field_in(depth, i));
+            return Some(field_in(depth, i));
         }
-        i += 1;
     }
-    Held::Nothing
+    None
 }
 
-// The field at a position of a trigger.
-pub fn field_at(depth: usize, position: u32) -> Held
+// The field that the element at a position of a trigger holds, by its case in the Rust's `Field`.
+pub fn field_at(depth: usize, position: u32) -> Option<u8>
     ensures { held_field result ≡ field_at depth position }
 {
     if position == 0 {
-        return Held::Nothing;
+        return None;
     }
     if depth < 3 {
         return search(depth, position);
     }
-    Held::Nothing
+    None
 }

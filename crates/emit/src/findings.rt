@@ -2,12 +2,15 @@
 ghost use Rattle.std.specs.Prelude.{◌≡◌, true, false, List, [], ◌∷◌, ◌++◌, ℕ};
 ghost use Rattle.lent.specs.Fit.{stretch, Noted};
 ghost use Rattle.segment.specs.Pen.{value_text};
+ghost use Rattle.texts.specs.Reason.{why_in};
 ghost use Rattle.nest.specs.Finding.{Origin, Place};
 ghost use Rattle.emit.specs.Puts.{held_in, unwritten};
 ghost use Rattle.emit.specs.Written.{spot_of, spotted, words_of, tried, tried_last};
 
+use crate::cells;
 use crate::cells::Written;
 use segment::Value;
+use texts::render::Refused;
 
 // Where a text comes from and where it goes: its origin (0 a cell, 1 a field), table or field, row, column; its segment's identifier
 // as a number, element, component plus one or 0.
@@ -22,19 +25,13 @@ pub struct Spot {
     pub component: u64,
 }
 
-#[derive(Clone, Copy)]
-pub enum Repetition {
-    Absent,
-    Byte(u8),
-}
-
 // The separators that a text is tried for.
 #[derive(Clone, Copy)]
 pub struct Delimiters {
     pub element: u8,
     pub component: u8,
     pub segment: u8,
-    pub repetition: Repetition,
+    pub repetition: Option<u8>,
 }
 
 fn widened(b: u8) -> u64
@@ -81,13 +78,13 @@ fn try_one(
     lent::more(at, 0)
 }
 
-fn try_last(findings: &mut [u64], at: usize, job: &[u8], v: Value, w: Spot, r: Repetition) -> usize
+fn try_last(findings: &mut [u64], at: usize, job: &[u8], v: Value, w: Spot, r: Option<u8>) -> usize
     ensures { (o : Origin) (p : Place) → w ≡ spot_of o p
         → Noted findings.old at (words_of (held_in o p (value_text job.now v) 3 (tried_last r))) result findings.new }
 {
     match r {
-        Repetition::Absent => lent::more(at, 0),
-        Repetition::Byte(b) => try_one(findings, at, job, v, w, b, 3),
+        None => lent::more(at, 0),
+        Some(b) => try_one(findings, at, job, v, w, b, 3),
     }
 }
 
@@ -98,7 +95,7 @@ fn try_from_segment(
     v: Value,
     w: Spot,
     b: u8,
-    r: Repetition,
+    r: Option<u8>,
 ) -> usize
     ensures { (o : Origin) (p : Place) → w ≡ spot_of o p
         → Noted findings.old at (words_of (held_in o p (value_text job.now v) 2 (b ∷ tried_last r))) result findings.new }
@@ -121,36 +118,16 @@ fn try_each(findings: &mut [u64], at: usize, job: &[u8], v: Value, w: Spot, d: D
 fn holds_delimiter(job: &[u8], v: Value, d: Delimiters) -> bool
     ensures { (o : Origin) (p : Place) → result ≡ false → held_in o p (value_text job.now v) 0 (tried d) ≡ [] }
 {
-    let r = d.repetition;
-    match r {
-        Repetition::Absent => {
-            segment::holds_any(job, v, d.element, d.component, d.segment, d.element)
-        }
-        Repetition::Byte(b) => segment::holds_any(job, v, d.element, d.component, d.segment, b),
-    }
+    let last = d.repetition.unwrap_or(d.element);
+    segment::holds_any(job, v, d.element, d.component, d.segment, last)
 }
 
 // The same of a stretch of the job.
 pub fn stretch_holds(job: &[u8], start: usize, len: usize, d: Delimiters) -> bool
     ensures { (o : Origin) (p : Place) → result ≡ false → held_in o p (stretch job.now start len) 0 (tried d) ≡ [] }
 {
-    let r = d.repetition;
-    match r {
-        Repetition::Absent => {
-            segment::stretch_holds(
-                job,
-                start,
-                len,
-                d.element,
-                d.component,
-                d.segment,
-                d.element,
-            )
-        }
-        Repetition::Byte(b) => {
-            segment::stretch_holds(job, start, len, d.element, d.component, d.segment, b)
-        }
-    }
+    let last = d.repetition.unwrap_or(d.element);
+    segment::stretch_holds(job, start, len, d.element, d.component, d.segment, last)
 }
 
 // A finding for each separator that a text holds, in the order in which they are tried.
@@ -171,28 +148,25 @@ pub fn try_delimiters(
     lent::more(at, 0)
 }
 
-// A finding for a reason other than 0.
-pub fn note_reason(findings: &mut [u64], at: usize, w: Spot, reason: u64) -> usize
-    ensures { (o : Origin) (p : Place) → w ≡ spot_of o p → Noted findings.old at (words_of (unwritten o p reason)) result findings.new }
+// A finding for a reason.
+pub fn note_reason(findings: &mut [u64], at: usize, w: Spot, reason: Option<Refused>) -> usize
+    ensures { (o : Origin) (p : Place) → w ≡ spot_of o p → Noted findings.old at (words_of (unwritten o p (why_in reason))) result findings.new }
 {
-    if 0 < reason {
-        return note(findings, at, 5, w, reason, 0);
+    match reason {
+        Some(why) => note(findings, at, 5, w, cells::reason_of(why), 0),
+        None => lent::more(at, 0),
     }
-    lent::more(at, 0)
 }
 
 // Whether a cell's text has no finding, as is usual.
 pub fn silent(job: &[u8], x: Written, d: Delimiters) -> bool
-    ensures { (o : Origin) (p : Place) → result ≡ true → unwritten o p x.reason ++ held_in o p (value_text job.now x.value) 0 (tried d) ≡ [] }
+    ensures { (o : Origin) (p : Place) → result ≡ true → unwritten o p (why_in x.reason) ++ held_in o p (value_text job.now x.value) 0 (tried d) ≡ [] }
 {
-    if 0 < x.reason {
+    if x.reason.is_some() {
         return false;
     }
     let v = x.value;
-    if holds_delimiter(job, v, d) {
-        return false;
-    }
-    true
+    !holds_delimiter(job, v, d)
 }
 
 // The findings on a cell's text.
@@ -205,7 +179,7 @@ pub fn note_cell(
     d: Delimiters,
 ) -> usize
     ensures { (o : Origin) (p : Place) → w ≡ spot_of o p
-        → Noted findings.old at (words_of (unwritten o p x.reason ++ held_in o p (value_text job.now x.value) 0 (tried d))) result findings.new }
+        → Noted findings.old at (words_of (unwritten o p (why_in x.reason) ++ held_in o p (value_text job.now x.value) 0 (tried d))) result findings.new }
 {
     let a = note_reason(findings, at, w, x.reason);
     let v = x.value;

@@ -3,16 +3,16 @@ ghost use Rattle.std.specs.Prelude.{◌≡◌, ◌+◌, ◌≤◌, length};
 ghost use Rattle.format.specs.Sections.{job_of};
 ghost use Rattle.format.specs.Refusal.{separators};
 ghost use Rattle.segment.specs.Parts.{or_one};
-ghost use Rattle.spec.specs.Answers.{stretch_of, number_of};
+ghost use Rattle.spec.specs.Answers.{stretch_of};
 ghost use Rattle.spec.specs.EnvelopeIndex.{EnvelopeIndexed};
 ghost use Rattle.nest.specs.Finding.{number_from, or_zero};
 ghost use Rattle.emit.specs.Fold.{separators_of};
 ghost use Rattle.emit.specs.Written.{tried, repetition_of};
 
-use crate::findings::{Delimiters, Repetition};
+use crate::findings::Delimiters;
 use segment::Separators;
 use spec::envelope;
-use spec::ids::{Number, Stretch};
+use spec::ids::Stretch;
 
 // What a segment is joined with.
 pub fn separators_of(job: &[u8], index: &[u16]) -> Separators
@@ -31,14 +31,15 @@ pub fn separators_of(job: &[u8], index: &[u16]) -> Separators
     }
 }
 
-pub fn repetition_of(job: &[u8], index: &[u16]) -> Repetition
+// The separator of repetitions, if there is one.
+pub fn repetition_of(job: &[u8], index: &[u16]) -> Option<u8>
     requires { EnvelopeIndexed job.now index.now }
     ensures { repetition_of result ≡ (job_of job.now).envelope.repetition }
 {
     let n = envelope::repetition(job, index);
     match n {
-        Number::None => Repetition::Absent,
-        Number::Is(b) => Repetition::Byte(b as u8),
+        None => None,
+        Some(b) => Some(b as u8),
     }
 }
 
@@ -82,21 +83,21 @@ pub fn id_number(job: &[u8], id: Stretch) -> u64
 }
 
 // The component of a part, 1 for a plain one.
-pub fn component_of(n: Number) -> u32
-    ensures { result ≡ or_one (number_of n) }
+pub fn component_of(n: Option<u32>) -> u32
+    ensures { result ≡ or_one n }
 {
     match n {
-        Number::None => 1,
-        Number::Is(c) => c,
+        None => 1,
+        Some(c) => c,
     }
 }
 
 // A component as findings have it: plus one, 0 for a plain part.
-pub fn component_word(n: Number) -> u64
-    ensures { result ≡ or_zero (number_of n) }
+pub fn component_word(n: Option<u32>) -> u64
+    ensures { result ≡ or_zero n }
 {
     match n {
-        Number::None => 0,
-        Number::Is(c) => c as u64 + 1,
+        None => 0,
+        Some(c) => c as u64 + 1,
     }
 }

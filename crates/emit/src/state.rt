@@ -42,7 +42,7 @@ pub struct Taken {
     pub written: usize,
 }
 
-// What a segment comes from: the envelope, or a row of a table.
+// What a segment comes from: the envelope, or a row of a table. No Option: an envelope is a source too, and its name would be lost.
 #[derive(Clone, Copy)]
 pub enum From {
     Envelope,

@@ -3,8 +3,8 @@ use Prim.Native.Nat.{ℕ, zero, suc, ◌+◌, ◌*◌, ◌≤◌, ◌<◌}
 use mathlib.Core.Path.{◌≡◌, refl, sym, ap, ◌∙◌}
 use mathlib.Core.Bool.{Bool, true, false}
 use mathlib.Core.List.{List, [], ◌∷◌}
-use mathlib.Core.Option.{Option, none, some}
 use native.Mathlib.Omega.{arith}
+use Rattle.std.specs.Prelude.{Option, None, Some}
 use lib.ListN.{length, get_or}
 use lib.Dec.{ltb}
 use borrow.Author.Tests.{lt-ltb, le-ltb}
@@ -12,13 +12,7 @@ use Rattle.format.specs.Job.{Job}
 use Rattle.format.specs.Refusal.{rows_of_all}
 use Rattle.format.specs.Sections.{job_of}
 use Rattle.format.specs.Ask.{data_of, table_of}
-use Rattle.column.specs.declared.OptInt.{OptInt}
-use Rattle.column.specs.declared.OptInt.TheVariants.{Number, NoNumber}
-use Rattle.column.specs.Answers.{int_is}
 use Rattle.column.specs.Cell.{reference_of}
-use Rattle.spec.specs.declared.ids.Number as spec-number
-use Rattle.spec.specs.declared.ids.Number.TheVariants.{Is, None}
-use Rattle.spec.specs.Answers.{number_of}
 use Rattle.lent.specs.Fit.{more, Stored}
 use Rattle.tables.specs.Parts as T
 use Rattle.nest.specs.Lists.{on}
@@ -47,24 +41,24 @@ module _ (o : Outline) (t r : ℕ) where
   unfolding nest_record above
   above_record e = rw e (go (hook o t r))
     where
-      go : (h : Option Hook) → placed (get_or (on h hook_record loose_record) 0 0) (get_or (on h hook_record loose_record) 2 0) ≡ on h (λ (k : Hook). some k.table) none
-      go none = refl
-      go (some k) = refl
+      go : (h : Option Hook) → placed (get_or (on h hook_record loose_record) 0 0) (get_or (on h hook_record loose_record) 2 0) ≡ on h (λ (k : Hook). Some k.table) None
+      go None = refl
+      go (Some k) = refl
 
   above_plain : repeated o t ≡ false → table_parent o t ≡ above o t r
   unfolding above
   above_plain e = rw e
 
 module _ (n : List ℕ) (base r : ℕ) where
-  pub placed_none : nest_at n base r 0 ≡ 0 → none ≡ placed_at n base r
+  pub placed_none : nest_at n base r 0 ≡ 0 → None ≡ placed_at n base r
   unfolding placed_at
   placed_none e = rw e
 
-  pub placed_some : (nest_at n base r 0 ≡ 0 → ⊥) → some (nest_at n base r 2) ≡ placed_at n base r
+  pub placed_some : (nest_at n base r 0 ≡ 0 → ⊥) → Some (nest_at n base r 2) ≡ placed_at n base r
   unfolding placed_at
   placed_some e = go (nest_at n base r 0) e
     where
-      go : (p : ℕ) → (p ≡ 0 → ⊥) → some (nest_at n base r 2) ≡ placed p (nest_at n base r 2)
+      go : (p : ℕ) → (p ≡ 0 → ⊥) → Some (nest_at n base r 2) ≡ placed p (nest_at n base r 2)
       go zero k = absurd (k refl)
       go (suc p) k = refl
 
@@ -80,16 +74,16 @@ module _ {b idx n : List ℕ} (N : Nested b idx n) (t r : ℕ) (h : r < row_coun
   above_repeat again base e f q =
       rw (q ∙ before_is (job_of b) t, lent_number N t r 0 h (omega arith), lent_number N t r 2 h (omega arith)) (above_record (outline_at b) t r (sym (repeats_is (job_of b) t again e) ∙ f))
 
-pub above_parent : (j : Job) (t r : ℕ) (again : Bool) (x : spec-number.Number) → again ≡ (table_of j t).segment → again ≡ false → number_of x ≡ (table_of j t).parent → number_of x ≡ above (outline_of j) t r
+pub above_parent : (j : Job) (t r : ℕ) (again : Bool) (x : Option ℕ) → again ≡ (table_of j t).segment → again ≡ false → x ≡ (table_of j t).parent → x ≡ above (outline_of j) t r
 above_parent j t r again x e f q = q ∙ sym (table_parent_is j t) ∙ above_plain (outline_of j) t r (sym (repeats_is j t again e) ∙ f)
 
 -- ---- the reference
 
-module _ (j : Job) (t u r : ℕ) (x : OptInt) (e : int_is x ≡ reference_of (data_of j t) u r) where
-  pub reference_there : (v : ℕ) → x ≡ Number v → v ≡ on ((outline_of j).reference t u r) (λ w. w) 0
+module _ (j : Job) (t u r : ℕ) (x : Option ℕ) (e : x ≡ reference_of (data_of j t) u r) where
+  pub reference_there : (v : ℕ) → x ≡ Some v → v ≡ on ((outline_of j).reference t u r) (λ w. w) 0
   reference_there v q = rw (reference_is j t u r, ← e, q)
 
-  pub reference_none : x ≡ NoNumber → 0 ≡ on ((outline_of j).reference t u r) (λ w. w) 0
+  pub reference_none : x ≡ None → 0 ≡ on ((outline_of j).reference t u r) (λ w. w) 0
   reference_none q = rw (reference_is j t u r, ← e, q)
 
 -- ---- the findings on a row's order

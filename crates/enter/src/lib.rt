@@ -3,7 +3,6 @@
 
 ghost use Rattle.std.specs.Prelude.{◌≡◌, List, [], ◌∷◌, ℕ, ◌+◌, ◌*◌, ◌<◌, length};
 ghost use Rattle.lent.specs.Fit.{Noted};
-ghost use Rattle.spec.specs.Answers.{number_of};
 ghost use Rattle.nest.specs.Lists.{on};
 ghost use Rattle.nest.specs.Outline.{row_count};
 ghost use Rattle.nest.specs.Finding.{out_of_order};
@@ -14,28 +13,27 @@ ghost use Rattle.emit.specs.Written.{words_of};
 ghost use Rattle.emit.specs.Did.{mark_of, DidMark, Within};
 ghost use Rattle.enter.specs.Placed.{placed_at};
 
-use column::OptInt;
 use emit::state;
 use emit::state::{Counts, Mark};
-use spec::ids::{LoopId, Number, RowId, TableId};
+use spec::ids::{LoopId, RowId, TableId};
 
 // The table that placed a repeat row.
-fn placed_by(nest: &[u32], base: usize, r: RowId) -> Number
+fn placed_by(nest: &[u32], base: usize, r: RowId) -> Option<u32>
     requires { (base + r.0) * 3 + 2 < length nest.now }
-    ensures { number_of result ≡ placed_at nest.now base r.0 }
+    ensures { result ≡ placed_at nest.now base r.0 }
 {
     let i = (base + r.0 as usize) * 3;
     if nest[i] == 0 {
-        return Number::None;
+        return None;
     }
     let k = i + 2;
-    Number::Is(nest[k])
+    Some(nest[k])
 }
 
 // The table that a row hangs on.
-fn table_above(job: &[u8], index: &[u16], nest: &[u32], t: TableId, r: RowId) -> Number
+fn table_above(job: &[u8], index: &[u16], nest: &[u32], t: TableId, r: RowId) -> Option<u32>
     requires { Nested job.now index.now nest.now × (r.0 < row_count (outline_at job.now) t.0) }
-    ensures { number_of result ≡ above (outline_at job.now) t.0 r.0 }
+    ensures { result ≡ above (outline_at job.now) t.0 r.0 }
 {
     let again = spec::tables::repeats(job, index, t);
     if again {
@@ -45,15 +43,15 @@ fn table_above(job: &[u8], index: &[u16], nest: &[u32], t: TableId, r: RowId) ->
     spec::tables::table_parent(job, index, t)
 }
 
-// A row's reference to a table above; 0 where there is none.
+// A row's reference to a table above, as a finding has it: 0 where there is none. No Option: the finding is a row of plain numbers.
 fn reference(job: &[u8], index: &[u16], t: TableId, above: u32, r: RowId) -> u64
     requires { Ready job.now index.now }
     ensures { result ≡ on ((outline_at job.now).reference t.0 above r.0) (λ v. v) 0 }
 {
     let value = tables::data::reference(job, index, t, above, r);
     match value {
-        OptInt::Number(v) => v,
-        OptInt::NoNumber => 0,
+        Some(v) => v,
+        None => 0,
     }
 }
 
@@ -65,18 +63,18 @@ fn note_lower(
     at: usize,
     t: TableId,
     r: RowId,
-    table: Number,
+    table: Option<u32>,
     highest: u32,
 ) -> usize
     requires { Ready job.now index.now }
-    ensures { Noted findings.old at (words_of (on (number_of table) (λ u. out_of_order t.0 r.0 u (on ((outline_at job.now).reference t.0 u r.0) (λ v. v) 0) highest ∷ []) [])) result findings.new }
+    ensures { Noted findings.old at (words_of (on table (λ u. out_of_order t.0 r.0 u (on ((outline_at job.now).reference t.0 u r.0) (λ v. v) 0) highest ∷ []) [])) result findings.new }
 {
     match table {
-        Number::Is(u) => {
+        Some(u) => {
             let value = reference(job, index, t, u, r);
             return state::note_order(findings, at, t, r, u, value, highest);
         }
-        Number::None => {
+        None => {
             return lent::more(at, 0);
         }
     }

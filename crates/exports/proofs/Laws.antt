@@ -1,30 +1,41 @@
 -- How long nest's array is, and the two ways of `baktuven_nest`.
-use Prim.Native.Nat.{ℕ, ◌+◌, ◌*◌, ◌≤◌, ◌<◌}
-use mathlib.Core.Path.{◌≡◌, refl, ◌∙◌}
-use mathlib.Core.List.{List}
-use mathlib.Core.Bool.{false}
+use Prim.Native.Nat.{ℕ, ◌+◌, ◌*◌, ◌≤◌, min}
+use mathlib.Core.Path.{◌≡◌, refl, sym, ap, ◌∙◌}
+use mathlib.Core.List.{List, ◌++◌}
+use mathlib.Core.Bool.{Bool, true, false}
 use native.Mathlib.Omega.{arith}
-use lib.ListN.{length, take, drop, get_or, set}
-use lib.Dec.{eqb}
-use lib.Seq.{sets, sets-eq, take_at}
-use borrow.Author.Tests.{ne_eqb}
+use lib.ListN.{length, take, drop, length-take}
+use lib.Dec.{eqb, leb}
+use lib.Seq.{sets, sets-eq, take_at, take_all}
+use borrow.Author.Tests.{ne_eqb, leb-true, leb-false}
 use Rattle.format.specs.Job.{Job}
 use Rattle.format.specs.Refusal.{refusal_of, rows_of_all}
-use Rattle.lent.proofs.Laws.{sets_turn}
+use Rattle.finding.proofs.Sets.{sets_fits}
 use Rattle.tables.specs.Parts as T
 use Rattle.nest.specs.Nest.{nest_array}
 use Rattle.nest.specs.OfJob.{outline_of}
 use Rattle.nest.specs.Ready.{outline_at}
 use Rattle.nest.proofs.Stored.{rows_counted, array_rows}
+use Rattle.refusal.specs.declared.Refusal.{Refusal}
+use Rattle.refusal.specs.declared.Refusal.TheVariants as refusal
+use Rattle.refusal.specs.Answer.{number}
 use Rattle.exports.specs.Nesting.{nest_lent}
 
 -- three numbers a row, and few rows
 pub array_long : (j : Job) (n m : ℕ) → rows_of_all j.tables ≤ 4096 → n ≡ length j.tables → m ≡ T.rows_before j.tables n → (m * 3 ≡ length (nest_array (outline_of j))) × (m * 3 ≤ 12288)
 array_long j n m h e q = let c = rows_counted j n m e q in (omega (arith, c, array_rows j), omega (arith, c, h))
 
--- one number more from the front of a list to the front of another
-pub copy_turn : (d e l : List ℕ) (i : ℕ) → e ≡ sets d 0 (take i l) → i < length l → set e i (get_or l i 0) ≡ sets d 0 (take (i + 1) l)
-copy_turn d e l i s h = let z : 0 + i ≡ i = omega arith in rw z at (sets_turn d 0 l i s h refl)
+-- as many first items as fit, and the rest of the other list
+pub front_copied : {A : Type 0} (d xs : List A) (n : ℕ) → n ≡ min (length d) (length xs) → take n xs ++ drop n d ≡ sets d 0 xs
+front_copied d xs n e =
+    let l = length-take n xs in
+    let k : length (take n xs) ≡ n = omega (arith, l, e) in
+    let z : 0 + length (take n xs) ≡ n = omega (arith, k) in
+    ap (λ (m : ℕ). take n xs ++ drop m d) (sym z) ∙ sym (sets-eq (take n xs) d 0 (omega (arith, k, e))) ∙ go (leb (length d) (length xs)) refl
+  where
+    go : (t : Bool) → leb (length d) (length xs) ≡ t → sets d 0 (take n xs) ≡ sets d 0 xs
+    go true h = let q = leb-true (length d) (length xs) h in sets_fits d 0 xs n (omega (arith, q, e))
+    go false h = let q = leb-false (length d) (length xs) h in rw (take_all n xs (omega (arith, q, e)))
 
 -- what was stored at the front of a list that is long enough, copied to the front of another
 pub copied : (d d' l l' xs : List ℕ) (n : ℕ) → l' ≡ sets l 0 xs → n ≡ length xs → n ≤ length l → d' ≡ sets d 0 (take n l') → d' ≡ sets d 0 xs
@@ -34,10 +45,18 @@ copied d d' l l' xs n e q h f =
     f ∙ rw t
 
 -- ---- the two ways
+
+some_number : (r : Refusal) → number r ≡ 0 → ⊥
+some_number refusal.Size e = omega (arith, e)
+some_number refusal.Structure e = omega (arith, e)
+some_number refusal.Limit e = omega (arith, e)
+some_number refusal.Loops e = omega (arith, e)
+some_number refusal.Text e = omega (arith, e)
+
 pub nested : (b n n' : List ℕ) → refusal_of b ≡ 0 → n' ≡ sets n 0 (nest_array (outline_at b)) → n' ≡ nest_lent b n
 unfolding nest_lent
 nested b n n' z q = rw z q
 
-pub refused : (b n : List ℕ) (k : ℕ) → k ≡ refusal_of b → (k ≡ 0 → ⊥) → n ≡ nest_lent b n
+pub refused : (b n : List ℕ) (r : Refusal) → number r ≡ refusal_of b → n ≡ nest_lent b n
 unfolding nest_lent
-refused b n k e h = let q : eqb (refusal_of b) 0 ≡ false = rw (← e) (ne_eqb _ _ h) in rw q
+refused b n r e = let q : eqb (refusal_of b) 0 ≡ false = rw (← e) (ne_eqb _ _ (some_number r)) in rw q

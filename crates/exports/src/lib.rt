@@ -2,27 +2,19 @@
 #![tactic(auto)]
 
 ghost use Rattle.std.specs.Prelude.{◌≡◌};
+ghost use Rattle.std.proofs.lemmas.List.Edits.{sets};
 ghost use Rattle.format.specs.Refusal.{refusal_of};
-ghost use Rattle.refusal.specs.Answer.{number_of};
-
-use refusal::Checked;
 
 pub mod nesting;
 pub mod planning;
 pub mod writing;
 
-// Document 01's number.
-fn numbered(c: Checked) -> u32
-    ensures { result ≡ number_of c }
+// A list at the front of another, as far as it fits.
+fn copy_front<T: Copy>(d: &mut [T], source: &[T])
+    ensures { d.new ≡ sets d.old 0 source.now }
 {
-    match c {
-        Checked::Job => 0,
-        Checked::Size => 1,
-        Checked::Structure => 2,
-        Checked::Limit => 3,
-        Checked::Loops => 4,
-        Checked::Text => 5,
-    }
+    let n = d.len().min(source.len());
+    d[..n].copy_from_slice(&source[..n]);
 }
 
 // The refusal of a job, 1 to 5, or 0 where none of these applies.
@@ -30,5 +22,8 @@ fn numbered(c: Checked) -> u32
 pub extern "C" fn baktuven_check(job: &[u8]) -> u32
     ensures { result ≡ refusal_of job.now }
 {
-    numbered(refusal::check(job))
+    match refusal::check(job) {
+        Ok(()) => 0,
+        Err(refusal) => refusal.number(),
+    }
 }

@@ -1,26 +1,13 @@
 // Nest for a program: where each row hangs.
-ghost use Rattle.std.specs.Prelude.{◌≡◌, ◌≤◌, length, take};
+ghost use Rattle.std.specs.Prelude.{◌≡◌, ◌≤◌, length};
 ghost use Rattle.std.proofs.lemmas.List.Edits.{sets};
 ghost use Rattle.nest.specs.Nest.{nest_array};
 ghost use Rattle.nest.specs.Ready.{Ready, outline_at};
 ghost use Rattle.format.specs.Refusal.{refusal_of};
 ghost use Rattle.exports.specs.Nesting.{nest_lent};
 
-use crate::numbered;
+use crate::copy_front;
 use spec::ids::TableId;
-
-// The first n numbers of a list at the front of another, as far as they fit.
-fn copy_front(d: &mut [u32], source: &[u32], n: usize)
-    requires { n ≤ length source.now }
-    ensures { d.new ≡ sets d.old 0 (take n source.now) }
-{
-    let fits = lent::fitting(d.len(), 0, n);
-    let mut i = 0;
-    while i < fits {
-        d[i] = source[i];
-        i += 1;
-    }
-}
 
 // How many numbers nest has for a job, three a row.
 fn nest_count(job: &[u8], index: &[u16]) -> usize
@@ -40,7 +27,7 @@ fn nested(job: &[u8], index: &[u16], nest: &mut [u32])
     let mut all = [0u32; 12288];
     nest::rows::nest_rows(job, index, &mut all);
     let count = nest_count(job, index);
-    copy_front(nest, &all, count);
+    copy_front(nest, &all[..count]);
 }
 
 // Where each row hangs, three numbers a row as far as the list takes them; the refusal, 1 to 5, or 0. A refused job leaves the list as it was.
@@ -49,12 +36,11 @@ pub extern "C" fn baktuven_nest(job: &[u8], nest: &mut [u32]) -> u32
     ensures value { result ≡ refusal_of job.now }
     ensures nest_after { nest.new ≡ nest_lent job.now nest.old }
 {
-    let refused = numbered(refusal::check(job));
-    if refused == 0 {
-        let mut index = [0u16; 10752];
-        index::fill_index(job, &mut index);
-        nested(job, &index, nest);
-        return 0;
+    if let Err(refusal) = refusal::check(job) {
+        return refusal.number();
     }
-    refused
+    let mut index = [0u16; 10752];
+    index::fill_index(job, &mut index);
+    nested(job, &index, nest);
+    0
 }

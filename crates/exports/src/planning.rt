@@ -2,19 +2,15 @@
 ghost use Rattle.std.specs.Prelude.{◌≡◌};
 ghost use Rattle.exports.specs.Planning.{plan_number, PlanTold};
 
-use judge::Plan;
+use refusal::Refusal;
 
-fn plan_number(p: Plan) -> u32
-    ensures { result ≡ plan_number p }
+fn plan_number(answer: Result<bool, Refusal>) -> u32
+    ensures { result ≡ plan_number answer }
 {
-    match p {
-        Plan::Complete => 0,
-        Plan::Incomplete => 16,
-        Plan::Size => 1,
-        Plan::Structure => 2,
-        Plan::Limit => 3,
-        Plan::Loops => 4,
-        Plan::Text => 5,
+    match answer {
+        Ok(true) => 0,
+        Ok(false) => 16,
+        Err(refusal) => refusal.number(),
     }
 }
 

@@ -1,44 +1,32 @@
 // The writer for a program.
-ghost use Rattle.std.specs.Prelude.{◌≡◌, [], ◌∷◌};
+ghost use Rattle.std.specs.Prelude.{◌≡◌};
 ghost use Rattle.std.proofs.lemmas.List.Edits.{sets};
-ghost use Rattle.writer.specs.Answer.{number_of, values_of};
+ghost use Rattle.writer.specs.Answer.{number_of, numbers, values_of};
 ghost use Rattle.exports.specs.Writing.{WroteOut};
 
+use crate::copy_front;
 use finding::Finding;
-use writer::Answer;
+use writer::{Answer, Totals};
 
 // Four counts at the front of a list, as far as they fit.
-fn put_counts(counts: &mut [u64], bytes: usize, segments: usize, findings: usize, stops: usize)
-    ensures { counts.new ≡ sets counts.old 0 (bytes ∷ segments ∷ findings ∷ stops ∷ []) }
+fn put_totals(counts: &mut [u64], totals: Totals)
+    ensures { counts.new ≡ sets counts.old 0 (numbers totals) }
 {
     let words = [
-        bytes as u64,
-        segments as u64,
-        findings as u64,
-        stops as u64,
-        0,
-        0,
-        0,
-        0,
-        0,
-        0,
+        totals.bytes as u64,
+        totals.segments as u64,
+        totals.findings as u64,
+        totals.stops as u64,
     ];
-    lent::put_words(counts, 0, words, 4);
+    copy_front(counts, &words);
 }
 
 // The counts of an answer that has some.
 fn put_values(counts: &mut [u64], a: Answer)
     ensures { counts.new ≡ sets counts.old 0 (values_of a) }
 {
-    match a {
-        Answer::Done(b, g, f, p) => put_counts(counts, b, g, f, p),
-        Answer::Room(b, g, f, p) => put_counts(counts, b, g, f, p),
-        Answer::Size => {}
-        Answer::Structure => {}
-        Answer::Limit => {}
-        Answer::Loops => {}
-        Answer::Text => {}
-        Answer::Instances => {}
+    if let Some(totals) = writer::totals_of(a) {
+        put_totals(counts, totals);
     }
 }
 
@@ -47,14 +35,8 @@ fn number(a: Answer) -> u32
     ensures { result ≡ number_of a }
 {
     match a {
-        Answer::Done(_, _, _, _) => 0,
-        Answer::Size => 1,
-        Answer::Structure => 2,
-        Answer::Limit => 3,
-        Answer::Loops => 4,
-        Answer::Text => 5,
-        Answer::Instances => 6,
-        Answer::Room(_, _, _, _) => 7,
+        Ok(_) => 0,
+        Err(refused) => refused.number(),
     }
 }
 

@@ -60,9 +60,7 @@ pub fn append_all(findings: &mut [Finding], words: &[u64], at: usize, i: usize, 
     requires { (at + left < 9223372036854775808) × (i + left < 9223372036854775808) }
     ensures { findings.new ≡ sets findings.old at (findings_in words.now i left) }
 {
-    if left == 0 {
-        return;
+    for k in 0..left {
+        append(findings, at + k, finding_at(words, i + k));
     }
-    append(findings, at, finding_at(words, i));
-    append_all(findings, words, at + 1, i + 1, left - 1);
 }

@@ -1,8 +1,7 @@
 -- Decoding and encoding undo each other: the job's format, there and back.
-use Rattle.std.specs.Prelude.{ℕ, ◌+◌, ◌≤◌, refl, List, ◌++◌, length}
+use Rattle.std.specs.Prelude.{ℕ, ◌+◌, ◌≤◌, refl, List, ◌++◌, length, Some}
 use Rattle.std.proofs.Math.Path.{◌≡◌}
 use Rattle.std.proofs.Common.{sym, ◌∙◌, arith, zero-add, le-ltb, eq-eqb}
-use Rattle.std.proofs.Math.Option.{some}
 use Rattle.std.proofs.Math.Bool.{false}
 use Rattle.codec.specs.Codec.{got, Codec, le, enc_le, Here, Bytes, here_l, here_r, here_join, le_there, le_back}
 use Rattle.codec.specs.Whole.{here_self, here_all}
@@ -106,7 +105,7 @@ read_encoded j k =
       tables = stands data_c b _ _ _ j.tables k.tables f.tables f.here₄ f.end;
     }
 
-pub decode_encode : (j : Job) → Fits j → decode (encode j) ≡ some j
+pub decode_encode : (j : Job) → Fits j → decode (encode j) ≡ Some j
 decode_encode j k = decode_read (encode j) j (read_encoded j k)
 
 pub job_encode : (j : Job) → Fits j → job_of (encode j) ≡ j
@@ -176,7 +175,7 @@ encode_read b j bs r =
     let w : encode j ≡ b = rejoined b _ _ _ _ _ bs o.least f in
     (w, record { spec = s.fits; plan = p.fits; layout = l.fits; envelope = e.fits; tables = d.fits; size = rw w o.most })
 
-pub encode_decode : (b : List ℕ) (j : Job) → Bytes b → decode b ≡ some j → (encode j ≡ b) × Fits j
+pub encode_decode : (b : List ℕ) (j : Job) → Bytes b → decode b ≡ Some j → (encode j ≡ b) × Fits j
 encode_decode b j bs h = encode_read b j bs (read_decoded b j h)
 
 -- the bytes of a job that is neither broken nor spoilt

@@ -2,8 +2,8 @@
 use Prim.Native.Nat.{ℕ}
 use mathlib.Core.Path.{◌≡◌, refl}
 use mathlib.Core.List.{List, [], ◌∷◌, ◌++◌}
-use mathlib.Core.Option.{Option, none, some}
 use mathlib.Core.Bool.{true, false}
+use Rattle.std.specs.Prelude.{Option, None, Some}
 use lib.ListN.{set}
 use Rattle.codec.specs.Codec.{le, le_c, unit_c, dep_c, map_c, when_c, enum_c, ◌⊕◌, end_c, list_c}
 use Rattle.codec.specs.Forms.{opt_c, flag_c}
@@ -29,28 +29,28 @@ abbrev HC : List ℕ
 HC = 72 ∷ 67 ∷ []
 
 abbrev text : ElementDef
-text = record { kind = kind_an; min = some 1; max = some 38; components = []; codes = [] }
+text = record { kind = kind_an; min = Some 1; max = Some 38; components = []; codes = [] }
 
 abbrev claims : Loop
-claims = record { parent = none; trigger = CLP; occurrences = CLP ∷ []; usage = required; end = none; control = none; children = 1 ∷ [] }
+claims = record { parent = None; trigger = CLP; occurrences = CLP ∷ []; usage = required; end = None; control = None; children = 1 ∷ [] }
 
 abbrev services : Loop
-services = record { parent = some 0; trigger = SVC; occurrences = SVC ∷ []; usage = situational; end = none; control = none; children = [] }
+services = record { parent = Some 0; trigger = SVC; occurrences = SVC ∷ []; usage = situational; end = None; control = None; children = [] }
 
 abbrev spec : Spec
 spec = record {
   loops = claims ∷ services ∷ [];
   roots = 0 ∷ [];
   segments = (CLP, (1, text) ∷ []) ∷ (SVC, (1, text) ∷ (2, text) ∷ []) ∷ [];
-  tables = record { loops = 0 ∷ []; segment = false; repeat = none; columns = 1; parent = none; ancestors = [] } ∷ record { loops = 1 ∷ []; segment = false; repeat = none; columns = 1; parent = some 0; ancestors = 0 ∷ [] } ∷ [];
-  version = none;
+  tables = record { loops = 0 ∷ []; segment = false; repeat = None; columns = 1; parent = None; ancestors = [] } ∷ record { loops = 1 ∷ []; segment = false; repeat = None; columns = 1; parent = Some 0; ancestors = 0 ∷ [] } ∷ [];
+  version = None;
 }
 
 abbrev column : ℕ → ℕ → ElementPlan
-column e c = record { element = e; component = none; value = from_column c }
+column e c = record { element = e; component = None; value = from_column c }
 
 abbrev code : ℕ → List ℕ → ElementPlan
-code e t = record { element = e; component = none; value = from_code t }
+code e t = record { element = e; component = None; value = from_code t }
 
 abbrev plan : Plan
 plan =
@@ -59,7 +59,7 @@ plan =
     ∷ []
 
 abbrev layout : Layout
-layout = record { order = (segment_item 0 ∷ loop_item 1 ∷ []) ∷ (segment_item 0 ∷ []) ∷ []; forced = (true ∷ []) ∷ (false ∷ []) ∷ []; group_columns = [] ∷ [] ∷ []; depth = none ∷ none ∷ []; capacity = 1 ∷ 1 ∷ [] }
+layout = record { order = (segment_item 0 ∷ loop_item 1 ∷ []) ∷ (segment_item 0 ∷ []) ∷ []; forced = (true ∷ []) ∷ (false ∷ []) ∷ []; group_columns = [] ∷ [] ∷ []; depth = None ∷ None ∷ []; capacity = 1 ∷ 1 ∷ [] }
 
 abbrev envelope : Envelope
 envelope = record {
@@ -67,8 +67,8 @@ envelope = record {
   sender_id = 83 ∷ [];
   receiver_qualifier = 90 ∷ 90 ∷ [];
   receiver_id = 82 ∷ [];
-  application_sender = none;
-  application_receiver = none;
+  application_sender = None;
+  application_receiver = None;
   date = 0;
   time = 0;
   usage_indicator = 84 ∷ [];
@@ -76,7 +76,7 @@ envelope = record {
   element = 42;
   component = 58;
   segment = 126;
-  repetition = none;
+  repetition = None;
   line_break = false;
 }
 
@@ -85,8 +85,8 @@ ints xs bits n = record { values = int64 xs 0; validity = bits ∷ []; length = 
 
 abbrev tables : Data
 tables =
-    record { rows = 2; row = some (ints (7 ∷ 7 ∷ []) 3 2); segment = none; refs = []; columns = some (record { values = binary (0 ∷ 2 ∷ 4 ∷ []) (65 ∷ 49 ∷ 66 ∷ 50 ∷ []); validity = 3 ∷ []; length = 2 }) ∷ [] }
-    ∷ record { rows = 3; row = none; segment = none; refs = (0, some (ints (7 ∷ 9 ∷ 7 ∷ []) 7 3)) ∷ []; columns = some (ints (100 ∷ 200 ∷ 0 ∷ []) 3 3) ∷ [] }
+    record { rows = 2; row = Some (ints (7 ∷ 7 ∷ []) 3 2); segment = None; refs = []; columns = Some (record { values = binary (0 ∷ 2 ∷ 4 ∷ []) (65 ∷ 49 ∷ 66 ∷ 50 ∷ []); validity = 3 ∷ []; length = 2 }) ∷ [] }
+    ∷ record { rows = 3; row = None; segment = None; refs = (0, Some (ints (7 ∷ 9 ∷ 7 ∷ []) 7 3)) ∷ []; columns = Some (ints (100 ∷ 200 ∷ 0 ∷ []) 3 3) ∷ [] }
     ∷ []
 
 abbrev pub listing : Job
@@ -116,7 +116,7 @@ pub listing_encodes : encode listing ≡ listing_bytes
 unfolding encode framed le le_c unit_c dep_c map_c when_c enum_c ◌⊕◌ end_c list_c opt_c flag_c num_map_c bytes_map_c usage_c counted_c control_c loop_c kind_c component_c element_c repeat_c table_c version_c spec_c instances_c source_c value_c element_plan_c segment_plan_c loop_plan_c item_c layout_c envelope_c values_c column_c table_data_c
 listing_encodes = refl
 
-pub listing_decodes : decode listing_bytes ≡ some listing
+pub listing_decodes : decode listing_bytes ≡ Some listing
 unfolding decode broken spoilt any le le_c unit_c dep_c map_c when_c enum_c ◌⊕◌ end_c list_c opt_c flag_c num_map_c bytes_map_c usage_c counted_c control_c loop_c kind_c component_c element_c repeat_c table_c version_c spec_c instances_c source_c value_c element_plan_c segment_plan_c loop_plan_c item_c layout_c envelope_c values_c column_c table_data_c
 listing_decodes = refl
 
@@ -141,7 +141,7 @@ abbrev with_table : Table → Job
 with_table t = with_spec (record { loops = spec.loops; roots = spec.roots; segments = spec.segments; tables = t ∷ []; version = spec.version })
 
 abbrev with_version : Version → Job
-with_version v = with_spec (record { loops = spec.loops; roots = spec.roots; segments = spec.segments; tables = spec.tables; version = some v })
+with_version v = with_spec (record { loops = spec.loops; roots = spec.roots; segments = spec.segments; tables = spec.tables; version = Some v })
 
 abbrev with_planned : ElementPlan → Job
 with_planned e = record { spec = spec; plan = record { instances = rows_of 0; segments = record { occurrence = 0; source = from_row 0; elements = e ∷ [] } ∷ [] } ∷ []; layout = layout; envelope = envelope; tables = tables }
@@ -154,7 +154,7 @@ with_separators e c t r id = record {
   spec = spec;
   plan = plan;
   layout = layout;
-  envelope = record { sender_qualifier = []; sender_id = id; receiver_qualifier = []; receiver_id = []; application_sender = none; application_receiver = none; date = 0; time = 0; usage_indicator = []; control_number = 1; element = e; component = c; segment = t; repetition = r; line_break = false };
+  envelope = record { sender_qualifier = []; sender_id = id; receiver_qualifier = []; receiver_id = []; application_sender = None; application_receiver = None; date = 0; time = 0; usage_indicator = []; control_number = 1; element = e; component = c; segment = t; repetition = r; line_break = false };
   tables = tables;
 }
 
@@ -165,16 +165,16 @@ abbrev loop_of : Option ℕ → List ℕ → Option (List ℕ) → Option Contro
 loop_of p t e c ks = record { parent = p; trigger = t; occurrences = SVC ∷ []; usage = situational; end = e; control = c; children = ks }
 
 abbrev element_of : Option ℕ → List (ℕ × ComponentDef) → List (List ℕ) → ElementDef
-element_of m cs codes = record { kind = kind_an; min = m; max = none; components = cs; codes = codes }
+element_of m cs codes = record { kind = kind_an; min = m; max = None; components = cs; codes = codes }
 
 abbrev component_of : Option ℕ → List (List ℕ) → ComponentDef
-component_of m codes = record { kind = kind_an; min = m; max = none; codes = codes }
+component_of m codes = record { kind = kind_an; min = m; max = None; codes = codes }
 
 abbrev table_of : List ℕ → ℕ → ℕ → Table
-table_of ls step n = record { loops = ls; segment = true; repeat = some (record { from = 1; step = step }); columns = n; parent = none; ancestors = [] }
+table_of ls step n = record { loops = ls; segment = true; repeat = Some (record { from = 1; step = step }); columns = n; parent = None; ancestors = [] }
 
 abbrev scaled : ℕ → Option Column
-scaled s = some (record { values = decimal [] s; validity = []; length = 0 })
+scaled s = Some (record { values = decimal [] s; validity = []; length = 0 })
 
 abbrev FAR : List ℕ
 FAR = 128 ∷ []
@@ -184,36 +184,36 @@ unfolding refusal_of refusal_in job_of decode broken spoilt encode framed le le_
 refuses_1 = refl
 
 -- a mark, a count, a section's start, the order of keys
-pub refuses_2 : (refusal_of (set listing_bytes 4 2) ∷ refusal_of (set listing_bytes 0 3) ∷ refusal_of (set listing_bytes 605 217) ∷ refusal_of (encode (with_segment CLP 1 (element_of none ((2, component_of none []) ∷ (2, component_of none []) ∷ []) []))) ∷ []) ≡ 2 ∷ 2 ∷ 2 ∷ 2 ∷ []
+pub refuses_2 : (refusal_of (set listing_bytes 4 2) ∷ refusal_of (set listing_bytes 0 3) ∷ refusal_of (set listing_bytes 605 217) ∷ refusal_of (encode (with_segment CLP 1 (element_of None ((2, component_of None []) ∷ (2, component_of None []) ∷ []) []))) ∷ []) ≡ 2 ∷ 2 ∷ 2 ∷ 2 ∷ []
 unfolding refusal_of refusal_in job_of decode broken spoilt encode framed le le_c unit_c dep_c map_c when_c enum_c ◌⊕◌ end_c list_c opt_c flag_c num_map_c bytes_map_c usage_c counted_c control_c loop_c kind_c component_c element_c repeat_c table_c version_c spec_c instances_c source_c value_c element_plan_c segment_plan_c loop_plan_c item_c layout_c envelope_c values_c column_c table_data_c over over_spec over_data any any_of if_some large over_control over_loop over_component over_element over_segment over_step over_table over_version over_element_plan over_segment_plan over_loop_plan over_table_data rows_of_all tangled tangled_loops outside_loop outside_table outside_order outside loops_in disagrees not_parent not_child ringed misrooted misordered up any_from present times_in member_of repeats times unfit unfit_spec unfit_envelope unfit_table_data unfit_reference unfit_column scale unfit_version unfit_segment unfit_element unfit_component unfit_loop foreign unnamed identifier separators textual digit upper all_of
 refuses_2 = refl
 
-pub refuses_3 : (refusal_in (with_loop (loop_of (some 0) SVC none (some (record { opener = 1; closer = 256; count = 1; counted = count_segments })) []))
+pub refuses_3 : (refusal_in (with_loop (loop_of (Some 0) SVC None (Some (record { opener = 1; closer = 256; count = 1; counted = count_segments })) []))
     ∷ refusal_in (with_segment CLP 256 text)
-    ∷ refusal_in (with_segment CLP 1 (element_of (some 256) [] []))
-    ∷ refusal_in (with_segment CLP 1 (element_of none ((256, component_of none []) ∷ []) []))
-    ∷ refusal_in (with_segment CLP 1 (element_of none ((1, component_of (some 256) []) ∷ []) []))
+    ∷ refusal_in (with_segment CLP 1 (element_of (Some 256) [] []))
+    ∷ refusal_in (with_segment CLP 1 (element_of None ((256, component_of None []) ∷ []) []))
+    ∷ refusal_in (with_segment CLP 1 (element_of None ((1, component_of (Some 256) []) ∷ []) []))
     ∷ refusal_in (with_table (table_of [] 256 1))
     ∷ refusal_in (with_table (table_of [] 1 33))
     ∷ refusal_in (with_version (record { segment = CLP; element = 256; first = [] }))
     ∷ refusal_in (with_planned (column 256 0))
-    ∷ refusal_in (with_planned (record { element = 1; component = some 256; value = from_column 0 }))
+    ∷ refusal_in (with_planned (record { element = 1; component = Some 256; value = from_column 0 }))
     ∷ refusal_in (with_order [] 256)
-    ∷ refusal_in (with_data (record { rows = 4097; row = none; segment = none; refs = []; columns = [] }))
+    ∷ refusal_in (with_data (record { rows = 4097; row = None; segment = None; refs = []; columns = [] }))
     ∷ []) ≡ 3 ∷ 3 ∷ 3 ∷ 3 ∷ 3 ∷ 3 ∷ 3 ∷ 3 ∷ 3 ∷ 3 ∷ 3 ∷ 3 ∷ []
 unfolding refusal_in over over_spec over_data any any_of if_some large over_control over_loop over_component over_element over_segment over_step over_table over_version over_element_plan over_segment_plan over_loop_plan over_table_data rows_of_all tangled tangled_loops outside_loop outside_table outside_order outside loops_in disagrees not_parent not_child ringed misrooted misordered up any_from present times_in member_of repeats times unfit unfit_spec unfit_envelope unfit_table_data unfit_reference unfit_column scale unfit_version unfit_segment unfit_element unfit_component unfit_loop foreign unnamed identifier separators textual digit upper all_of
 refuses_3 = refl
 
 -- numbers out of range; parents and children that disagree; a child twice; a ring; roots; orders
-pub refuses_4 : (refusal_in (with_loop (loop_of (some 2) SVC none none []))
-    ∷ refusal_in (with_loop (loop_of (some 0) SVC none none (2 ∷ [])))
+pub refuses_4 : (refusal_in (with_loop (loop_of (Some 2) SVC None None []))
+    ∷ refusal_in (with_loop (loop_of (Some 0) SVC None None (2 ∷ [])))
     ∷ refusal_in (with_loops spec.loops (0 ∷ 2 ∷ []))
     ∷ refusal_in (with_table (table_of (2 ∷ []) 1 1))
-    ∷ refusal_in (with_loop (loop_of none SVC none none []))
-    ∷ refusal_in (with_loop (loop_of (some 1) SVC none none []))
-    ∷ refusal_in (with_loops (loop_of none CLP none none [] ∷ services ∷ []) (0 ∷ []))
-    ∷ refusal_in (with_loops (loop_of none CLP none none (1 ∷ 1 ∷ []) ∷ services ∷ []) (0 ∷ []))
-    ∷ refusal_in (with_loops (loop_of (some 1) CLP none none (1 ∷ []) ∷ loop_of (some 0) SVC none none (0 ∷ []) ∷ []) [])
+    ∷ refusal_in (with_loop (loop_of None SVC None None []))
+    ∷ refusal_in (with_loop (loop_of (Some 1) SVC None None []))
+    ∷ refusal_in (with_loops (loop_of None CLP None None [] ∷ services ∷ []) (0 ∷ []))
+    ∷ refusal_in (with_loops (loop_of None CLP None None (1 ∷ 1 ∷ []) ∷ services ∷ []) (0 ∷ []))
+    ∷ refusal_in (with_loops (loop_of (Some 1) CLP None None (1 ∷ []) ∷ loop_of (Some 0) SVC None None (0 ∷ []) ∷ []) [])
     ∷ refusal_in (with_loops spec.loops [])
     ∷ refusal_in (with_loops spec.loops (0 ∷ 0 ∷ []))
     ∷ refusal_in (with_loops spec.loops (0 ∷ 1 ∷ []))
@@ -224,33 +224,33 @@ pub refuses_4 : (refusal_in (with_loop (loop_of (some 2) SVC none none []))
 unfolding refusal_in over over_spec over_data any any_of if_some large over_control over_loop over_component over_element over_segment over_step over_table over_version over_element_plan over_segment_plan over_loop_plan over_table_data rows_of_all tangled tangled_loops outside_loop outside_table outside_order outside loops_in disagrees not_parent not_child ringed misrooted misordered up any_from present times_in member_of repeats times unfit unfit_spec unfit_envelope unfit_table_data unfit_reference unfit_column scale unfit_version unfit_segment unfit_element unfit_component unfit_loop foreign unnamed identifier separators textual digit upper all_of
 refuses_4 = refl
 
-pub refuses_5 : (refusal_in (with_separators 42 42 126 none [])
-    ∷ refusal_in (with_separators 42 58 126 (some 126) [])
-    ∷ refusal_in (with_separators 42 97 126 none [])
-    ∷ refusal_in (with_separators 42 58 46 none [])
-    ∷ refusal_in (with_separators 42 58 126 none FAR)
-    ∷ refusal_in (with_loop (loop_of (some 0) HC (some (83 ∷ [])) none []))
-    ∷ refusal_in (with_loop (loop_of (some 0) (83 ∷ 86 ∷ 99 ∷ []) none none []))
+pub refuses_5 : (refusal_in (with_separators 42 42 126 None [])
+    ∷ refusal_in (with_separators 42 58 126 (Some 126) [])
+    ∷ refusal_in (with_separators 42 97 126 None [])
+    ∷ refusal_in (with_separators 42 58 46 None [])
+    ∷ refusal_in (with_separators 42 58 126 None FAR)
+    ∷ refusal_in (with_loop (loop_of (Some 0) HC (Some (83 ∷ [])) None []))
+    ∷ refusal_in (with_loop (loop_of (Some 0) (83 ∷ 86 ∷ 99 ∷ []) None None []))
     ∷ refusal_in (with_segment (67 ∷ []) 1 text)
-    ∷ refusal_in (with_segment CLP 1 (element_of none [] (FAR ∷ [])))
-    ∷ refusal_in (with_segment CLP 1 (element_of none ((1, component_of none (FAR ∷ [])) ∷ []) []))
+    ∷ refusal_in (with_segment CLP 1 (element_of None [] (FAR ∷ [])))
+    ∷ refusal_in (with_segment CLP 1 (element_of None ((1, component_of None (FAR ∷ [])) ∷ []) []))
     ∷ refusal_in (with_version (record { segment = []; element = 1; first = [] }))
     ∷ refusal_in (with_version (record { segment = CLP; element = 1; first = FAR }))
-    ∷ refusal_in (with_data (record { rows = 0; row = scaled 39; segment = none; refs = []; columns = [] }))
-    ∷ refusal_in (with_data (record { rows = 0; row = none; segment = scaled 39; refs = []; columns = [] }))
-    ∷ refusal_in (with_data (record { rows = 0; row = none; segment = none; refs = (0, scaled 39) ∷ []; columns = [] }))
-    ∷ refusal_in (with_data (record { rows = 0; row = none; segment = none; refs = []; columns = none ∷ scaled 39 ∷ [] }))
+    ∷ refusal_in (with_data (record { rows = 0; row = scaled 39; segment = None; refs = []; columns = [] }))
+    ∷ refusal_in (with_data (record { rows = 0; row = None; segment = scaled 39; refs = []; columns = [] }))
+    ∷ refusal_in (with_data (record { rows = 0; row = None; segment = None; refs = (0, scaled 39) ∷ []; columns = [] }))
+    ∷ refusal_in (with_data (record { rows = 0; row = None; segment = None; refs = []; columns = None ∷ scaled 39 ∷ [] }))
     ∷ []) ≡ 5 ∷ 5 ∷ 5 ∷ 5 ∷ 5 ∷ 5 ∷ 5 ∷ 5 ∷ 5 ∷ 5 ∷ 5 ∷ 5 ∷ 5 ∷ 5 ∷ 5 ∷ 5 ∷ []
 unfolding refusal_in over over_spec over_data any any_of if_some large over_control over_loop over_component over_element over_segment over_step over_table over_version over_element_plan over_segment_plan over_loop_plan over_table_data rows_of_all tangled tangled_loops outside_loop outside_table outside_order outside loops_in disagrees not_parent not_child ringed misrooted misordered up any_from present times_in member_of repeats times unfit unfit_spec unfit_envelope unfit_table_data unfit_reference unfit_column scale unfit_version unfit_segment unfit_element unfit_component unfit_loop foreign unnamed identifier separators textual digit upper all_of
 refuses_5 = refl
 
 -- at the limits, and with bytes that may be separators
-pub passes : (refusal_in (with_separators 42 58 10 (some 200) (127 ∷ []))
-    ∷ refusal_in (with_segment CLP 255 (element_of (some 255) ((255, component_of (some 255) []) ∷ []) []))
+pub passes : (refusal_in (with_separators 42 58 10 (Some 200) (127 ∷ []))
+    ∷ refusal_in (with_segment CLP 255 (element_of (Some 255) ((255, component_of (Some 255) []) ∷ []) []))
     ∷ refusal_in (with_table (table_of (1 ∷ 1 ∷ []) 255 32))
     ∷ refusal_in (with_order ((loop_item 1 ∷ []) ∷ [] ∷ (segment_item 7 ∷ []) ∷ []) 255)
-    ∷ refusal_in (with_loop (loop_of (some 0) HC (some (53 ∷ 65 ∷ 48 ∷ [])) none []))
-    ∷ refusal_in (with_data (record { rows = 4096; row = scaled 38; segment = none; refs = []; columns = [] }))
+    ∷ refusal_in (with_loop (loop_of (Some 0) HC (Some (53 ∷ 65 ∷ 48 ∷ [])) None []))
+    ∷ refusal_in (with_data (record { rows = 4096; row = scaled 38; segment = None; refs = []; columns = [] }))
     ∷ []) ≡ 0 ∷ 0 ∷ 0 ∷ 0 ∷ 0 ∷ 0 ∷ []
 unfolding refusal_in over over_spec over_data any any_of if_some large over_control over_loop over_component over_element over_segment over_step over_table over_version over_element_plan over_segment_plan over_loop_plan over_table_data rows_of_all tangled tangled_loops outside_loop outside_table outside_order outside loops_in disagrees not_parent not_child ringed misrooted misordered up any_from present times_in member_of repeats times unfit unfit_spec unfit_envelope unfit_table_data unfit_reference unfit_column scale unfit_version unfit_segment unfit_element unfit_component unfit_loop foreign unnamed identifier separators textual digit upper all_of
 passes = refl

@@ -1,6 +1,5 @@
 -- What the layers above ask of a job. A number that a list lacks is answered as the Rust's `get` chains answer it: with nothing.
-use Rattle.std.specs.Prelude.{ℕ, Bool, true, false, cond, List, [], ◌∷◌, eqb, get_or}
-use Rattle.std.proofs.Math.Option.{Option, none, some}
+use Rattle.std.specs.Prelude.{ℕ, Bool, true, false, cond, List, [], ◌∷◌, eqb, get_or, Option, None, Some}
 use Rattle.format.specs.Spec.{Loop, no_loop, ElementDef, SegmentDef, ComponentDef, Table, no_table, Repeat}
 use Rattle.format.specs.Plan.{LoopPlan, no_loop_plan, SegmentPlan, no_segment_plan}
 use Rattle.format.specs.Layout.{Item}
@@ -9,8 +8,8 @@ use Rattle.format.specs.Job.{Job}
 
 -- f of what is there, or else d
 abbrev pub on : {A B : Type 0} → Option A → (A → B) → B → B
-on none f d = d
-on (some a) f d = f a
+on None f d = d
+on (Some a) f d = f a
 
 -- ---- the spec
 
@@ -27,8 +26,8 @@ step_of j t = on (table_of j t).repeat (λ (r : Repeat). r.step) 0
 
 -- the value of the first key that passes
 abbrev pub found : {K A : Type 0} → (K → Bool) → List (K × A) → Option A
-found is [] = none
-found is (x ∷ xs) = cond (is x.0) (some x.1) (found is xs)
+found is [] = None
+found is (x ∷ xs) = cond (is x.0) (Some x.1) (found is xs)
 
 abbrev pub same_bytes : List ℕ → List ℕ → Bool
 same_bytes [] [] = true
@@ -43,18 +42,18 @@ segment_def j id = found (same_bytes id) j.spec.segments
 -- spec/mod.rs, `element_def` without a component
 unfoldable pub element_def : Job → List ℕ → ℕ → Option ElementDef
 unfolding segment_def
-element_def j id e = on (segment_def j id) (found (eqb e)) none
+element_def j id e = on (segment_def j id) (found (eqb e)) None
 
 -- the most that a place takes, by its own definition: an element's, or its component's
 unfoldable pub max_of : Job → List ℕ → ℕ → Option ℕ → Option ℕ
 unfolding element_def
-max_of j id e none = on (element_def j id e) (λ (d : ElementDef). d.max) none
-max_of j id e (some c) = on (element_def j id e) (λ (d : ElementDef). on (found (eqb c) d.components) (λ (k : ComponentDef). k.max) none) none
+max_of j id e None = on (element_def j id e) (λ (d : ElementDef). d.max) None
+max_of j id e (Some c) = on (element_def j id e) (λ (d : ElementDef). on (found (eqb c) d.components) (λ (k : ComponentDef). k.max) None) None
 
 -- the least length of an element
 unfoldable pub min_of : Job → List ℕ → ℕ → Option ℕ
 unfolding element_def
-min_of j id e = on (element_def j id e) (λ (d : ElementDef). d.min) none
+min_of j id e = on (element_def j id e) (λ (d : ElementDef). d.min) None
 
 -- ---- the plan and the layout
 
@@ -82,7 +81,7 @@ group_columns_of j l = get_or j.layout.group_columns l []
 
 -- the depth among the envelope loops; absent reads as 0
 unfoldable pub depth_of : Job → ℕ → ℕ
-depth_of j l = on (get_or j.layout.depth l none) (λ d. d) 0
+depth_of j l = on (get_or j.layout.depth l None) (λ d. d) 0
 
 -- how many rows a repeat segment takes; absent reads as 1
 unfoldable pub capacity_of : Job → ℕ → ℕ

@@ -1,6 +1,5 @@
 -- The data of a job: for each table its rows, keys, references and columns, and the codec of each.
-use Rattle.std.specs.Prelude.{ℕ, ◌≡◌, refl, List, [], ◌⊎◌}
-use Rattle.std.proofs.Math.Option.{Option, none}
+use Rattle.std.specs.Prelude.{ℕ, ◌≡◌, refl, List, [], ◌⊎◌, Option, None}
 use Rattle.std.proofs.Common.{inl, inr}
 use Rattle.codec.specs.Codec.{Codec, ◌⊗◌, map_c, enum_c, ◌⊕◌, end_c, list_c}
 use Rattle.codec.specs.Forms.{num_c, byte_c, long_c, wide_c, bytes_c, opt_c}
@@ -80,4 +79,4 @@ data_c = list_c table_data_c
 
 -- ---- what stands for one that is not there
 abbrev pub no_table_data : TableData
-no_table_data = record { rows = 0; row = none; segment = none; refs = []; columns = [] }
+no_table_data = record { rows = 0; row = None; segment = None; refs = []; columns = [] }

@@ -1,8 +1,7 @@
 -- Decoding and encoding undo each other, and what stands where in a job that is neither broken nor spoilt.
-use Rattle.std.specs.Prelude.{ℕ, ◌+◌, ◌≤◌, ◌<◌, refl, List, ◌++◌, Bool, not, length, ltb, eqb}
+use Rattle.std.specs.Prelude.{ℕ, ◌+◌, ◌≤◌, ◌<◌, refl, List, ◌++◌, Bool, not, length, ltb, eqb, None, Some}
 use Rattle.std.proofs.Math.Path.{◌≡◌}
 use Rattle.std.proofs.Common.{sym, ap, subst, ◌∙◌, arith, length-append, lt-ltb, le-ltb, eq-eqb, ltb-false, eqb-true}
-use Rattle.std.proofs.Math.Option.{none, some}
 use Rattle.std.proofs.Math.Bool.{true, false}
 use Rattle.codec.specs.Codec.{Got, got, bad, Codec, pick, le, enc_le, Here}
 use Rattle.codec.specs.Skip.{skip, Is}
@@ -72,7 +71,7 @@ pub is_read : {A : Type 0} (C : Codec A) (b : List ℕ) (at e : ℕ) (v : A) →
 unfolding skip
 is_read C b at e v h = rw h
 
-pub decode_read : (b : List ℕ) (j : Job) → ReadAs b j → decode b ≡ some j
+pub decode_read : (b : List ℕ) (j : Job) → ReadAs b j → decode b ≡ Some j
 unfolding decode spoilt any
 decode_read b j r = rw (r.sound, r.spec, r.plan, r.layout, r.envelope, r.tables) (simp (same (plan_start b), same (layout_start b), same (envelope_start b), same (data_start b), same (trailer b)))
   where
@@ -115,17 +114,17 @@ read_job b h q =
     subst (λ (j : Job). ReadAs b j) (sym (job_read b r.0 r.1)) r.1
 
 -- the job that is decoded is read
-pub read_decoded : (b : List ℕ) (j : Job) → decode b ≡ some j → ReadAs b j
+pub read_decoded : (b : List ℕ) (j : Job) → decode b ≡ Some j → ReadAs b j
 read_decoded b j h = go (broken b) (spoilt b) refl refl
   where
     go : (p q : Bool) → broken b ≡ p → spoilt b ≡ q → ReadAs b j
     go false false i k =
         let r = some_read b i k in
-        let s : some r.0 ≡ some j = sym (decode_read b r.0 r.1) ∙ h in
+        let s : Some r.0 ≡ Some j = sym (decode_read b r.0 r.1) ∙ h in
         let w : r.0 ≡ j = cc in
         subst (λ (j : Job). ReadAs b j) w r.1
-    go true q i k = absurd (let z : ◌≡◌ {A = ℕ} 0 1 = (let s : none ≡ some j = (unfold decode in (sym (rw i) ∙ h)) in cc) in omega arith)
-    go false true i k = absurd (let z : ◌≡◌ {A = ℕ} 0 1 = (let s : none ≡ some j = (unfold decode in (sym (rw (i, k)) ∙ h)) in cc) in omega arith)
+    go true q i k = absurd (let z : ◌≡◌ {A = ℕ} 0 1 = (let s : None ≡ Some j = (unfold decode in (sym (rw i) ∙ h)) in cc) in omega arith)
+    go false true i k = absurd (let z : ◌≡◌ {A = ℕ} 0 1 = (let s : None ≡ Some j = (unfold decode in (sym (rw (i, k)) ∙ h)) in cc) in omega arith)
 
 -- what the trailer of a job that is not broken says
 pub record Sound (b : List ℕ) : Type 0 where

@@ -1,6 +1,5 @@
 -- The envelope of a job, without the release separator.
-use Rattle.std.specs.Prelude.{ℕ, refl, List, [], Bool, false}
-use Rattle.std.proofs.Math.Option.{Option, none}
+use Rattle.std.specs.Prelude.{ℕ, refl, List, [], Bool, false, Option, None}
 use Rattle.codec.specs.Codec.{Codec, ◌⊗◌, map_c}
 use Rattle.codec.specs.Forms.{num_c, byte_c, long_c, bytes_c, opt_c, flag_c}
 
@@ -35,8 +34,8 @@ no_envelope = record {
   sender_id = [];
   receiver_qualifier = [];
   receiver_id = [];
-  application_sender = none;
-  application_receiver = none;
+  application_sender = None;
+  application_receiver = None;
   date = 0;
   time = 0;
   usage_indicator = [];
@@ -44,6 +43,6 @@ no_envelope = record {
   element = 0;
   component = 0;
   segment = 0;
-  repetition = none;
+  repetition = None;
   line_break = false;
 }

@@ -1,6 +1,5 @@
 -- The refusals 1 to 5 (document 01, "What a call gives back", and its limits): the lowest that applies, each judged over the whole job.
-use Rattle.std.specs.Prelude.{ℕ, ◌+◌, List, [], ◌∷◌, Bool, false, not, length, get_or, leb, ltb, eqb}
-use Rattle.std.proofs.Math.Option.{Option, none, some}
+use Rattle.std.specs.Prelude.{ℕ, ◌+◌, List, [], ◌∷◌, Bool, false, not, length, get_or, leb, ltb, eqb, Option, None, Some}
 use Rattle.codec.specs.Codec.{pick}
 use Rattle.codec.specs.Limits.{any, any_of}
 use Rattle.format.specs.Words.{any_from, all_of, if_some, present, times_in, member_of, repeats, times, between}
@@ -114,12 +113,12 @@ disagrees ls i v = any (any_of (not_parent ls i) v.children ∷ if_some (not_chi
 
 -- one step up
 unfoldable pub up : List Loop → Option ℕ → Option ℕ
-up ls none = none
-up ls (some l) = (loop_at ls l).parent
+up ls None = None
+up ls (Some l) = (loop_at ls l).parent
 
 -- as many steps up as there are loops come past no root: the loop is on a ring or below one
 unfoldable pub ringed : List Loop → ℕ → Loop → Bool
-ringed ls i v = present (times (length ls) (up ls) (some i))
+ringed ls i v = present (times (length ls) (up ls) (Some i))
 
 -- a loop without parent is exactly once in roots, another not at all
 unfoldable pub misrooted : List ℕ → ℕ → Loop → Bool
@@ -161,8 +160,8 @@ unfoldable pub separators : Envelope → List ℕ
 separators e = e.element ∷ e.component ∷ e.segment ∷ optional e.repetition
   where
     optional : Option ℕ → List ℕ
-    optional none = []
-    optional (some c) = c ∷ []
+    optional None = []
+    optional (Some c) = c ∷ []
 
 -- 2 or 3 bytes of A to Z, 0 to 9
 unfoldable pub identifier : List ℕ → Bool

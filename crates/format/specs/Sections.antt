@@ -1,6 +1,5 @@
 -- The sections of a job and the trailer behind them (document 01, "The job"): which bytes are which job.
-use Rattle.std.specs.Prelude.{ℕ, ◌+◌, ◌-◌, ◌≤◌, List, [], ◌∷◌, ◌++◌, Bool, not, length, ltb, eqb}
-use Rattle.std.proofs.Math.Option.{Option, none, some}
+use Rattle.std.specs.Prelude.{ℕ, ◌+◌, ◌-◌, ◌≤◌, List, [], ◌∷◌, ◌++◌, Bool, not, length, ltb, eqb, Option, None, Some}
 use Rattle.codec.specs.Codec.{Got, got, bad, pick, le, enc_le}
 use Rattle.codec.specs.Whole.{used_up}
 use Rattle.codec.specs.Limits.{any}
@@ -59,21 +58,21 @@ spoilt b = any
 -- ---- the job of a byte string
 abbrev pub and_then : {A B : Type 0} → Got A → (A → Option B) → Option B
 and_then (got v n) f = f v
-and_then bad f = none
+and_then bad f = None
 
 unfoldable pub decode : List ℕ → Option Job
 decode b =
-    pick (broken b) none (pick (spoilt b) none
+    pick (broken b) None (pick (spoilt b) None
     (and_then (spec_c.read b 0 (plan_start b)) (λ spec.
     and_then (plan_c.read b (plan_start b) (layout_start b)) (λ plan.
     and_then (layout_c.read b (layout_start b) (envelope_start b)) (λ layout.
     and_then (envelope_c.read b (envelope_start b) (data_start b)) (λ envelope.
     and_then (data_c.read b (data_start b) (trailer b)) (λ tables.
-    some (record { spec = spec; plan = plan; layout = layout; envelope = envelope; tables = tables }))))))))
+    Some (record { spec = spec; plan = plan; layout = layout; envelope = envelope; tables = tables }))))))))
 
 abbrev pub or_else : {A : Type 0} → A → Option A → A
-or_else d none = d
-or_else d (some v) = v
+or_else d None = d
+or_else d (Some v) = v
 
 unfoldable pub job_of : List ℕ → Job
 job_of b = or_else no_job (decode b)

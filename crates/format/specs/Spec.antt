@@ -1,6 +1,5 @@
 -- The spec of a job (document 01, "The job"): loops, roots, segments, tables, version, and the codec of each.
-use Rattle.std.specs.Prelude.{ℕ, ◌≡◌, refl, List, [], ◌⊎◌, Bool, false}
-use Rattle.std.proofs.Math.Option.{Option, none}
+use Rattle.std.specs.Prelude.{ℕ, ◌≡◌, refl, List, [], ◌⊎◌, Bool, false, Option, None}
 use Rattle.std.proofs.Common.{inl, inr}
 use Rattle.codec.specs.Codec.{Codec, unit_c, ◌⊗◌, map_c, enum_c, ◌⊕◌, end_c, units_c, list_c}
 use Rattle.codec.specs.Forms.{num_c, byte_c, bytes_c, opt_c, flag_c}
@@ -220,10 +219,10 @@ spec_c = map_c
 
 -- ---- what stands for one that is not there
 abbrev pub no_loop : Loop
-no_loop = record { parent = none; trigger = []; occurrences = []; usage = required; end = none; control = none; children = [] }
+no_loop = record { parent = None; trigger = []; occurrences = []; usage = required; end = None; control = None; children = [] }
 
 abbrev pub no_table : Table
-no_table = record { loops = []; segment = false; repeat = none; columns = 0; parent = none; ancestors = [] }
+no_table = record { loops = []; segment = false; repeat = None; columns = 0; parent = None; ancestors = [] }
 
 abbrev pub no_spec : Spec
-no_spec = record { loops = []; roots = []; segments = []; tables = []; version = none }
+no_spec = record { loops = []; roots = []; segments = []; tables = []; version = None }

@@ -1,6 +1,5 @@
 -- The words that the refusals are told in.
-use Rattle.std.specs.Prelude.{ℕ, zero, suc, ◌+◌, ◌<◌, ◌≡◌, refl, List, [], ◌∷◌, Bool, true, false, length, get_or, leb, eqb}
-use Rattle.std.proofs.Math.Option.{Option, none, some}
+use Rattle.std.specs.Prelude.{ℕ, zero, suc, ◌+◌, ◌<◌, ◌≡◌, refl, List, [], ◌∷◌, Bool, true, false, length, get_or, leb, eqb, Option, None, Some}
 use Rattle.std.proofs.Common.{arith, add-zero}
 use Rattle.codec.specs.Codec.{pick}
 
@@ -16,12 +15,12 @@ all_of f (x ∷ xs) = pick (f x) (all_of f xs) false
 
 -- there is a value, and it passes the test
 unfoldable pub if_some : {A : Type 0} → (A → Bool) → Option A → Bool
-if_some f none = false
-if_some f (some x) = f x
+if_some f None = false
+if_some f (Some x) = f x
 
 unfoldable pub present : {A : Type 0} → Option A → Bool
-present none = false
-present (some x) = true
+present None = false
+present (Some x) = true
 
 -- how often n is in a list of numbers
 unfoldable pub times_in : ℕ → List ℕ → ℕ
@@ -58,7 +57,7 @@ none_from {A} f k (x ∷ xs) h i d q = go (f k x) refl h (none_from f (k + 1) xs
     go false r h ih (suc i) q = let e : k + suc i ≡ k + 1 + i = omega arith in rw e (ih h i d (omega arith))
 
 -- a value that is there does not pass the test
-pub none_some : {A : Type 0} (f : A → Bool) (o : Option A) → if_some f o ≡ false → (x : A) → o ≡ some x → f x ≡ false
+pub none_some : {A : Type 0} (f : A → Bool) (o : Option A) → if_some f o ≡ false → (x : A) → o ≡ Some x → f x ≡ false
 unfolding if_some
-none_some f none h x q = absurd (let z : ◌≡◌ {A = ℕ} 0 1 = cc in omega arith)
-none_some f (some y) h x q = let w : y ≡ x = cc in rw w at h
+none_some f None h x q = absurd (let z : ◌≡◌ {A = ℕ} 0 1 = cc in omega arith)
+none_some f (Some y) h x q = let w : y ≡ x = cc in rw w at h

@@ -1,10 +1,10 @@
 -- What a cursor has still to give, one law for each way that code takes.
 use Prim.Native.Nat.{ℕ, ◌+◌, ◌-◌, ◌≤◌, ◌<◌}
 use mathlib.Core.Path.{◌≡◌, refl, sym, ap, ap₂, ◌∙◌, subst}
-use mathlib.Core.Bool.{Bool, true, false, false≢true}
+use mathlib.Core.Bool.{Bool, true, false}
 use mathlib.Core.List.{List, [], ◌∷◌, map}
-use mathlib.Core.Option.{some, some-injective, none-ne-some}
 use native.Mathlib.Omega.{arith}
+use Rattle.std.proofs.lemmas.Option.{same_Some, none-some}
 use lib.ListN.{length}
 use lib.Dec.{eqb}
 use borrow.Author.Tests.{eq-eqb, ne_eqb, eqb-true}
@@ -20,8 +20,11 @@ use Rattle.walk.proofs.ContextLaws.{stands_start, stands_in_row, stands_in_piece
 use Rattle.walk.proofs.RowLaws.{held_apart}
 use Rattle.instances.specs.declared.Cursor.{Cursor}
 use Rattle.instances.specs.declared.Next.{Next}
+use Rattle.std.specs.Prelude.{Option, Some, None}
 use Rattle.instances.specs.declared.rows.RowAhead.{RowAhead}
-use Rattle.instances.specs.Cursor.{passes, start_of, left, pieces_at, runs, coming, Inside, Going, moved, rowless, Here, Ahead, RunEnds, context_in, behind, Came}
+use Rattle.instances.specs.declared.pieces.RunEnd.{RunEnd}
+use Rattle.instances.proofs.Options.{of_some, not_none, not_some}
+use Rattle.instances.specs.Cursor.{passes, start_of, left, pieces_at, runs, coming, Inside, Going, moved, rowless, Here, RunEnds, context_in, behind, Given, Came}
 use Rattle.instances.proofs.Runs.{left_moved}
 
 -- ---- by kind
@@ -46,34 +49,34 @@ coming_runs o n cur h =
 -- ---- the rows of an inner context are there
 
 module _ (o : Outline) (c : Context) (t r : ℕ) (s : Sound o c) (h : r < row_count o t) where
-  inner_row : (u p : ℕ) → at t r c.row u ≡ some p → p < row_count o u
+  inner_row : (u p : ℕ) → at t r c.row u ≡ Some p → p < row_count o u
   inner_row u p e = go (eqb u t) refl
     where
       go : (b : Bool) → eqb u t ≡ b → p < row_count o u
       go true q =
-          let x : r ≡ p = some-injective r p (rw q at e) in
+          let x : r ≡ p = same_Some r p (rw q at e) in
           let y : row_count o u ≡ row_count o t = ap (row_count o) (eqb-true u t q) in
           omega (arith, x, y, h)
       go false q = s.there u p (rw q at e)
 
   pub sound_in_row : Sound o (in_row t c r)
-  sound_in_row = record { there = inner_row; begun = λ p k e q d. absurd (none-ne-some p e) }
+  sound_in_row = record { there = inner_row; begun = λ p k e q d. absurd (none-some p e) }
 
   -- its run begins at its table's row
-  run_begun : (start : ℕ) → length (keep (held_by o t c.row) (up_to 0 r)) ≡ start → (k : ℕ) → at t r c.row t ≡ some k → (table_parent o t ≡ some t → ⊥)
+  run_begun : (start : ℕ) → length (keep (held_by o t c.row) (up_to 0 r)) ≡ start → (k : ℕ) → at t r c.row t ≡ Some k → (table_parent o t ≡ Some t → ⊥)
       → length (keep (held_by o t (at t r c.row)) (up_to 0 k)) ≡ start
   run_begun start e k z d =
-      let y : r ≡ k = some-injective r k (rw (eq-eqb t t refl) at z) in
+      let y : r ≡ k = same_Some r k (rw (eq-eqb t t refl) at z) in
       rw (← y) (ap length (keep_alike (held_by o t (at t r c.row)) (held_by o t c.row) 0 r (λ i q. held_apart o t r c.row i d)) ∙ e)
 
   pub sound_in_piece : (start end : ℕ) → length (keep (held_by o t c.row) (up_to 0 r)) ≡ offset t c.run + start → Sound o (in_piece t c (record { head = r; start = start; end = end }))
-  sound_in_piece start end e = record { there = inner_row; begun = λ p k q. subst (begun_at k) (some-injective it p q) (run_begun (offset t c.run + start) e k) }
+  sound_in_piece start end e = record { there = inner_row; begun = λ p k q. subst (begun_at k) (same_Some it p q) (run_begun (offset t c.run + start) e k) }
     where
       it : Run
       it = record { table = t; start = offset t c.run + start; end = offset t c.run + end }
 
       begun_at : ℕ → Run → Type 0
-      begun_at k p = at t r c.row p.table ≡ some k → (table_parent o p.table ≡ some p.table → ⊥) → length (keep (held_by o p.table (at t r c.row)) (up_to 0 k)) ≡ p.start
+      begun_at k p = at t r c.row p.table ≡ Some k → (table_parent o p.table ≡ Some p.table → ⊥) → length (keep (held_by o p.table (at t r c.row)) (up_to 0 k)) ≡ p.start
 
 -- ---- the context that code makes for an instance
 
@@ -99,8 +102,11 @@ module _ (cur : Cursor) (r : Next) where
 
 -- ---- the next instance
 
-over : (o : Outline) (n : List ℕ) (cur : Cursor) (r : Next) → r.more ≡ false → coming o n cur ≡ [] → Came o n cur r
-over o n cur r m e = record { ended = λ z. e; came = λ z. absurd (false≢true (sym m ∙ z)); sound = λ z. absurd (false≢true (sym m ∙ z)); still = λ z. absurd (false≢true (sym m ∙ z)); small = λ z. absurd (false≢true (sym m ∙ z)) }
+over : (o : Outline) (n : List ℕ) (cur : Cursor) → coming o n cur ≡ [] → Came o n cur None
+over o n cur e = record { ended = λ z. e; given = λ a z. absurd (not_some a z) }
+
+one : (o : Outline) (n : List ℕ) (cur : Cursor) (r : Next) → Given o n cur r → Came o n cur (Some r)
+one o n cur r g = record { ended = λ z. absurd (not_none r z); given = of_some (Given o n cur) r g }
 
 module _ (o : Outline) (n : List ℕ) where
   pub going_rowless : (kind : ℕ) (l : LoopId) (c : Kept) → l.0 < 32 → Sound o (context_by c) → Going o n (rowless kind l c)
@@ -120,17 +126,16 @@ module _ (o : Outline) (n : List ℕ) where
   further cur seen k d e g i = subst (λ (x : Cursor). Inside n x × (x.l.0 < 32)) (sym e) (i, g.a_loop)
 
   module _ (cur : Cursor) where
-    pub came_none : (r : Next) → r.more ≡ false → cur.kind ≡ 0 → Came o n cur r
-    came_none r m e = over o n cur r m (coming_none o n cur e)
+    pub came_none : cur.kind ≡ 0 → Came o n cur None
+    came_none e = over o n cur (coming_none o n cur e)
 
-    pub came_one : cur.kind ≡ 1 → Going o n cur → Came o n cur (record { more = true; kind = 0; row = record { 0 = 0 }; start = 0; seen = 0; next = 0 })
+    pub came_one : cur.kind ≡ 1 → Going o n cur → Came o n cur (Some (record { kind = 0; row = record { 0 = 0 }; start = 0; seen = 0; next = 0 }))
     came_one e g =
-        let r : Next = record { more = true; kind = 0; row = record { 0 = 0 }; start = 0; seen = 0; next = 0 } in
-        record {
-          ended = λ z. absurd (false≢true (sym z));
-          came = λ z. coming_one o n cur e ∙ ap₂ (λ x xs. x ∷ xs) (ap context_by (sym (made_one cur r e))) (sym (coming_none o n (behind cur r) refl));
-          sound = λ z. subst (λ d. Sound o (context_by d)) (sym (made_one cur r e)) g.sound;
-          still = λ z. record {
+        let r : Next = record { kind = 0; row = record { 0 = 0 }; start = 0; seen = 0; next = 0 } in
+        one o n cur r (record {
+          came = coming_one o n cur e ∙ ap₂ (λ x xs. x ∷ xs) (ap context_by (sym (made_one cur r e))) (sym (coming_none o n (behind cur r) refl));
+          sound = subst (λ d. Sound o (context_by d)) (sym (made_one cur r e)) g.sound;
+          still = record {
             inner = record { room = g.inner.room; few = g.inner.few; small = g.inner.small; counted = refl; behind = omega arith; within = omega arith };
             a_table = g.a_table;
             a_loop = g.a_loop;
@@ -138,32 +143,34 @@ module _ (o : Outline) (n : List ℕ) where
             list = g.list;
             sound = g.sound;
           };
-          small = λ z. omega arith;
-        }
+          small = omega arith;
+        })
 
     -- a `Rows` loop
-    pub came_rows : (a : RowAhead) → cur.kind ≡ 2 → cur.table.0 < length cur.context.rows → Going o n cur → Ahead n cur a
-        → Came o n cur (record { more = a.more; kind = cur.kind; row = a.row; start = 0; seen = a.seen; next = a.next })
+    pub rows_over : cur.kind ≡ 2 → left n cur ≡ [] → Came o n cur None
+    rows_over e h = over o n cur (coming_rows o n cur e ∙ ap (map (in_row cur.table.0 (context_by cur.context))) h)
+
+    pub came_rows : (a : RowAhead) → cur.kind ≡ 2 → cur.table.0 < length cur.context.rows → Going o n cur → Here n cur a
+        → Came o n cur (Some (record { kind = cur.kind; row = a.row; start = 0; seen = a.seen; next = a.next }))
     came_rows a e w g ahead =
         let t : ℕ = cur.table.0 in
         let c : Context = context_by cur.context in
-        let r : Next = record { more = a.more; kind = cur.kind; row = a.row; start = 0; seen = a.seen; next = a.next } in
+        let r : Next = record { kind = cur.kind; row = a.row; start = 0; seen = a.seen; next = a.next } in
         let stands : context_by (context_in cur r) ≡ in_row t c a.row.0 = row_stands cur r e w in
-        record {
-          ended = λ z. coming_rows o n cur e ∙ ap (map (in_row t c)) (ahead.over z);
-          came = λ z. coming_rows o n cur e ∙ ap (map (in_row t c)) (ahead.row z).rest
+        one o n cur r (record {
+          came = coming_rows o n cur e ∙ ap (map (in_row t c)) ahead.rest
               ∙ ap₂ (λ x xs. x ∷ xs) (sym stands) (ap (map (in_row t c)) (sym (left_moved n cur a.seen a.next a.seen a.next)) ∙ sym (coming_rows o n (moved cur a.seen a.next) e));
-          sound = λ z. subst (Sound o) (sym stands) (sound_in_row o c t a.row.0 g.sound (omega (arith, (ahead.row z).exists, g.there)));
-          still = λ z. going_moved cur a.seen a.next g (ahead.row z).inner;
-          small = λ z. omega (arith, (ahead.row z).exists, g.inner.few);
-        }
+          sound = subst (Sound o) (sym stands) (sound_in_row o c t a.row.0 g.sound (omega (arith, ahead.exists, g.there)));
+          still = going_moved cur a.seen a.next g ahead.inner;
+          small = omega (arith, ahead.exists, g.inner.few);
+        })
 
     -- a `Groups` loop
-    pub runs_over : (a : RowAhead) (r : Next) → r.more ≡ false → 3 ≤ cur.kind → Ahead n cur a → a.more ≡ false → Came o n cur r
-    runs_over a r m e h f = over o n cur r m (coming_runs o n cur e ∙ ap (λ xs. map (in_piece cur.table.0 (context_by cur.context)) (pieces_at (o.same_group cur.l.0) (cur.seen - start_of cur) xs)) (h.over f))
+    pub runs_over : 3 ≤ cur.kind → left n cur ≡ [] → Came o n cur None
+    runs_over e h = over o n cur (coming_runs o n cur e ∙ ap (λ xs. map (in_piece cur.table.0 (context_by cur.context)) (pieces_at (o.same_group cur.l.0) (cur.seen - start_of cur) xs)) h)
 
-    pub came_run : (a e : RowAhead) (first : Cursor) → 3 ≤ cur.kind → cur.table.0 < length cur.context.rows → Going o n cur → Here n cur a → first ≡ moved cur a.seen a.next → RunEnds o n first a.row.0 e
-        → Came o n cur (record { more = true; kind = cur.kind; row = a.row; start = a.seen - 1; seen = e.seen; next = e.next })
+    pub came_run : (a : RowAhead) (e : RunEnd) (first : Cursor) → 3 ≤ cur.kind → cur.table.0 < length cur.context.rows → Going o n cur → Here n cur a → first ≡ moved cur a.seen a.next → RunEnds o n first a.row.0 e
+        → Came o n cur (Some (record { kind = cur.kind; row = a.row; start = a.seen - 1; seen = e.seen; next = e.next }))
     came_run a e first k w g h f run₀ =
         let t : ℕ = cur.table.0 in
         let c : Context = context_by cur.context in
@@ -171,7 +178,7 @@ module _ (o : Outline) (n : List ℕ) where
         let run : RunEnds o n (moved cur a.seen a.next) a.row.0 e = subst (λ (x : Cursor). RunEnds o n x a.row.0 e) f run₀ in
         let start : ℕ = cur.seen - start_of cur in
         let it : Piece = record { head = a.row.0; start = start; end = e.seen - start_of cur } in
-        let r : Next = record { more = true; kind = cur.kind; row = a.row; start = a.seen - 1; seen = e.seen; next = e.next } in
+        let r : Next = record { kind = cur.kind; row = a.row; start = a.seen - 1; seen = e.seen; next = e.next } in
         let on : a.seen ≤ e.seen = run.on in
         let from-here : a.seen - 1 ≡ start_of cur + start = omega (arith, h.place) in
         let to-there : e.seen ≡ start_of cur + (e.seen - start_of cur) = omega (arith, h.place, on) in
@@ -184,19 +191,18 @@ module _ (o : Outline) (n : List ℕ) where
         ap (pieces_at same start) h.rest
         ∙ ap₂ (λ x xs. pieces same a.row.0 start x xs) place (sym (left_moved n cur a.seen a.next a.seen a.next))
         ∙ run.run start in
-        record {
-          ended = λ z. absurd (false≢true (sym z));
-          came = λ z. coming_runs o n cur k ∙ ap (map (in_piece t c)) all
+        one o n cur r (record {
+          came = coming_runs o n cur k ∙ ap (map (in_piece t c)) all
               ∙ ap₂ (λ x xs. x ∷ xs) (sym stands) (sym (coming_runs o n (moved cur e.seen e.next) k));
-          sound = λ z. subst (Sound o) (sym stands) (sound_in_piece o c t a.row.0 g.sound (omega (arith, h.exists, g.there)) start (e.seen - start_of cur) before);
-          still = λ z. going_moved cur e.seen e.next g run.inner;
-          small = λ z. omega (arith, h.exists, g.inner.few);
-        }
+          sound = subst (Sound o) (sym stands) (sound_in_piece o c t a.row.0 g.sound (omega (arith, h.exists, g.there)) start (e.seen - start_of cur) before);
+          still = going_moved cur e.seen e.next g run.inner;
+          small = omega (arith, h.exists, g.inner.few);
+        })
 
 -- an instance in the context that was made for it
-module _ {o : Outline} {n : List ℕ} {cur : Cursor} {r : Next} (w : Came o n cur r) (z : r.more ≡ true) {d : Kept} (e : d ≡ context_in cur r) where
+module _ {o : Outline} {n : List ℕ} {cur : Cursor} {x : Option Next} {r : Next} (w : Came o n cur x) (z : x ≡ Some r) {d : Kept} (e : d ≡ context_in cur r) where
   pub came_in : coming o n cur ≡ context_by d ∷ coming o n (behind cur r)
-  came_in = w.came z ∙ ap (λ x. context_by x ∷ coming o n (behind cur r)) (sym e)
+  came_in = (w.given r z).came ∙ ap (λ x. context_by x ∷ coming o n (behind cur r)) (sym e)
 
   pub sound_in : Sound o (context_by d)
-  sound_in = subst (λ x. Sound o (context_by x)) (sym e) (w.sound z)
+  sound_in = subst (λ x. Sound o (context_by x)) (sym e) (w.given r z).sound

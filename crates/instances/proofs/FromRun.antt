@@ -3,20 +3,15 @@ use Prim.Native.Nat.{ℕ, zero, suc, ◌+◌, ◌-◌, ◌≤◌, ◌<◌, max}
 use mathlib.Core.Path.{◌≡◌, refl, sym, ap, ap₂, ◌∙◌}
 use mathlib.Core.Bool.{Bool, true, false, false≢true, cond, ◌||◌}
 use mathlib.Core.List.{List, [], ◌∷◌, ◌++◌}
-use mathlib.Core.Option.{Option, none, some}
 use native.Mathlib.Omega.{arith}
 use lib.ListN.{length, take, drop}
 use lib.Dec.{eqb}
 use borrow.Author.Tests.{eq-eqb, ne_eqb, eqb-true}
-use Rattle.spec.specs.Answers.{number_of}
-use Rattle.spec.specs.declared.ids.Number.{Number as Numbered}
-use Rattle.spec.specs.declared.ids.Number.TheVariants as number
 use Rattle.spec.specs.declared.ids.RowId.{RowId}
 use Rattle.format.specs.Job.{Job}
 use Rattle.format.specs.Ask as A
 use Rattle.nest.specs.Lists.{keep, from, on, is, up_to}
-use Rattle.nest.specs.declared.Found.{Found}
-use Rattle.nest.specs.declared.Found.TheVariants.{Row, Nothing}
+use Rattle.std.specs.Prelude.{Option, Some, None}
 use Rattle.nest.specs.Found.{found_by}
 use Rattle.nest.specs.Outline.{Outline, table_parent, row_count}
 use Rattle.nest.specs.OfJob.{outline_of}
@@ -25,7 +20,6 @@ use Rattle.nest.proofs.Reports.{found_row, found_none}
 use Rattle.nest.proofs.Scan.{window, keep_alike, keep_length}
 use Rattle.walk.specs.Instances.{Context, Run, held_by, offset}
 use Rattle.walk.specs.Contexts.{context_by}
-use Rattle.walk.specs.Nested.{Sound}
 use Rattle.walk.proofs.ContextLaws.{stands_start}
 use Rattle.instances.specs.declared.Cursor.{Cursor}
 use Rattle.instances.specs.Cursor.{passes, start_of, end_of, left_at, left, coming, Going, moved, from_run}
@@ -33,15 +27,15 @@ use Rattle.instances.proofs.Cursors.{going_moved}
 
 -- ---- whether a table is its own parent
 
-module _ (j : Job) (t : ℕ) (x : Numbered) (e : number_of x ≡ (A.table_of j t).parent) where
-  parent_is : table_parent (outline_of j) t ≡ number_of x
+module _ (j : Job) (t : ℕ) (x : Option ℕ) (e : x ≡ (A.table_of j t).parent) where
+  parent_is : table_parent (outline_of j) t ≡ x
   parent_is = table_parent_is j t ∙ sym e
 
-  pub own_some : (u : ℕ) → x ≡ number.Is u → is (table_parent (outline_of j) t) t ≡ eqb t u
-  own_some u q = ap (λ y. is y t) (parent_is ∙ ap number_of q)
+  pub own_some : (u : ℕ) → x ≡ Some u → is (table_parent (outline_of j) t) t ≡ eqb t u
+  own_some u q = ap (λ y. is y t) (parent_is ∙ q)
 
-  pub own_none : x ≡ number.None → is (table_parent (outline_of j) t) t ≡ false
-  own_none q = ap (λ y. is y t) (parent_is ∙ ap number_of q)
+  pub own_none : x ≡ None → is (table_parent (outline_of j) t) t ≡ false
+  own_none q = ap (λ y. is y t) (parent_is ∙ q)
 
 -- ---- one law for each way that code takes
 
@@ -58,15 +52,15 @@ module _ (o : Outline) (cur : Cursor) where
       go true = refl
       go false = refl
 
-  module _ (start : ℕ) (s : start ≡ start_of cur) (d : start ≡ 0 → ⊥) (b : Bool) (e : b ≡ is (table_parent o cur.table.0) cur.table.0) (q : b ≡ false) (f : Found) (h : f ≡ found_by ((context_by cur.context).row cur.table.0)) where
+  module _ (start : ℕ) (s : start ≡ start_of cur) (d : start ≡ 0 → ⊥) (b : Bool) (e : b ≡ is (table_parent o cur.table.0) cur.table.0) (q : b ≡ false) (f : Option RowId) (h : f ≡ found_by ((context_by cur.context).row cur.table.0)) where
     later : eqb (start_of cur) 0 ≡ false
     later = ne_eqb (start_of cur) 0 (λ z. d (s ∙ z))
 
-    pub from_head : (r : RowId) → f ≡ Row r → moved cur start r.0 ≡ from_run o cur
+    pub from_head : (r : RowId) → f ≡ Some r → moved cur start r.0 ≡ from_run o cur
     unfolding from_run
     from_head r z = rw (later, sym e ∙ q, found_row ((context_by cur.context).row cur.table.0) f r h z, s)
 
-    pub from_nowhere : f ≡ Nothing → cur ≡ from_run o cur
+    pub from_nowhere : f ≡ None → cur ≡ from_run o cur
     unfolding from_run
     from_nowhere z = rw (later, sym e ∙ q, found_none ((context_by cur.context).row cur.table.0) f h z)
 
@@ -76,8 +70,8 @@ module _ (o : Outline) (cur : Cursor) where
   from_run_keeps P p q = go (eqb (start_of cur) 0 || is (table_parent o cur.table.0) cur.table.0)
     where
       found : (x : Option ℕ) → P (on x (moved cur (start_of cur)) cur)
-      found none = p
-      found (some r) = q (start_of cur) r
+      found None = p
+      found (Some r) = q (start_of cur) r
 
       go : (b : Bool) → P (cond b cur (on ((context_by cur.context).row cur.table.0) (moved cur (start_of cur)) cur))
       go true = p
@@ -131,22 +125,22 @@ module _ (o : Outline) (n : List ℕ) (cur : Cursor) (g : Going o n cur) (from_z
   abbrev passing : ℕ → Bool
   passing = passes n cur.base cur.above
 
-  begun_at : (r : ℕ) → (start_of cur ≡ 0 → ⊥) → (table_parent o t ≡ some t → ⊥) → c.row t ≡ some r → length (keep (held_by o t c.row) (up_to 0 r)) ≡ start_of cur
+  begun_at : (r : ℕ) → (start_of cur ≡ 0 → ⊥) → (table_parent o t ≡ Some t → ⊥) → c.row t ≡ Some r → length (keep (held_by o t c.row) (up_to 0 r)) ≡ start_of cur
   begun_at r d own z = of_run c.run refl ∙ stands_start cur.context t
     where
       of_run : (x : Option Run) → c.run ≡ x → length (keep (held_by o t c.row) (up_to 0 r)) ≡ offset t c.run
-      of_run none e = absurd (d (sym (stands_start cur.context t) ∙ ap (offset t) e))
-      of_run (some p) e = of_table (eqb p.table t) refl
+      of_run None e = absurd (d (sym (stands_start cur.context t) ∙ ap (offset t) e))
+      of_run (Some p) e = of_table (eqb p.table t) refl
         where
           of_table : (b : Bool) → eqb p.table t ≡ b → length (keep (held_by o t c.row) (up_to 0 r)) ≡ offset t c.run
           of_table false q = absurd (d (sym (stands_start cur.context t) ∙ ap (offset t) e ∙ rw q))
           of_table true q =
               let y : p.table ≡ t = eqb-true p.table t q in
               ap (λ u. length (keep (held_by o u c.row) (up_to 0 r))) (sym y)
-              ∙ g.sound.begun p r e (ap c.row y ∙ z) (λ w. own (sym (ap (table_parent o) y) ∙ w ∙ ap some y))
+              ∙ g.sound.begun p r e (ap c.row y ∙ z) (λ w. own (sym (ap (table_parent o) y) ∙ w ∙ ap Some y))
               ∙ sym (ap (offset t) e ∙ rw q)
 
-  at_head : (r : ℕ) → (start_of cur ≡ 0 → ⊥) → (table_parent o t ≡ some t → ⊥) → c.row t ≡ some r → (coming o n (moved cur (start_of cur) r) ≡ coming o n cur) × Going o n (moved cur (start_of cur) r)
+  at_head : (r : ℕ) → (start_of cur ≡ 0 → ⊥) → (table_parent o t ≡ Some t → ⊥) → c.row t ≡ Some r → (coming o n (moved cur (start_of cur) r) ≡ coming o n cur) × Going o n (moved cur (start_of cur) r)
   unfolding left_at
   at_head r d own z =
       let in_table : r < row_count o t = g.sound.there t r z in
@@ -171,9 +165,9 @@ module _ (o : Outline) (n : List ℕ) (cur : Cursor) (g : Going o n cur) (from_z
   unfolding from_run
   from_run_same = first (eqb (start_of cur) 0) refl
     where
-      found : (x : Option ℕ) → c.row t ≡ x → (start_of cur ≡ 0 → ⊥) → (table_parent o t ≡ some t → ⊥) → (coming o n (on x (moved cur (start_of cur)) cur) ≡ coming o n cur) × Going o n (on x (moved cur (start_of cur)) cur)
-      found none z d own = (refl, g)
-      found (some r) z d own = at_head r d own z
+      found : (x : Option ℕ) → c.row t ≡ x → (start_of cur ≡ 0 → ⊥) → (table_parent o t ≡ Some t → ⊥) → (coming o n (on x (moved cur (start_of cur)) cur) ≡ coming o n cur) × Going o n (on x (moved cur (start_of cur)) cur)
+      found None z d own = (refl, g)
+      found (Some r) z d own = at_head r d own z
 
       own_list : (b : Bool) → is (table_parent o t) t ≡ b → (start_of cur ≡ 0 → ⊥) → (coming o n (cond b cur (on (c.row t) (moved cur (start_of cur)) cur)) ≡ coming o n cur) × Going o n (cond b cur (on (c.row t) (moved cur (start_of cur)) cur))
       own_list true q d = (refl, g)

@@ -1,3 +1,4 @@
+pub mod Options
 pub mod RowsLeft
 pub mod Runs
 pub mod Cursors

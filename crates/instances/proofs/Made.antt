@@ -3,10 +3,10 @@ use Prim.Native.Nat.{ℕ, zero, suc, ◌+◌, ◌-◌, ◌≤◌, ◌<◌, max}
 use mathlib.Core.Path.{◌≡◌, refl, sym, ap, ap₂, ◌∙◌, subst}
 use mathlib.Core.Bool.{Bool, true, false, false≢true}
 use mathlib.Core.List.{List, [], ◌∷◌, map}
-use mathlib.Core.Option.{Option, none, some, some-injective, none-ne-some}
 use native.Mathlib.Numerals.{add-one}
 use native.Mathlib.Omega.{arith}
 use native.Mathlib.Decide.{dec_lt}
+use Rattle.std.proofs.lemmas.Option.{same_Some, none-some}
 use lib.ListN.{length, take, drop, get_or-eq_default}
 use lib.Seq.{take-nil, drop-nil}
 use lib.Dec.{ltb}
@@ -17,17 +17,13 @@ use Rattle.format.specs.Refusal.{rows_of_all}
 use Rattle.format.specs.Passed.{few}
 use Rattle.format.specs.Ask as A
 use Rattle.tables.specs.Parts as T
-use Rattle.spec.specs.Answers.{number_of}
-use Rattle.spec.specs.declared.ids.Number.{Number as Numbered}
-use Rattle.spec.specs.declared.ids.Number.TheVariants as number
 use Rattle.spec.specs.declared.ids.LoopId.{LoopId}
 use Rattle.spec.specs.declared.ids.TableId.{TableId}
 use Rattle.spec.specs.declared.ids.RowId.{RowId}
 use Rattle.plan.specs.Answers.{instances_of}
 use Rattle.plan.specs.declared.answers.Instances.{Instances}
 use Rattle.nest.specs.Lists.{once, on, is, keep, up_to}
-use Rattle.nest.specs.declared.Found.{Found}
-use Rattle.nest.specs.declared.Found.TheVariants.{Row, Nothing}
+use Rattle.std.specs.Prelude.{Option, Some, None}
 use Rattle.nest.specs.Found.{found_by, row_place, held_at}
 use Rattle.nest.specs.Outline.{Outline, Table, absent, envelope, implied, rows, inside, groups, kind_of, table_of, table_parent, row_count, plain}
 use Rattle.nest.specs.Nest.{referred}
@@ -82,27 +78,27 @@ pub row_kept : (c : Kept) (u : ℕ) → row_by c u ≡ found_by ((context_by c).
 unfolding row_by
 row_kept c u = ap found_by (sym (stands_row c u))
 
-pub row_past : (c : Kept) (u : ℕ) → length c.rows ≤ u → Nothing ≡ found_by ((context_by c).row u)
+pub row_past : (c : Kept) (u : ℕ) → length c.rows ≤ u → None ≡ found_by ((context_by c).row u)
 row_past c u h = ap found_by (sym (stands_row c u ∙ ap row_place (get_or-eq_default c.rows 0 {n = u} h)))
 
-pub row_small : (j : Job) (c : Context) (u : ℕ) (f : Found) (p : RowId) → rows_of_all j.tables ≤ 4096 → Sound (outline_of j) c → f ≡ found_by (c.row u) → f ≡ Row p → p.0 < 4096
+pub row_small : (j : Job) (c : Context) (u : ℕ) (f : Option RowId) (p : RowId) → rows_of_all j.tables ≤ 4096 → Sound (outline_of j) c → f ≡ found_by (c.row u) → f ≡ Some p → p.0 < 4096
 row_small j c u f p h s e q = let x = s.there u p.0 (found_row (c.row u) f p e q) in let y = rows_few j u h in omega (arith, x, y)
 
 -- ---- what the rows of a table hang on
 
-module _ (j : Job) (t : ℕ) (c : Context) (x : Numbered) (e : number_of x ≡ (A.table_of j t).parent) where
-  parent_at : (u : ℕ) → x ≡ number.Is u → table_parent (outline_of j) t ≡ some u
-  parent_at u q = table_parent_is j t ∙ sym e ∙ ap number_of q
+module _ (j : Job) (t : ℕ) (c : Context) (x : Option ℕ) (e : x ≡ (A.table_of j t).parent) where
+  parent_at : (u : ℕ) → x ≡ Some u → table_parent (outline_of j) t ≡ Some u
+  parent_at u q = table_parent_is j t ∙ sym e ∙ q
 
-  pub above_top : x ≡ number.None → some 0 ≡ above_in (outline_of j) t c
+  pub above_top : x ≡ None → Some 0 ≡ above_in (outline_of j) t c
   unfolding above_in
-  above_top q = let p : table_parent (outline_of j) t ≡ none = table_parent_is j t ∙ sym e ∙ ap number_of q in rw p
+  above_top q = let p : table_parent (outline_of j) t ≡ None = table_parent_is j t ∙ sym e ∙ q in rw p
 
-  pub above_row : (u : ℕ) (f : Found) (p : RowId) → x ≡ number.Is u → f ≡ found_by (c.row u) → f ≡ Row p → some (p.0 + 1) ≡ above_in (outline_of j) t c
+  pub above_row : (u : ℕ) (f : Option RowId) (p : RowId) → x ≡ Some u → f ≡ found_by (c.row u) → f ≡ Some p → Some (p.0 + 1) ≡ above_in (outline_of j) t c
   unfolding above_in
   above_row u f p q h z = rw (parent_at u q) (rw (found_row (c.row u) f p h z))
 
-  pub above_lost : (u : ℕ) (f : Found) → x ≡ number.Is u → f ≡ found_by (c.row u) → f ≡ Nothing → none ≡ above_in (outline_of j) t c
+  pub above_lost : (u : ℕ) (f : Option RowId) → x ≡ Some u → f ≡ found_by (c.row u) → f ≡ None → None ≡ above_in (outline_of j) t c
   unfolding above_in
   above_lost u f q h z = rw (parent_at u q) (rw (found_none (c.row u) f h z))
 
@@ -123,7 +119,7 @@ pub rows_made : (j : Job) (kind : ℕ) (l : LoopId) (t : TableId) (c : Kept) (ba
     → rows_from kind l t c base count above ≡ rows_from kind l t c (T.rows_before j.tables t.0) (row_count (outline_of j) t.0) above
 rows_made j kind l t c base count above e q = ap₂ (λ x y. rows_from kind l t c x y above) e (q ∙ sym (rows_is j t.0))
 
-held_is : (o : Outline) (t : ℕ) (row : ℕ → Option ℕ) (r u p : ℕ) → table_parent o t ≡ some u → row u ≡ some p → held_by o t row r ≡ is (referred o t r u) p
+held_is : (o : Outline) (t : ℕ) (row : ℕ → Option ℕ) (r u p : ℕ) → table_parent o t ≡ Some u → row u ≡ Some p → held_by o t row r ≡ is (referred o t r u) p
 unfolding held_by
 held_is o t row r u p e q = rw e (rw q)
 
@@ -134,19 +130,19 @@ in_data o t r h = go (dec_lt t (length o.row_counts))
     go (yes q) = q
     go (no q) = absurd (omega (arith, rows_past o t (omega arith), h))
 
-held_never : (o : Outline) (t : ℕ) (c : Context) (r : ℕ) → none ≡ above_in o t c → held_by o t c.row r ≡ false
+held_never : (o : Outline) (t : ℕ) (c : Context) (r : ℕ) → None ≡ above_in o t c → held_by o t c.row r ≡ false
 unfolding above_in
 held_never o t c r e = up (table_parent o t) refl
   where
-    in_row_lem : (u : ℕ) → table_parent o t ≡ some u → (y : Option ℕ) → c.row u ≡ y → held_by o t c.row r ≡ false
-    in_row_lem u q none z = held_outside o t c.row r u q z
-    in_row_lem u q (some p) z = absurd (none-ne-some (p + 1) (rw z at (rw q at e)))
+    in_row_lem : (u : ℕ) → table_parent o t ≡ Some u → (y : Option ℕ) → c.row u ≡ y → held_by o t c.row r ≡ false
+    in_row_lem u q None z = held_outside o t c.row r u q z
+    in_row_lem u q (Some p) z = absurd (none-some (p + 1) (rw z at (rw q at e)))
 
     up : (x : Option ℕ) → table_parent o t ≡ x → held_by o t c.row r ≡ false
-    up none q = absurd (none-ne-some 0 (rw q at e))
-    up (some u) q = in_row_lem u q (c.row u) refl
+    up None q = absurd (none-some 0 (rw q at e))
+    up (Some u) q = in_row_lem u q (c.row u) refl
 
-rows_lost : (o : Outline) (t : ℕ) (c : Context) → plain o t ≡ true → none ≡ above_in o t c → rows_in o t c ≡ []
+rows_lost : (o : Outline) (t : ℕ) (c : Context) → plain o t ≡ true → None ≡ above_in o t c → rows_in o t c ≡ []
 rows_lost o t c f e = rows_window o t c f ∙ rw none_kept (simp (drop-nil, take-nil))
   where
     none_kept : keep (held_by o t c.row) (up_to 0 (row_count o t)) ≡ []
@@ -159,16 +155,16 @@ module _ {b idx n : List ℕ} (N : Nested b idx n) (kind : ℕ) (l : LoopId) (t 
   abbrev it : ℕ → Cursor
   it above = rows_from kind l t c (T.rows_before (job_of b).tables t.0) (row_count o t.0) above
 
-  module _ (above : ℕ) (f : plain o t.0 ≡ true) (e : some above ≡ above_in o t.0 (context_by c)) where
+  module _ (above : ℕ) (f : plain o t.0 ≡ true) (e : Some above ≡ above_in o t.0 (context_by c)) where
     passes_is : (r : ℕ) → r < row_count o t.0 → passes n (T.rows_before (job_of b).tables t.0) above r ≡ held_by o t.0 (context_by c).row r
     unfolding above_in
     passes_is r h = up (table_parent o t.0) refl
       where
-        in_row_lem : (u : ℕ) → table_parent o t.0 ≡ some u → (y : Option ℕ) → (context_by c).row u ≡ y
+        in_row_lem : (u : ℕ) → table_parent o t.0 ≡ Some u → (y : Option ℕ) → (context_by c).row u ≡ y
             → passes n (T.rows_before (job_of b).tables t.0) above r ≡ held_by o t.0 (context_by c).row r
-        in_row_lem u q none z = absurd (none-ne-some above (sym (rw z at (rw q at e))))
-        in_row_lem u q (some p) z =
-            let a : above ≡ p + 1 = some-injective above (p + 1) (rw z at (rw q at e)) in
+        in_row_lem u q None z = absurd (none-some above (sym (rw z at (rw q at e))))
+        in_row_lem u q (Some p) z =
+            let a : above ≡ p + 1 = same_Some above (p + 1) (rw z at (rw q at e)) in
             let less : above - 1 ≡ p = omega (arith, a) in
             passes_held n _ above r (λ y. absurd (omega (arith, a, y)))
             ∙ ap₂ (λ x y. held_at n x y r) (base_is (job_of b) t.0) less
@@ -176,8 +172,8 @@ module _ {b idx n : List ℕ} (N : Nested b idx n) (kind : ℕ) (l : LoopId) (t 
             ∙ sym (held_is o t.0 (context_by c).row r u p q z)
 
         up : (x : Option ℕ) → table_parent o t.0 ≡ x → passes n (T.rows_before (job_of b).tables t.0) above r ≡ held_by o t.0 (context_by c).row r
-        up none q = passes_all n _ above r (some-injective above 0 (rw q at e)) ∙ sym (held_top o t.0 (context_by c).row r q)
-        up (some u) q = in_row_lem u q ((context_by c).row u) refl
+        up None q = passes_all n _ above r (same_Some above 0 (rw q at e)) ∙ sym (held_top o t.0 (context_by c).row r q)
+        up (Some u) q = in_row_lem u q ((context_by c).row u) refl
 
     all_left : left n (it above) ≡ rows_in o t.0 (context_by c)
     unfolding left_at
@@ -191,15 +187,15 @@ module _ {b idx n : List ℕ} (N : Nested b idx n) (kind : ℕ) (l : LoopId) (t 
     unfolding above_in
     above_small s = up (table_parent o t.0) refl
       where
-        in_row_lem : (u : ℕ) → table_parent o t.0 ≡ some u → (y : Option ℕ) → (context_by c).row u ≡ y → above ≤ 4096
-        in_row_lem u q none z = absurd (none-ne-some above (sym (rw z at (rw q at e))))
-        in_row_lem u q (some p) z =
-            let a : above ≡ p + 1 = some-injective above (p + 1) (rw z at (rw q at e)) in
+        in_row_lem : (u : ℕ) → table_parent o t.0 ≡ Some u → (y : Option ℕ) → (context_by c).row u ≡ y → above ≤ 4096
+        in_row_lem u q None z = absurd (none-some above (sym (rw z at (rw q at e))))
+        in_row_lem u q (Some p) z =
+            let a : above ≡ p + 1 = same_Some above (p + 1) (rw z at (rw q at e)) in
             omega (arith, a, s.there u p z, rows_few (job_of b) u N.ready.tables.few_rows)
 
         up : (x : Option ℕ) → table_parent o t.0 ≡ x → above ≤ 4096
-        up none q = let a : above ≡ 0 = some-injective above 0 (rw q at e) in omega (arith, a)
-        up (some u) q = in_row_lem u q ((context_by c).row u) refl
+        up None q = let a : above ≡ 0 = same_Some above 0 (rw q at e) in omega (arith, a)
+        up (Some u) q = in_row_lem u q ((context_by c).row u) refl
 
     going_rows : Sound o (context_by c) → l.0 < 32 → Going o n (it above)
     unfolding A.data_of
@@ -261,17 +257,17 @@ module _ {b idx n : List ℕ} (N : Nested b idx n) (kind : ℕ) (l : LoopId) (t 
   pub lists_none : (r : Cursor) → Sound o (context_by c) → l.0 < 32 → r ≡ rowless 0 l c → plain o t.0 ≡ false → Lists o n kind l.0 t.0 (context_by c) r
   lists_none r s h q f = lists_empty r s h q (rows_none o t.0 (context_by c) f)
 
-  pub lists_lost : (r : Cursor) → Sound o (context_by c) → l.0 < 32 → r ≡ rowless 0 l c → plain o t.0 ≡ true → none ≡ above_in o t.0 (context_by c) → Lists o n kind l.0 t.0 (context_by c) r
+  pub lists_lost : (r : Cursor) → Sound o (context_by c) → l.0 < 32 → r ≡ rowless 0 l c → plain o t.0 ≡ true → None ≡ above_in o t.0 (context_by c) → Lists o n kind l.0 t.0 (context_by c) r
   lists_lost r s h q f e = lists_empty r s h q (rows_lost o t.0 (context_by c) f e)
 
 -- ---- an `Inside` loop
 
 module _ (o : Outline) (l t : ℕ) (c : Context) where
-  pub shown_row : (f : Found) (r : RowId) (b : Bool) → f ≡ found_by (c.row t) → f ≡ Row r → b ≡ shown o l t r.0 → shown_in o l t c ≡ b
+  pub shown_row : (f : Option RowId) (r : RowId) (b : Bool) → f ≡ found_by (c.row t) → f ≡ Some r → b ≡ shown o l t r.0 → shown_in o l t c ≡ b
   unfolding shown_in
   shown_row f r b h z e = rw (found_row (c.row t) f r h z) (sym e)
 
-  pub shown_none : (f : Found) → f ≡ found_by (c.row t) → f ≡ Nothing → shown_in o l t c ≡ false
+  pub shown_none : (f : Option RowId) → f ≡ found_by (c.row t) → f ≡ None → shown_in o l t c ≡ false
   unfolding shown_in
   shown_none f h z = rw (found_none (c.row t) f h z)
 
@@ -303,13 +299,13 @@ module _ (o : Outline) (n : List ℕ) (l : LoopId) (c : Kept) (s : Sound o (cont
   unfolding shown_in
   of_inside t k q = record { all = λ h. ap (coming o n) q ∙ in_row_lem h ((context_by c).row t) refl; going = subst (Going o n) (sym q) (going_rowless o n _ l c small s) }
     where
-      chosen : (h p : ℕ) → (context_by c).row t ≡ some p → (b : Bool) → shown o l.0 t p ≡ b → coming o n (rowless (once b) l c) ≡ instances o (suc h) l.0 (context_by c)
+      chosen : (h p : ℕ) → (context_by c).row t ≡ Some p → (b : Bool) → shown o l.0 t p ≡ b → coming o n (rowless (once b) l c) ≡ instances o (suc h) l.0 (context_by c)
       chosen h p z true y = coming_one o n (rowless 1 l c) refl ∙ sym (inst_shown o h l.0 t p (context_by c) k z y)
       chosen h p z false y = coming_none o n (rowless 0 l c) refl ∙ sym (inst_hidden o h l.0 t p (context_by c) k z y)
 
       in_row_lem : (h : ℕ) (x : Option ℕ) → (context_by c).row t ≡ x → coming o n (rowless (once (on ((context_by c).row t) (shown o l.0 t) false)) l c) ≡ instances o (suc h) l.0 (context_by c)
-      in_row_lem h none z = rw z (coming_none o n (rowless 0 l c) refl ∙ sym (inst_rowless o h l.0 t (context_by c) k z))
-      in_row_lem h (some p) z = rw z (chosen h p z (shown o l.0 t p) refl)
+      in_row_lem h None z = rw z (coming_none o n (rowless 0 l c) refl ∙ sym (inst_rowless o h l.0 t (context_by c) k z))
+      in_row_lem h (Some p) z = rw z (chosen h p z (shown o l.0 t p) refl)
 
   pub of_implied : kind_of o l.0 ≡ implied → is_implied (kind_of o l.0) ≡ false → OfLoop o n l.0 (context_by c) r
   of_implied k f = absurd (false≢true (sym f ∙ ap is_implied k))

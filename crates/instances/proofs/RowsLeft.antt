@@ -1,7 +1,7 @@
 -- The rows that a cursor has left, one law for each way that code takes.
 use Prim.Native.Nat.{ℕ, ◌+◌, ◌-◌, ◌≤◌, ◌<◌}
 use mathlib.Core.Path.{◌≡◌, refl, sym, ap, ◌∙◌}
-use mathlib.Core.Bool.{Bool, true, false, false≢true}
+use mathlib.Core.Bool.{Bool, true, false}
 use mathlib.Core.List.{List, [], ◌∷◌}
 use native.Mathlib.Omega.{arith}
 use lib.ListN.{length, length-append}
@@ -12,7 +12,8 @@ use Rattle.nest.specs.Lists.{keep, up_to}
 use Rattle.nest.proofs.Scan.{keep_more, keep_same, window_no, window_skip, window_yes, window_past, window_end}
 use Rattle.walk.specs.Contexts.{start_by}
 use Rattle.instances.specs.declared.Cursor.{Cursor}
-use Rattle.instances.specs.declared.rows.RowAhead.{RowAhead}
+use Rattle.std.specs.Prelude.{Some, None}
+use Rattle.instances.proofs.Options.{of_some, not_none, not_some}
 use Rattle.instances.specs.Cursor.{passes, start_of, end_of, left_at, left, Inside, Here, Ahead}
 
 -- ---- whether a row hangs where it is asked to
@@ -67,11 +68,11 @@ module _ (n : List ℕ) (cur : Cursor) (seen k : ℕ) (s : Looking n cur seen k)
       }
 
   pub ahead_row : (b : Bool) (start end : ℕ) → Inside n cur → k < cur.rows → b ≡ passes n cur.base cur.above k → b ≡ true → start ≡ start_of cur → end ≡ end_of cur → start ≤ seen → seen < end
-      → Ahead n cur (record { more = true; row = record { 0 = k }; seen = seen + 1; next = k + 1 })
+      → Ahead n cur (Some (record { row = record { 0 = k }; seen = seen + 1; next = k + 1 }))
   unfolding left_at
-  ahead_row b start end i h e f q r x y = record { over = λ z. absurd (false≢true (sym z)); row = λ z. here }
+  ahead_row b start end i h e f q r x y = record { over = λ z. absurd (not_none _ z); row = of_some (Here n cur) _ here }
     where
-      here : Here n cur (record { more = true; row = record { 0 = k }; seen = seen + 1; next = k + 1 })
+      here : Here n cur (record { row = record { 0 = k }; seen = seen + 1; next = k + 1 })
       here = record {
         rest = s.rest ∙ window_yes _ _ (start_of cur) (end_of cur) seen k h (sym e ∙ f) (omega (arith, q)) (omega (arith, r));
         exists = h;
@@ -81,13 +82,13 @@ module _ (n : List ℕ) (cur : Cursor) (seen k : ℕ) (s : Looking n cur seen k)
         before = ap (λ m. m + 1) s.counted;
       }
 
-  none_ahead : (r : RowAhead) → r.more ≡ false → left n cur ≡ [] → Ahead n cur r
-  none_ahead r m e = record { over = λ z. e; row = λ z. absurd (false≢true (sym m ∙ z)) }
+  none_ahead : left n cur ≡ [] → Ahead n cur None
+  none_ahead e = record { over = λ z. e; row = λ a z. absurd (not_some a z) }
 
-  pub ahead_past : (end : ℕ) (r : RowAhead) → r.more ≡ false → end ≡ end_of cur → end ≤ seen → Ahead n cur r
+  pub ahead_past : (end : ℕ) → end ≡ end_of cur → end ≤ seen → Ahead n cur None
   unfolding left_at
-  ahead_past end r m q h = none_ahead r m (s.rest ∙ window_past _ _ (start_of cur) (end_of cur) seen k (omega (arith, q)))
+  ahead_past end q h = none_ahead (s.rest ∙ window_past _ _ (start_of cur) (end_of cur) seen k (omega (arith, q)))
 
-  pub ahead_end : (r : RowAhead) → r.more ≡ false → cur.rows ≤ k → Ahead n cur r
+  pub ahead_end : cur.rows ≤ k → Ahead n cur None
   unfolding left_at
-  ahead_end r m h = none_ahead r m (s.rest ∙ window_end _ _ (start_of cur) (end_of cur) seen k h)
+  ahead_end h = none_ahead (s.rest ∙ window_end _ _ (start_of cur) (end_of cur) seen k h)

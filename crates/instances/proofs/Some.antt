@@ -19,6 +19,7 @@ use Rattle.walk.specs.Nested.{Sound}
 use Rattle.walk.proofs.TourLaws.{inst_deep, inst_implied, some_child, child_found, child_next, child_end}
 use Rattle.instances.specs.declared.Cursor.{Cursor}
 use Rattle.instances.specs.declared.Next.{Next}
+use Rattle.std.specs.Prelude.{Option, Some, None, is_some}
 use Rattle.instances.specs.Cursor.{coming, Going, rowless, is_implied, OfLoop, Came}
 use Rattle.nest.proofs.Bridge.{children_is}
 use Rattle.instances.proofs.Cursors.{coming_none, coming_one, going_rowless}
@@ -86,12 +87,9 @@ module _ (o : Outline) (n : List ℕ) (h l : ℕ) (c : Context) (deep : h ≡ 0 
   pub all_coming : coming o n cur ≡ instances o h l c
   all_coming = is.all (h - 1) ∙ sym (whole o h l c deep)
 
-  pub some_coming : (r : Next) → Came o n cur r → r.more ≡ some_in o h l c
-  some_coming r came = go r.more refl
-    where
-      go : (b : Bool) → r.more ≡ b → r.more ≡ some_in o h l c
-      go true q = q ∙ ap (λ cs. not (is_empty_list cs)) (sym (came.came q) ∙ all_coming)
-      go false q = q ∙ ap (λ cs. not (is_empty_list cs)) (sym (came.ended q) ∙ all_coming)
+  pub some_coming : (r : Option Next) → Came o n cur r → is_some r ≡ some_in o h l c
+  some_coming (Some a) came = ap (λ cs. not (is_empty_list cs)) (sym (came.given a refl).came ∙ all_coming)
+  some_coming None came = ap (λ cs. not (is_empty_list cs)) (sym (came.ended refl) ∙ all_coming)
 
 -- ---- cursors without rows
 module _ (o : Outline) (n : List ℕ) (h : ℕ) (l : LoopId) (c : Kept) (small : l.0 < 32) (s : Sound o (context_by c)) (r : Cursor) where

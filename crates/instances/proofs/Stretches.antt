@@ -19,6 +19,8 @@ use Rattle.nest.specs.Rising.{Climbs, Parted, rises}
 use Rattle.nest.proofs.Scan.{keep_length, keep_skip, keep_cut}
 use Rattle.nest.proofs.Stored.{before_is}
 use Rattle.walk.specs.declared.Context.{Context as Kept}
+use Rattle.std.specs.Prelude.{Option, Some, None}
+use Rattle.walk.specs.declared.Run.{Run as KeptRun}
 use Rattle.walk.specs.Contexts.{start_by, end_by}
 use Rattle.walk.specs.Nested.{Nested}
 use Rattle.walk.proofs.ContextLaws.{start_other, start_free, end_run, end_other, end_free}
@@ -33,22 +35,22 @@ abbrev run_of : Kept → ℕ → ℕ → ℕ → List ℕ → List ℕ
 run_of c t seen n xs = take (end_by c t n - max (start_by c t) seen) (drop (start_by c t - seen) xs)
 
 run_same : (c : Kept) (t seen a b : ℕ) (xs : List ℕ) → length xs + seen ≤ a → length xs + seen ≤ b → run_of c t seen a xs ≡ run_of c t seen b xs
-run_same c t seen a b xs h k = go c.grouped refl
+run_same c t seen a b xs h k = go c.run refl
   where
-    free : start_by c t ≡ 0 → end_by c t a ≡ a → end_by c t b ≡ b → run_of c t seen a xs ≡ run_of c t seen b xs
+    free : 0 ≡ start_by c t → a ≡ end_by c t a → b ≡ end_by c t b → run_of c t seen a xs ≡ run_of c t seen b xs
     free s e f =
         let z : start_by c t - seen ≡ 0 = omega (arith, s) in
         rw z (take_all (end_by c t a - max (start_by c t) seen) xs (omega (arith, s, e, h)) ∙ sym (take_all (end_by c t b - max (start_by c t) seen) xs (omega (arith, s, f, k))))
 
-    of_table : (x : Bool) → eqb c.table t ≡ x → c.grouped ≡ true → run_of c t seen a xs ≡ run_of c t seen b xs
-    of_table true q g =
-        let y : c.table ≡ t = eqb-true c.table t q in
-        ap (λ e. take (e - max (start_by c t) seen) (drop (start_by c t - seen) xs)) (end_run c t a g y ∙ sym (end_run c t b g y))
-    of_table false q g = let d = eqb-false c.table t q in free (start_other c t g d) (end_other c t a g d) (end_other c t b g d)
+    of_table : (r : KeptRun) (x : Bool) → eqb r.table.0 t ≡ x → c.run ≡ Some r → run_of c t seen a xs ≡ run_of c t seen b xs
+    of_table r true q g =
+        let y : r.table.0 ≡ t = eqb-true r.table.0 t q in
+        ap (λ e. take (e - max (start_by c t) seen) (drop (start_by c t - seen) xs)) (sym (end_run c t r g a y) ∙ end_run c t r g b y)
+    of_table r false q g = let d = eqb-false r.table.0 t q in free (start_other c t r g d) (end_other c t r g a d) (end_other c t r g b d)
 
-    go : (x : Bool) → c.grouped ≡ x → run_of c t seen a xs ≡ run_of c t seen b xs
-    go true g = of_table (eqb c.table t) refl g
-    go false g = free (start_free c t g) (end_free c t a g) (end_free c t b g)
+    go : (x : Option KeptRun) → c.run ≡ x → run_of c t seen a xs ≡ run_of c t seen b xs
+    go (Some r) g = of_table r (eqb r.table.0 t) refl g
+    go None g = free (start_free c t g) (end_free c t a g) (end_free c t b g)
 
 -- ---- the end of the stretch
 

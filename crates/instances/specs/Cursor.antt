@@ -1,6 +1,5 @@
 -- What a cursor has still to give (write/walk.rs, `instances`): the same list as the definition of the walk, from a place on.
-use Rattle.std.specs.Prelude.{ℕ, suc, ◌+◌, ◌-◌, ◌*◌, ◌≤◌, ◌<◌, max, ◌≡◌, Bool, true, false, cond, ◌||◌, List, [], ◌∷◌, map, length, take, drop, eqb}
-use Rattle.std.proofs.Math.Option.{Option, none, some}
+use Rattle.std.specs.Prelude.{ℕ, suc, ◌+◌, ◌-◌, ◌*◌, ◌≤◌, ◌<◌, max, ◌≡◌, Bool, true, false, cond, ◌||◌, List, [], ◌∷◌, map, length, take, drop, eqb, Option, Some, None}
 use Rattle.nest.specs.Lists.{keep, on, is, up_to}
 use Rattle.nest.specs.Found.{nest_at}
 use Rattle.nest.specs.Outline.{Outline, Kind, rows, absent, envelope, implied, inside, groups, row_count, table_parent}
@@ -13,6 +12,7 @@ use Rattle.spec.specs.declared.ids.TableId.{TableId}
 use Rattle.instances.specs.declared.Cursor.{Cursor}
 use Rattle.instances.specs.declared.Next.{Next}
 use Rattle.instances.specs.declared.rows.RowAhead.{RowAhead}
+use Rattle.instances.specs.declared.pieces.RunEnd.{RunEnd}
 
 -- ---- the rows that are left
 
@@ -104,7 +104,7 @@ from_run o cur =
 
 -- the row that the rows of a table hang on in a context, plus one; 0 where the table has no parent; none where the context has no row of the parent
 unfoldable pub above_in : Outline → ℕ → Context → Option ℕ
-above_in o t c = on (table_parent o t) (λ u. on (c.row u) (λ p. some (p + 1)) none) (some 0)
+above_in o t c = on (table_parent o t) (λ u. on (c.row u) (λ p. Some (p + 1)) None) (Some 0)
 
 abbrev pub is_implied : Kind → Bool
 is_implied absent = false
@@ -140,12 +140,12 @@ pub record Here (n : List ℕ) (cur : Cursor) (r : RowAhead) : Type 0 where
   pub place : start_of cur + (cur.seen - start_of cur) + 1 ≡ r.seen
   pub before : length (keep (passes n cur.base cur.above) (up_to 0 r.row.0)) + 1 ≡ r.seen
 
-pub record Ahead (n : List ℕ) (cur : Cursor) (r : RowAhead) : Type 0 where
-  pub over : r.more ≡ false → left n cur ≡ []
-  pub row : r.more ≡ true → Here n cur r
+pub record Ahead (n : List ℕ) (cur : Cursor) (r : Option RowAhead) : Type 0 where
+  pub over : r ≡ None → left n cur ≡ []
+  pub row : (a : RowAhead) → r ≡ Some a → Here n cur a
 
 -- the run of `head` that has come to the cursor goes on up to r.seen, and the next begins there
-pub record RunEnds (o : Outline) (n : List ℕ) (cur : Cursor) (head : ℕ) (r : RowAhead) : Type 0 where
+pub record RunEnds (o : Outline) (n : List ℕ) (cur : Cursor) (head : ℕ) (r : RunEnd) : Type 0 where
   pub run : (start : ℕ)
       → pieces (o.same_group cur.l.0) head start (cur.seen - start_of cur) (left n cur)
       ≡ record { head = head; start = start; end = r.seen - start_of cur } ∷ runs o n (moved cur r.seen r.next)
@@ -175,9 +175,13 @@ behind cur r = record {
   next = r.next;
 }
 
-pub record Came (o : Outline) (n : List ℕ) (cur : Cursor) (r : Next) : Type 0 where
-  pub ended : r.more ≡ false → coming o n cur ≡ []
-  pub came : r.more ≡ true → coming o n cur ≡ context_by (context_in cur r) ∷ coming o n (behind cur r)
-  pub sound : r.more ≡ true → Sound o (context_by (context_in cur r))
-  pub still : r.more ≡ true → Going o n (behind cur r)
-  pub small : r.more ≡ true → r.row.0 < 4096
+-- r is the next, and the cursor can go on behind it
+pub record Given (o : Outline) (n : List ℕ) (cur : Cursor) (r : Next) : Type 0 where
+  pub came : coming o n cur ≡ context_by (context_in cur r) ∷ coming o n (behind cur r)
+  pub sound : Sound o (context_by (context_in cur r))
+  pub still : Going o n (behind cur r)
+  pub small : r.row.0 < 4096
+
+pub record Came (o : Outline) (n : List ℕ) (cur : Cursor) (r : Option Next) : Type 0 where
+  pub ended : r ≡ None → coming o n cur ≡ []
+  pub given : (a : Next) → r ≡ Some a → Given o n cur a

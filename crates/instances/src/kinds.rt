@@ -1,7 +1,6 @@
 // The instances of a loop by its kind: none, the context itself, or a list of rows.
 ghost use Rattle.std.specs.Prelude.{◌≡◌, false, ◌<◌};
 ghost use Rattle.nest.specs.Lists.{once, is};
-ghost use Rattle.spec.specs.Answers.{number_of};
 ghost use Rattle.plan.specs.Answers.{instances_of};
 ghost use Rattle.nest.specs.Found.{found_by};
 ghost use Rattle.nest.specs.OfJob.{kind_in};
@@ -18,9 +17,8 @@ use crate::Cursor;
 use crate::rows::moved;
 use crate::stretch::narrowed;
 use due::shown;
-use nest::Found;
 use plan::answers::Instances;
-use spec::ids::{LoopId, Number, TableId};
+use spec::ids::{LoopId, RowId, TableId};
 use walk::Context;
 
 // No instance.
@@ -74,35 +72,35 @@ fn is_plain(job: &[u8], index: &[u16], t: TableId) -> bool
 }
 
 // The row of table t in context c; no table past 16 has one.
-fn row_of(c: Context, t: TableId) -> Found
+fn row_of(c: Context, t: TableId) -> Option<RowId>
     ensures { result ≡ found_by ((context_by c).row t.0) }
 {
     if t.0 < 16 {
         return walk::row_in(c, t);
     }
-    Found::Nothing
+    None
 }
 
-// The row that the rows of table t hang on in context c, plus one; 0 where the table has no parent.
-fn above_in(job: &[u8], index: &[u16], t: TableId, c: Context) -> Number
+// The row that the rows of table t hang on in context c, plus one, as in a cursor; 0 where the table has no parent.
+fn above_in(job: &[u8], index: &[u16], t: TableId, c: Context) -> Option<u32>
     requires { Ready job.now index.now × Sound (outline_at job.now) (context_by c) }
-    ensures { number_of result ≡ above_in (outline_at job.now) t.0 (context_by c) }
+    ensures { result ≡ above_in (outline_at job.now) t.0 (context_by c) }
 {
     let parent = spec::tables::table_parent(job, index, t);
     match parent {
-        Number::Is(u) => {
+        Some(u) => {
             let found = row_of(c, TableId(u));
             match found {
-                Found::Row(p) => {
-                    return Number::Is(p.0 + 1);
+                Some(p) => {
+                    return Some(p.0 + 1);
                 }
-                Found::Nothing => {
-                    return Number::None;
+                None => {
+                    return None;
                 }
             }
         }
-        Number::None => {
-            return Number::Is(0);
+        None => {
+            return Some(0);
         }
     }
 }
@@ -142,10 +140,10 @@ fn own_parent(job: &[u8], index: &[u16], t: TableId) -> bool
 {
     let parent = spec::tables::table_parent(job, index, t);
     match parent {
-        Number::Is(u) => {
+        Some(u) => {
             return t.0 == u;
         }
-        Number::None => {
+        None => {
             return false;
         }
     }
@@ -168,10 +166,10 @@ fn from_run(job: &[u8], index: &[u16], all: Cursor) -> Cursor
     }
     let head = row_of(c, t);
     match head {
-        Found::Row(r) => {
+        Some(r) => {
             return moved(all, start, r.0 as usize);
         }
-        Found::Nothing => {
+        None => {
             return all;
         }
     }
@@ -194,12 +192,12 @@ fn listed(
     if plain {
         let above = above_in(job, index, t, c);
         match above {
-            Number::Is(a) => {
+            Some(a) => {
                 let all = all_rows(job, index, kind, l, t, c, a);
                 let run = from_run(job, index, all);
                 return narrowed(job, index, nest, run);
             }
-            Number::None => {
+            None => {
                 return no_instance(l, c);
             }
         }
@@ -214,14 +212,14 @@ fn inside_itself(job: &[u8], index: &[u16], l: LoopId, t: TableId, c: Context) -
 {
     let found = row_of(c, t);
     match found {
-        Found::Row(r) => {
+        Some(r) => {
             let is = shown(job, index, l, t, r);
             if is {
                 return context_itself(l, c);
             }
             return no_instance(l, c);
         }
-        Found::Nothing => {
+        None => {
             return no_instance(l, c);
         }
     }

@@ -11,7 +11,7 @@ ghost use Rattle.instances.specs.Cursor.{coming, context_in, Came, Going};
 
 use crate::kinds::{by_children, by_kind, context_itself, no_instance};
 use crate::pieces::next_piece;
-use crate::rows::{ended, next_of_rows};
+use crate::rows::next_of_rows;
 use spec::ids::{LoopId, RowId, TableId};
 use walk::Context;
 
@@ -23,6 +23,7 @@ mod stretch;
 // The instances still to come of loop l in a context. Kind 0: none; 1: one, in the context itself; 2: one in each row that is left of the table;
 // 3: one in each run of those. Left are the rows from `next` on, below `rows`, that hang on the row `above` less one, or all where it is 0, as far as
 // the context's run has them; `seen` of them stood before. The numbers of the table's rows start at `base` in nest's array.
+// `above` is no Option: it is compared with nest's numbers, which are rows plus one, or 0.
 #[derive(Clone, Copy)]
 pub struct Cursor {
     pub context: Context,
@@ -36,11 +37,10 @@ pub struct Cursor {
     pub table: TableId,
 }
 
-// The next instance, if there is one: its row, or the first row of its run, and how many of the parent's list stand before the run. Behind it the cursor is
+// The next instance: its row, or the first row of its run, and how many of the parent's list stand before the run. Behind it the cursor is
 // of this kind, and stands at `seen` and `next`.
 #[derive(Clone, Copy)]
 pub struct Next {
-    pub more: bool,
     pub kind: u32,
     pub row: RowId,
     pub start: usize,
@@ -66,22 +66,21 @@ pub fn context_in(cur: Cursor, at: Next) -> Context
 }
 
 // The next of the instances still to come.
-pub fn next_instance(job: &[u8], index: &[u16], nest: &[u32], cur: Cursor) -> Next
+pub fn next_instance(job: &[u8], index: &[u16], nest: &[u32], cur: Cursor) -> Option<Next>
     requires { Nested job.now index.now nest.now × Going (outline_at job.now) nest.now cur }
     ensures { Came (outline_at job.now) nest.now cur result }
 {
     if cur.kind == 0 {
-        return ended();
+        return None;
     }
     if cur.kind == 1 {
-        return Next {
-            more: true,
+        return Some(Next {
             kind: 0,
             row: RowId(0),
             start: 0,
             seen: 0,
             next: 0,
-        };
+        });
     }
     if cur.kind == 2 {
         return next_of_rows(nest, cur);
@@ -101,20 +100,17 @@ fn has_instance(job: &[u8], index: &[u16], nest: &[u32], l: LoopId, c: Context, 
     let implied = by_children(kind);
     if implied {
         let n = spec::loops::child_count(job, index, l);
-        let mut i: u32 = 0;
-        while i < n {
+        for i in 0..n {
             let k = spec::loops::child(job, index, l, i);
             let some = has_instance(job, index, nest, k, c, height - 1);
             if some {
                 return true;
             }
-            i = i + 1;
         }
         return false;
     }
     let cur = by_kind(job, index, nest, kind, l, c);
-    let first = next_instance(job, index, nest, cur);
-    first.more
+    next_instance(job, index, nest, cur).is_some()
 }
 
 // The instances of loop l in context c, looking `height` levels down.

@@ -18,6 +18,7 @@ fn far_enough(nest: &[u32], base: usize, from: usize, rows: usize, above: u32) -
     ensures { Reached nest.now base from rows above result }
 {
     let mut step: usize = 1;
+    // No `for`: the step doubles.
     while step < rows - from {
         let at = from + step;
         let i = (base + at) * 3;

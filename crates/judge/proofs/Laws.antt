@@ -18,9 +18,10 @@ use Rattle.paths.specs.Tests.{condition1, condition3, condition4}
 use Rattle.paths.specs.Entries.{Entries4, Orders}
 use Rattle.paths.proofs.Walks.{conditions_walk, walk_conditions}
 use Rattle.places.specs.Fits.{Fits5}
-use Rattle.judge.specs.declared.Plan.{Plan}
-use Rattle.judge.specs.declared.Plan.TheVariants as P
-use Rattle.judge.specs.Judged.{number_of, Judged}
+use Rattle.std.specs.Prelude.{Result, Ok, Err}
+use Rattle.refusal.specs.declared.Refusal.{Refusal}
+use Rattle.refusal.specs.Answer.{number}
+use Rattle.judge.specs.Judged.{Judged}
 
 -- ---- conditions 1 to 4, by the answers to each
 
@@ -68,24 +69,23 @@ by_places j r e w d = (
 
 -- ---- the answer
 
-abbrev is_yes : Plan → Bool
-is_yes P.Complete = true
-is_yes P.Incomplete = false
-is_yes P.Size = false
-is_yes P.Structure = false
-is_yes P.Limit = false
-is_yes P.Loops = false
-is_yes P.Text = false
+-- what a job that has a plan to judge is told
+told : Result Bool Refusal → Bool
+told (Ok x) = x
+told (Err r) = true
 
-pub judged_yes : (b : List ℕ) → refusal_of b ≡ 0 → CompletePlan (job_of b) → Judged b P.Complete
-judged_yes b h c = record { number = sym h; yes = λ e. c; no = λ e. absurd (true≢false (ap is_yes e)) }
+is_told : Result Bool Refusal → ℕ
+is_told (Ok x) = 0
+is_told (Err r) = 1
 
-pub judged_no : (b : List ℕ) → refusal_of b ≡ 0 → (CompletePlan (job_of b) → ⊥) → Judged b P.Incomplete
-judged_no b h n = record { number = sym h; yes = λ e. absurd (true≢false (sym (ap is_yes e))); no = λ e. n }
+pub judged_ok : (b : List ℕ) (x : Bool) → refusal_of b ≡ 0 → Decides x (CompletePlan (job_of b)) → Judged b (Ok x)
+unfolding told
+judged_ok b x h d = record { number = sym h; yes = λ e. d.0 (ap told e); no = λ e. d.1 (ap told e) }
 
-pub judged_refused : (b : List ℕ) (a : Plan) (k : ℕ) → number_of a ≡ suc k → refusal_of b ≡ suc k → Judged b a
-judged_refused b a k n h = record {
-  number = n ∙ sym h;
-  yes = λ e. let z : ⊥ = omega (arith, n, ap number_of e) in absurd z;
-  no = λ e. let z : ⊥ = omega (arith, n, ap number_of e) in absurd z;
+pub judged_refused : (b : List ℕ) (r : Refusal) → number r ≡ refusal_of b → Judged b (Err r)
+unfolding is_told
+judged_refused b r h = record {
+  number = h;
+  yes = λ e. let z : ◌≡◌ {A = ℕ} 1 0 = ap is_told e in absurd (omega arith);
+  no = λ e. let z : ◌≡◌ {A = ℕ} 1 0 = ap is_told e in absurd (omega arith);
 }

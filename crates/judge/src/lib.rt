@@ -12,27 +12,13 @@ ghost use Rattle.judge.specs.Judged.{Judged};
 use index::fill_index;
 use paths::{orders_fit, paths_fit, repeats_fit, rows_fit};
 use places::places_fit;
-use refusal::Checked;
+use refusal::Refusal;
 
-// Yes, no, or the refusal of a job that has none to judge.
-#[derive(Clone, Copy)]
-pub enum Plan {
-    Complete,
-    Incomplete,
-    Size,
-    Structure,
-    Limit,
-    Loops,
-    Text,
-}
-
-fn both(x: bool, y: bool) -> bool
-    ensures { result ≡ x && y }
+// Conditions 1 to 4 together.
+fn all_four(one: bool, two: bool, three: bool, four: bool) -> bool
+    ensures { result ≡ one && (two && (three && four)) }
 {
-    if x {
-        return y;
-    }
-    false
+    one && two && three && four
 }
 
 // The five conditions, of a job that passed. The fifth asks for the second's entries.
@@ -44,38 +30,24 @@ fn fits(job: &[u8], index: &[u16]) -> bool
     let two = orders_fit(job, index);
     let three = paths_fit(job, index);
     let four = repeats_fit(job, index);
-    let walked = both(one, both(two, both(three, four)));
-    if walked {
-        return places_fit(job, index);
-    }
-    false
+    let walked = all_four(one, two, three, four);
+    walked && places_fit(job, index)
 }
 
 // Of a job that no refusal from 1 to 5 applies to.
-fn judged(job: &[u8]) -> Plan
+fn judged(job: &[u8]) -> bool
     requires { refusal_of job.now ≡ 0 }
-    ensures { Judged job.now result }
+    ensures { Decides result (CompletePlan (job_of job.now)) }
 {
     let mut index = [0u16; 10752];
     fill_index(job, &mut index);
-    let complete = fits(job, &index);
-    if complete {
-        return Plan::Complete;
-    }
-    Plan::Incomplete
+    fits(job, &index)
 }
 
-// Whether the plan of a job is complete, for every byte string.
-pub fn judge(job: &[u8]) -> Plan
+// Whether the plan of a job is complete, for every byte string; or why the job has none to judge.
+pub fn judge(job: &[u8]) -> Result<bool, Refusal>
     ensures { Judged job.now result }
 {
-    let checked = refusal::check(job);
-    match checked {
-        Checked::Job => judged(job),
-        Checked::Size => Plan::Size,
-        Checked::Structure => Plan::Structure,
-        Checked::Limit => Plan::Limit,
-        Checked::Loops => Plan::Loops,
-        Checked::Text => Plan::Text,
-    }
+    refusal::check(job)?;
+    Ok(judged(job))
 }

@@ -18,7 +18,7 @@ sets_past d p [] h = refl
 sets_past d p (b ∷ bs) h = rw (set_out d p b h) (sets_past d (suc p) bs (omega arith))
 
 -- xs ++ bs: xs, and then bs behind it
-pub sets_append : (d : List ℕ) (p : ℕ) (xs bs : List ℕ) → sets (sets d p xs) (p + length xs) bs ≡ sets d p (xs ++ bs)
+pub sets_append : {A : Type 0} (d : List A) (p : ℕ) (xs bs : List A) → sets (sets d p xs) (p + length xs) bs ≡ sets d p (xs ++ bs)
 sets_append d p [] bs = rw add-zero
 sets_append d p (a ∷ xs) bs = let e : p + suc (length xs) ≡ suc p + length xs = omega arith in rw e (sets_append (set d p a) (suc p) xs bs)
 
@@ -114,13 +114,18 @@ pub stored_small : {k : ℕ} {d d₁ : List ℕ} {at p : ℕ} (a : List ℕ) →
 stored_small {k} {d} {d₁} {at} {p} a s = rw s.counted (omega arith)
 
 -- one more item of a run
-pub sets_snoc : (d : List ℕ) (p : ℕ) (xs : List ℕ) (n b : ℕ) → length xs ≡ n → set (sets d p xs) (p + n) b ≡ sets d p (xs ++ (b ∷ []))
+pub sets_snoc : {A : Type 0} (d : List A) (p : ℕ) (xs : List A) (n : ℕ) (b : A) → length xs ≡ n → set (sets d p xs) (p + n) b ≡ sets d p (xs ++ (b ∷ []))
 sets_snoc d p xs n b e = rw (← e) (sets_append d p xs (b ∷ []))
 
 -- a turn of a loop that stores the list xs item by item
+pub sets_next : {A : Type 0} (z : A) (d : List A) (p : ℕ) (xs : List A) (i : ℕ) {e : List A} {v : A} → e ≡ sets d p (take i xs) → i < length xs → v ≡ get_or xs i z
+    → set e (p + i) v ≡ sets d p (take (i + 1) xs)
+sets_next z d p xs i {e} {v} s h q = rw (add-one, take-suc xs i z, s, q) (sets_snoc d p (take i xs) i (get_or xs i z) (rw length-take (omega arith)))
+
+-- the same of numbers
 pub sets_turn : (d : List ℕ) (p : ℕ) (xs : List ℕ) (i : ℕ) {e : List ℕ} {v : ℕ} → e ≡ sets d p (take i xs) → i < length xs → v ≡ get_or xs i 0
     → set e (p + i) v ≡ sets d p (take (i + 1) xs)
-sets_turn d p xs i {e} {v} s h q = rw (add-one, take-suc xs i 0, s, q) (sets_snoc d p (take i xs) i (get_or xs i 0) (rw length-take (omega arith)))
+sets_turn = sets_next 0
 
 -- so many as fit are as good as all
 pub fits_take : (d : List ℕ) (p : ℕ) (ys : List ℕ) (len k : ℕ) → k ≡ min (length (take len ys)) (length d - p) → sets d p (take k ys) ≡ sets d p (take len ys)
@@ -162,10 +167,6 @@ drop_min l m = go (leb (length l) m) refl
     go : (t : Bool) → leb (length l) m ≡ t → drop (min (length l) m) l ≡ drop m l
     go true e = let q : length l ≤ m = leb-true _ _ e in rw (min-eq_left q, drop_of_length-le l q, drop_of_length-le l (le_refl (length l)))
     go false e = let q : m < length l = leb-false _ _ e in rw (min-eq_right (le_of_lt q))
-
--- so many of ten numbers fit in the list and are there
-pub fits_both : (count n before len k : ℕ) → n ≡ min count (10 - 0) → k ≡ min (n - before) len → (k ≤ len) × (k ≤ 10 - before)
-fits_both count n before len k e f = (omega arith, omega arith)
 
 pub sized : (ys : List ℕ) (count n : ℕ) → n ≡ min count (10 - 0) → length ys ≡ 10 → n ≡ length (take count ys)
 sized ys count n e l = let q : length (take count ys) ≡ min count (length ys) = length-take count ys in omega arith

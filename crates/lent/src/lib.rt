@@ -1,7 +1,7 @@
 // Storing into a lent list: everything is counted, and stored as far as it fits.
 #![tactic(auto)]
 
-ghost use Rattle.std.specs.Prelude.{◌≡◌, [], ◌∷◌, ◌+◌, ◌-◌, ◌≤◌, ◌<◌, min, length, take, replicate};
+ghost use Rattle.std.specs.Prelude.{◌≡◌, [], ◌∷◌, ◌+◌, ◌-◌, ◌≤◌, ◌<◌, min, length, take, drop, replicate};
 ghost use Rattle.std.proofs.lemmas.List.Edits.{sets};
 ghost use Rattle.lent.specs.Fit.{more, stretch, base, Stored, Noted};
 
@@ -9,25 +9,14 @@ ghost use Rattle.lent.specs.Fit.{more, stretch, base, Stored, Noted};
 pub fn more(at: usize, n: usize) -> usize
     ensures { result ≡ more at n }
 {
-    if at < 9223372036854775808 {
-        if n < 9223372036854775808 - at {
-            return at + n;
-        }
-    }
-    9223372036854775808
+    at.saturating_add(n).min(9223372036854775808)
 }
 
 // How many of n items fit from `at` on.
 pub fn fitting(len: usize, at: usize, n: usize) -> usize
     ensures { result ≡ min n (len - at) }
 {
-    if len <= at {
-        return 0;
-    }
-    if n <= len - at {
-        return n;
-    }
-    len - at
+    n.min(len.saturating_sub(at))
 }
 
 // How many bytes of `len` a source has from `start` on.
@@ -52,32 +41,17 @@ fn fill(d: &mut [u8], at: usize, b: u8, n: usize)
     requires { n ≤ length d.old - at }
     ensures { d.new ≡ sets d.old at (replicate n b) }
 {
-    let mut i = 0;
-    while i < n {
+    for i in 0..n {
         d[at + i] = b;
-        i += 1;
     }
 }
 
-fn copy(d: &mut [u8], at: usize, source: &[u8], start: usize, n: usize)
+fn copy<T: Copy>(d: &mut [T], at: usize, source: &[T], start: usize, n: usize)
     requires { (n ≤ length d.old - at) × (n ≤ length source.now - start) }
-    ensures { d.new ≡ sets d.old at (stretch source.now start n) }
+    ensures { d.new ≡ sets d.old at (take n (drop start source.now)) }
 {
-    let mut i = 0;
-    while i < n {
+    for i in 0..n {
         d[at + i] = source[start + i];
-        i += 1;
-    }
-}
-
-fn copy_words(d: &mut [u64], at: usize, words: [u64; 10], start: usize, n: usize)
-    requires { (n ≤ length d.old - at) × (n ≤ 10 - start) }
-    ensures { d.new ≡ sets d.old at (stretch words start n) }
-{
-    let mut i = 0;
-    while i < n {
-        d[at + i] = words[start + i];
-        i += 1;
     }
 }
 
@@ -112,7 +86,7 @@ pub fn put_words(d: &mut [u64], at: usize, words: [u64; 10], count: usize) -> us
 {
     let n = fitting(10, 0, count);
     let fits = fitting(d.len(), at, n);
-    copy_words(d, at, words, 0, fits);
+    copy(d, at, &words, 0, fits);
     more(at, n)
 }
 
@@ -120,10 +94,7 @@ pub fn put_words(d: &mut [u64], at: usize, words: [u64; 10], count: usize) -> us
 pub fn in_window(at: usize) -> usize
     ensures { result ≡ at - base }
 {
-    if at < 4611686018427387904 {
-        return 0;
-    }
-    at - 4611686018427387904
+    at.saturating_sub(4611686018427387904)
 }
 
 // The first `count` numbers of a finding, at most ten: those that lie in the window.
@@ -134,6 +105,6 @@ pub fn note_words(d: &mut [u64], at: usize, words: [u64; 10], count: usize) -> u
     let before = fitting(4611686018427387904, at, all);
     let start = in_window(at);
     let fits = fitting(d.len(), start, all - before);
-    copy_words(d, start, words, before, fits);
+    copy(d, start, &words, before, fits);
     more(at, all)
 }

@@ -1,5 +1,6 @@
 -- Parts of document 01's limits that have no name of their own.
-use Rattle.std.specs.Prelude.{List, [], ◌∷◌, Bool, ltb}
+use Rattle.std.specs.Prelude.{ℕ, ◌≡◌, List, [], ◌∷◌, Bool, true, false, ltb, Option, Some, None}
+use Rattle.limits.specs.declared.Parts.{Parts as Kept}
 use Rattle.codec.specs.Limits.{any, any_of}
 use Rattle.format.specs.Layout.{Layout}
 use Rattle.format.specs.Data.{TableData}
@@ -10,3 +11,8 @@ over_layout l = any_of large l.capacity
 
 abbrev pub over_tables : List TableData → Bool
 over_tables d = any (ltb 4096 (rows_of_all d) ∷ any_of over_table_data d ∷ [])
+
+-- where nothing is over, the places of roots and tables
+abbrev pub ClearParts : Option Kept → Bool → ℕ → ℕ → Type 0
+ClearParts None t r s = t ≡ true
+ClearParts (Some p) t r s = (t ≡ false) × (p.roots ≡ r) × (p.tables ≡ s)

@@ -14,517 +14,356 @@ ghost use Rattle.format.specs.Refusal.{large, over, over_component, over_control
 ghost use Rattle.format.specs.Plan.{element_plan_c, loop_plan_c, segment_plan_c};
 ghost use Rattle.format.specs.Data.{table_data_c};
 ghost use Rattle.format.specs.Sections.{broken, job_of, plan_start, spoilt};
-ghost use Rattle.says.specs.Says.{Says, Passes};
-ghost use Rattle.limits.specs.Parts.{over_layout, over_tables};
+ghost use Rattle.says.specs.Says.{Says, Clears};
+ghost use Rattle.limits.specs.Parts.{over_layout, over_tables, ClearParts};
 
-use says::Told;
+use codec::forms::{Bytes, Flag, Items, Le, Les, NumMap, Opt};
+use codec::{Form, Section};
+use format::{
+    Column, Component, Control, Element, ElementPlan, Filler, Instances, Item, Kind, Loop,
+    LoopPlan, Repeat, SegmentPlan, Source, Table, Version,
+};
 
-// Whether a limit is passed, and where roots and tables of the spec stand, which is right where none is.
+// Where roots and tables of the spec stand.
 #[derive(Clone, Copy)]
 pub struct Parts {
-    pub found: bool,
     pub roots: usize,
     pub tables: usize,
 }
 
 // ---- spec
 
-fn large_at(b: &[u8], at: usize, end: u32) -> bool
-    requires { end ≤ length b.now }
-    ensures { Says num_c b.now end at large result }
+fn large_at(s: Section, at: usize) -> bool
+    ensures { Says num_c s.entry.bytes.now s.entry.end at large result }
 {
-    255 < codec::count_at(b, at, end)
+    255 < s.count_at(at)
 }
 
-fn opt_large_at(b: &[u8], at: usize, end: u32) -> bool
-    requires { end ≤ length b.now }
-    ensures { Says (opt_c num_c) b.now end at (if_some large) result }
+fn opt_large_at(s: Section, at: usize) -> bool
+    ensures { Says (opt_c num_c) s.entry.bytes.now s.entry.end at (if_some large) result }
 {
-    if codec::tag_at(b, at, end) == 1 {
-        let p = codec::le_at(b, 1, at, end);
-        return large_at(b, p, end);
-    }
-    false
+    says::lists::opt_at::<Le<4>, _>(s, at, |p| large_at(s, p))
 }
 
-fn larges_at(b: &[u8], at: usize, end: u32) -> bool
-    requires { end ≤ length b.now }
-    ensures { Says (list_c num_c) b.now end at (any_of large) result }
+fn larges_at(s: Section, at: usize) -> bool
+    ensures { Says (list_c num_c) s.entry.bytes.now s.entry.end at (any_of large) result }
 {
-    let mut left = codec::count_at(b, at, end);
-    let mut p = codec::le_at(b, 4, at, end);
-    while 0 < left {
-        if large_at(b, p, end) {
-            return true;
-        }
-        p = codec::le_at(b, 4, p, end);
-        left = left - 1;
-    }
-    false
+    says::lists::any_at::<Le<4>, _>(s, at, |p| large_at(s, p))
 }
 
-fn control_over(b: &[u8], at: usize, end: u32) -> bool
-    requires { end ≤ length b.now }
-    ensures { Says control_c b.now end at over_control result }
+fn control_over(s: Section, at: usize) -> bool
+    ensures { Says control_c s.entry.bytes.now s.entry.end at over_control result }
 {
-    let closer = codec::le_at(b, 4, at, end);
-    let count = codec::le_at(b, 4, closer, end);
-    let x = large_at(b, at, end);
-    let y = large_at(b, closer, end);
-    let z = large_at(b, count, end);
+    let closer = s.le_at(4, at);
+    let count = s.le_at(4, closer);
+    let x = large_at(s, at);
+    let y = large_at(s, closer);
+    let z = large_at(s, count);
     codec::either(x, codec::either(y, z))
 }
 
-fn opt_control_over(b: &[u8], at: usize, end: u32) -> bool
-    requires { end ≤ length b.now }
-    ensures { Says (opt_c control_c) b.now end at (if_some over_control) result }
+fn opt_control_over(s: Section, at: usize) -> bool
+    ensures { Says (opt_c control_c) s.entry.bytes.now s.entry.end at (if_some over_control) result }
 {
-    if codec::tag_at(b, at, end) == 1 {
-        let p = codec::le_at(b, 1, at, end);
-        return control_over(b, p, end);
-    }
-    false
+    says::lists::opt_at::<Control, _>(s, at, |p| control_over(s, p))
 }
 
-fn loop_over(b: &[u8], at: usize, end: u32) -> Told
-    requires { end ≤ length b.now }
-    ensures { Passes loop_c b.now end at over_loop result.found result.next }
+fn loop_over(s: Section, at: usize) -> Option<usize>
+    ensures { Clears loop_c s.entry.bytes.now s.entry.end at over_loop result }
 {
-    let parent = codec::opt_num_at(b, at, end);
-    let trigger = codec::bytes_at(b, parent, end);
-    let occurrences = codec::strings_at(b, trigger, end);
-    let usage = codec::case_at(b, 2, occurrences, end);
-    let last = codec::opt_bytes_at(b, usage, end);
-    let control = format::opt_control_at(b, last, end);
-    let x = 32 < codec::count_at(b, trigger, end);
-    let y = opt_control_over(b, last, end);
-    let found = codec::either(x, y);
-    let next = codec::les_at(b, 4, control, end);
-    Told {
-        found: found,
-        next: next,
+    let parent = s.opt_num_at(at);
+    let trigger = s.bytes_at(parent);
+    let occurrences = Items::<Bytes>::ends_at(s, trigger);
+    let usage = s.case_at(2, occurrences);
+    let last = s.opt_bytes_at(usage);
+    let control = Opt::<Control>::ends_at(s, last);
+    if 32 < s.count_at(trigger) {
+        return None;
     }
+    if opt_control_over(s, last) {
+        return None;
+    }
+    Some(s.les_at(4, control))
 }
 
-fn loops_over(b: &[u8], at: usize, end: u32) -> Told
-    requires { end ≤ length b.now }
-    ensures { Passes (list_c loop_c) b.now end at (any_of over_loop) result.found result.next }
+fn loops_over(s: Section, at: usize) -> Option<usize>
+    ensures { Clears (list_c loop_c) s.entry.bytes.now s.entry.end at (any_of over_loop) result }
 {
-    let mut left = codec::count_at(b, at, end);
-    let mut p = codec::le_at(b, 4, at, end);
-    while 0 < left {
-        let t = loop_over(b, p, end);
-        if t.found {
-            // what lies behind is not asked for
-            return Told {
-                found: true,
-                next: end as usize + 1,
-            };
-        }
-        p = t.next;
-        left = left - 1;
-    }
-    Told {
-        found: false,
-        next: p,
-    }
+    says::lists::list_clear::<Loop, _>(s, at, |p| loop_over(s, p))
 }
 
 // A component and its number.
-fn component_over(b: &[u8], at: usize, end: u32) -> Told
-    requires { end ≤ length b.now }
-    ensures { Passes (num_c ⊗ component_c) b.now end at over_component result.found result.next }
+fn component_over(s: Section, at: usize) -> Option<usize>
+    ensures { Clears (num_c ⊗ component_c) s.entry.bytes.now s.entry.end at over_component result }
 {
-    let value = codec::le_at(b, 4, at, end);
-    let kind = format::kind_at(b, value, end);
-    let min = codec::opt_num_at(b, kind, end);
-    let max = codec::opt_num_at(b, min, end);
-    let x = large_at(b, at, end);
-    let y = opt_large_at(b, kind, end);
-    let found = codec::either(x, y);
-    let next = codec::strings_at(b, max, end);
-    Told {
-        found: found,
-        next: next,
+    let value = s.le_at(4, at);
+    let kind = Kind::ends_at(s, value);
+    let min = s.opt_num_at(kind);
+    let max = s.opt_num_at(min);
+    if large_at(s, at) {
+        return None;
     }
+    if opt_large_at(s, kind) {
+        return None;
+    }
+    Some(Items::<Bytes>::ends_at(s, max))
 }
 
-fn components_over(b: &[u8], at: usize, end: u32) -> Told
-    requires { end ≤ length b.now }
-    ensures { Passes (list_c (num_c ⊗ component_c)) b.now end at (any_of over_component) result.found result.next }
+fn components_over(s: Section, at: usize) -> Option<usize>
+    ensures { Clears (list_c (num_c ⊗ component_c)) s.entry.bytes.now s.entry.end at (any_of over_component) result }
 {
-    let mut left = codec::count_at(b, at, end);
-    let mut p = codec::le_at(b, 4, at, end);
-    while 0 < left {
-        let t = component_over(b, p, end);
-        if t.found {
-            return t;
-        }
-        p = t.next;
-        left = left - 1;
-    }
-    Told {
-        found: false,
-        next: p,
-    }
+    says::lists::list_clear::<(Le<4>, Component), _>(s, at, |p| component_over(s, p))
 }
 
 // An element and its number.
-fn element_over(b: &[u8], at: usize, end: u32) -> Told
-    requires { end ≤ length b.now }
-    ensures { Passes (num_c ⊗ element_c) b.now end at over_element result.found result.next }
+fn element_over(s: Section, at: usize) -> Option<usize>
+    ensures { Clears (num_c ⊗ element_c) s.entry.bytes.now s.entry.end at over_element result }
 {
-    let value = codec::le_at(b, 4, at, end);
-    let kind = format::kind_at(b, value, end);
-    let min = codec::opt_num_at(b, kind, end);
-    let max = codec::opt_num_at(b, min, end);
-    let x = large_at(b, at, end);
-    let y = opt_large_at(b, kind, end);
-    let z = components_over(b, max, end);
-    let found = codec::either(x, codec::either(y, z.found));
-    let next = codec::strings_at(b, z.next, end);
-    Told {
-        found: found,
-        next: next,
+    let value = s.le_at(4, at);
+    let kind = Kind::ends_at(s, value);
+    let min = s.opt_num_at(kind);
+    let max = s.opt_num_at(min);
+    if large_at(s, at) {
+        return None;
     }
+    if opt_large_at(s, kind) {
+        return None;
+    }
+    let codes = components_over(s, max)?;
+    Some(Items::<Bytes>::ends_at(s, codes))
 }
 
-fn elements_over(b: &[u8], at: usize, end: u32) -> Told
-    requires { end ≤ length b.now }
-    ensures { Passes (list_c (num_c ⊗ element_c)) b.now end at (any_of over_element) result.found result.next }
+fn elements_over(s: Section, at: usize) -> Option<usize>
+    ensures { Clears (list_c (num_c ⊗ element_c)) s.entry.bytes.now s.entry.end at (any_of over_element) result }
 {
-    let mut left = codec::count_at(b, at, end);
-    let mut p = codec::le_at(b, 4, at, end);
-    while 0 < left {
-        let t = element_over(b, p, end);
-        if t.found {
-            return t;
-        }
-        p = t.next;
-        left = left - 1;
-    }
-    Told {
-        found: false,
-        next: p,
-    }
+    says::lists::list_clear::<(Le<4>, Element), _>(s, at, |p| element_over(s, p))
 }
 
 // A segment and its identifier.
-fn segment_over(b: &[u8], at: usize, end: u32) -> Told
-    requires { end ≤ length b.now }
-    ensures { Passes (bytes_c ⊗ segment_c) b.now end at over_segment result.found result.next }
+fn segment_over(s: Section, at: usize) -> Option<usize>
+    ensures { Clears (bytes_c ⊗ segment_c) s.entry.bytes.now s.entry.end at over_segment result }
 {
-    let value = codec::bytes_at(b, at, end);
-    elements_over(b, value, end)
+    let value = s.bytes_at(at);
+    elements_over(s, value)
 }
 
-fn segments_over(b: &[u8], at: usize, end: u32) -> Told
-    requires { end ≤ length b.now }
-    ensures { Passes (list_c (bytes_c ⊗ segment_c)) b.now end at (any_of over_segment) result.found result.next }
+fn segments_over(s: Section, at: usize) -> Option<usize>
+    ensures { Clears (list_c (bytes_c ⊗ segment_c)) s.entry.bytes.now s.entry.end at (any_of over_segment) result }
 {
-    let mut left = codec::count_at(b, at, end);
-    let mut p = codec::le_at(b, 4, at, end);
-    while 0 < left {
-        let t = segment_over(b, p, end);
-        if t.found {
-            // what lies behind is not asked for
-            return Told {
-                found: true,
-                next: end as usize + 1,
-            };
-        }
-        p = t.next;
-        left = left - 1;
-    }
-    Told {
-        found: false,
-        next: p,
-    }
+    says::lists::list_clear::<(Bytes, NumMap<Element>), _>(s, at, |p| segment_over(s, p))
 }
 
-fn step_over(b: &[u8], at: usize, end: u32) -> bool
-    requires { end ≤ length b.now }
-    ensures { Says repeat_c b.now end at over_step result }
+fn step_over(s: Section, at: usize) -> bool
+    ensures { Says repeat_c s.entry.bytes.now s.entry.end at over_step result }
 {
-    let step = codec::le_at(b, 4, at, end);
-    large_at(b, step, end)
+    let step = s.le_at(4, at);
+    large_at(s, step)
 }
 
-fn opt_step_over(b: &[u8], at: usize, end: u32) -> bool
-    requires { end ≤ length b.now }
-    ensures { Says (opt_c repeat_c) b.now end at (if_some over_step) result }
+fn opt_step_over(s: Section, at: usize) -> bool
+    ensures { Says (opt_c repeat_c) s.entry.bytes.now s.entry.end at (if_some over_step) result }
 {
-    if codec::tag_at(b, at, end) == 1 {
-        let p = codec::le_at(b, 1, at, end);
-        return step_over(b, p, end);
-    }
-    false
+    says::lists::opt_at::<Repeat, _>(s, at, |p| step_over(s, p))
 }
 
-fn table_over(b: &[u8], at: usize, end: u32) -> Told
-    requires { end ≤ length b.now }
-    ensures { Passes table_c b.now end at over_table result.found result.next }
+fn table_over(s: Section, at: usize) -> Option<usize>
+    ensures { Clears table_c s.entry.bytes.now s.entry.end at over_table result }
 {
-    let loops = codec::les_at(b, 4, at, end);
-    let segment = codec::case_at(b, 2, loops, end);
-    let repeat = format::opt_repeat_at(b, segment, end);
-    let columns = codec::le_at(b, 4, repeat, end);
-    let parent = codec::opt_num_at(b, columns, end);
-    let x = 32 < codec::count_at(b, repeat, end);
-    let y = opt_step_over(b, segment, end);
-    let found = codec::either(x, y);
-    let next = codec::les_at(b, 4, parent, end);
-    Told {
-        found: found,
-        next: next,
+    let loops = s.les_at(4, at);
+    let segment = s.case_at(2, loops);
+    let repeat = Opt::<Repeat>::ends_at(s, segment);
+    let columns = s.le_at(4, repeat);
+    let parent = s.opt_num_at(columns);
+    if 32 < s.count_at(repeat) {
+        return None;
     }
+    if opt_step_over(s, segment) {
+        return None;
+    }
+    Some(s.les_at(4, parent))
 }
 
-fn tables_over(b: &[u8], at: usize, end: u32) -> Told
-    requires { end ≤ length b.now }
-    ensures { Passes (list_c table_c) b.now end at (any_of over_table) result.found result.next }
+fn tables_over(s: Section, at: usize) -> Option<usize>
+    ensures { Clears (list_c table_c) s.entry.bytes.now s.entry.end at (any_of over_table) result }
 {
-    let mut left = codec::count_at(b, at, end);
-    let mut p = codec::le_at(b, 4, at, end);
-    while 0 < left {
-        let t = table_over(b, p, end);
-        if t.found {
-            return t;
-        }
-        p = t.next;
-        left = left - 1;
-    }
-    Told {
-        found: false,
-        next: p,
-    }
+    says::lists::list_clear::<Table, _>(s, at, |p| table_over(s, p))
 }
 
-fn version_over(b: &[u8], at: usize, end: u32) -> bool
-    requires { end ≤ length b.now }
-    ensures { Says version_c b.now end at over_version result }
+fn version_over(s: Section, at: usize) -> bool
+    ensures { Says version_c s.entry.bytes.now s.entry.end at over_version result }
 {
-    let segment = codec::bytes_at(b, at, end);
-    large_at(b, segment, end)
+    let segment = s.bytes_at(at);
+    large_at(s, segment)
 }
 
-fn opt_version_over(b: &[u8], at: usize, end: u32) -> bool
-    requires { end ≤ length b.now }
-    ensures { Says (opt_c version_c) b.now end at (if_some over_version) result }
+fn opt_version_over(s: Section, at: usize) -> bool
+    ensures { Says (opt_c version_c) s.entry.bytes.now s.entry.end at (if_some over_version) result }
 {
-    if codec::tag_at(b, at, end) == 1 {
-        let p = codec::le_at(b, 1, at, end);
-        return version_over(b, p, end);
-    }
-    false
+    says::lists::opt_at::<Version, _>(s, at, |p| version_over(s, p))
 }
 
-fn spec_over(b: &[u8], at: usize, end: u32) -> Parts
-    requires { end ≤ length b.now }
-    ensures { (v : Spec) → Is spec_c b.now end at v → (result.found ≡ over_spec v) × (result.found ≡ false → (result.roots ≡ spec_roots b.now end at) × (result.tables ≡ spec_tables b.now end at)) }
+fn spec_over(s: Section, at: usize) -> Option<Parts>
+    ensures { (v : Spec) → Is spec_c s.entry.bytes.now s.entry.end at v → ClearParts result (over_spec v) (spec_roots s.entry.bytes.now s.entry.end at) (spec_tables s.entry.bytes.now s.entry.end at) }
 {
-    let roots = loops_over(b, at, end);
-    let segments = codec::les_at(b, 4, roots.next, end);
-    let tables = segments_over(b, segments, end);
-    let version = tables_over(b, tables.next, end);
-    let x = 32 < codec::count_at(b, at, end);
-    let y = 16 < codec::count_at(b, tables.next, end);
-    let w = opt_version_over(b, version.next, end);
-    let last = codec::either(y, codec::either(version.found, w));
-    let found = codec::either(
-        x,
-        codec::either(roots.found, codec::either(tables.found, last)),
-    );
-    Parts {
-        found,
-        roots: roots.next,
-        tables: tables.next,
+    if 32 < s.count_at(at) {
+        return None;
     }
+    let roots = loops_over(s, at)?;
+    let segments = s.les_at(4, roots);
+    let tables = segments_over(s, segments)?;
+    if 16 < s.count_at(tables) {
+        return None;
+    }
+    let version = tables_over(s, tables)?;
+    if opt_version_over(s, version) {
+        return None;
+    }
+    Some(Parts { roots, tables })
 }
 
 // ---- plan and layout
 
-fn element_plan_over(b: &[u8], at: usize, end: u32) -> Told
-    requires { end ≤ length b.now }
-    ensures { Passes element_plan_c b.now end at over_element_plan result.found result.next }
+fn element_plan_over(s: Section, at: usize) -> Option<usize>
+    ensures { Clears element_plan_c s.entry.bytes.now s.entry.end at over_element_plan result }
 {
-    let element = codec::le_at(b, 4, at, end);
-    let component = codec::opt_num_at(b, element, end);
-    let x = large_at(b, at, end);
-    let y = opt_large_at(b, element, end);
-    let found = codec::either(x, y);
-    let next = format::value_at(b, component, end);
-    Told {
-        found: found,
-        next: next,
+    let element = s.le_at(4, at);
+    let component = s.opt_num_at(element);
+    if large_at(s, at) {
+        return None;
     }
+    if opt_large_at(s, element) {
+        return None;
+    }
+    Some(Filler::ends_at(s, component))
 }
 
-fn element_plans_over(b: &[u8], at: usize, end: u32) -> Told
-    requires { end ≤ length b.now }
-    ensures { Passes (list_c element_plan_c) b.now end at (any_of over_element_plan) result.found result.next }
+fn element_plans_over(s: Section, at: usize) -> Option<usize>
+    ensures { Clears (list_c element_plan_c) s.entry.bytes.now s.entry.end at (any_of over_element_plan) result }
 {
-    let mut left = codec::count_at(b, at, end);
-    let mut p = codec::le_at(b, 4, at, end);
-    while 0 < left {
-        let t = element_plan_over(b, p, end);
-        if t.found {
-            return t;
-        }
-        p = t.next;
-        left = left - 1;
-    }
-    Told {
-        found: false,
-        next: p,
-    }
+    says::lists::list_clear::<ElementPlan, _>(s, at, |p| element_plan_over(s, p))
 }
 
-fn segment_plan_over(b: &[u8], at: usize, end: u32) -> Told
-    requires { end ≤ length b.now }
-    ensures { Passes segment_plan_c b.now end at over_segment_plan result.found result.next }
+fn segment_plan_over(s: Section, at: usize) -> Option<usize>
+    ensures { Clears segment_plan_c s.entry.bytes.now s.entry.end at over_segment_plan result }
 {
-    let occurrence = codec::le_at(b, 4, at, end);
-    let source = format::source_at(b, occurrence, end);
-    element_plans_over(b, source, end)
+    let occurrence = s.le_at(4, at);
+    let source = Source::ends_at(s, occurrence);
+    element_plans_over(s, source)
 }
 
-fn segment_plans_over(b: &[u8], at: usize, end: u32) -> Told
-    requires { end ≤ length b.now }
-    ensures { Passes (list_c segment_plan_c) b.now end at (any_of over_segment_plan) result.found result.next }
+fn segment_plans_over(s: Section, at: usize) -> Option<usize>
+    ensures { Clears (list_c segment_plan_c) s.entry.bytes.now s.entry.end at (any_of over_segment_plan) result }
 {
-    let mut left = codec::count_at(b, at, end);
-    let mut p = codec::le_at(b, 4, at, end);
-    while 0 < left {
-        let t = segment_plan_over(b, p, end);
-        if t.found {
-            return t;
-        }
-        p = t.next;
-        left = left - 1;
-    }
-    Told {
-        found: false,
-        next: p,
-    }
+    says::lists::list_clear::<SegmentPlan, _>(s, at, |p| segment_plan_over(s, p))
 }
 
-fn loop_plan_over(b: &[u8], at: usize, end: u32) -> Told
-    requires { end ≤ length b.now }
-    ensures { Passes loop_plan_c b.now end at over_loop_plan result.found result.next }
+fn loop_plan_over(s: Section, at: usize) -> Option<usize>
+    ensures { Clears loop_plan_c s.entry.bytes.now s.entry.end at over_loop_plan result }
 {
-    let instances = format::instances_at(b, at, end);
-    let x = 32 < codec::count_at(b, instances, end);
-    let y = segment_plans_over(b, instances, end);
-    let found = codec::either(x, y.found);
-    Told {
-        found,
-        next: y.next,
+    let instances = Instances::ends_at(s, at);
+    if 32 < s.count_at(instances) {
+        return None;
     }
+    segment_plans_over(s, instances)
 }
 
-fn plan_over(b: &[u8], at: usize, end: u32) -> Told
-    requires { end ≤ length b.now }
-    ensures { Passes (list_c loop_plan_c) b.now end at (any_of over_loop_plan) result.found result.next }
+fn plan_over(s: Section, at: usize) -> Option<usize>
+    ensures { Clears (list_c loop_plan_c) s.entry.bytes.now s.entry.end at (any_of over_loop_plan) result }
 {
-    let mut left = codec::count_at(b, at, end);
-    let mut p = codec::le_at(b, 4, at, end);
-    while 0 < left {
-        let t = loop_plan_over(b, p, end);
-        if t.found {
-            return t;
-        }
-        p = t.next;
-        left = left - 1;
-    }
-    Told {
-        found: false,
-        next: p,
-    }
+    says::lists::list_clear::<LoopPlan, _>(s, at, |p| loop_plan_over(s, p))
 }
 
 // The capacities.
-fn layout_over(b: &[u8], at: usize, end: u32) -> bool
-    requires { end ≤ length b.now }
-    ensures { Says layout_c b.now end at over_layout result }
+fn layout_over(s: Section, at: usize) -> bool
+    ensures { Says layout_c s.entry.bytes.now s.entry.end at over_layout result }
 {
-    let order = format::orders_at(b, at, end);
-    let forced = format::forced_at(b, order, end);
-    let columns = format::number_lists_at(b, forced, end);
-    let depth = format::depths_at(b, columns, end);
-    larges_at(b, depth, end)
+    let order = Items::<Items<Item>>::ends_at(s, at);
+    let forced = Items::<Items<Flag>>::ends_at(s, order);
+    let columns = Items::<Les<4>>::ends_at(s, forced);
+    let depth = Items::<Opt<Le<4>>>::ends_at(s, columns);
+    larges_at(s, depth)
 }
 
 // ---- data
 
-fn table_data_over(b: &[u8], at: usize, end: u32) -> Told
-    requires { end ≤ length b.now }
-    ensures { Passes table_data_c b.now end at over_table_data result.found result.next }
+fn table_data_over(s: Section, at: usize) -> Option<usize>
+    ensures { Clears table_data_c s.entry.bytes.now s.entry.end at over_table_data result }
 {
-    let rows = codec::le_at(b, 4, at, end);
-    let row = format::opt_column_at(b, rows, end);
-    let segment = format::opt_column_at(b, row, end);
-    let refs = format::references_at(b, segment, end);
-    let found = 32 < codec::count_at(b, refs, end);
-    let next = format::columns_at(b, refs, end);
-    Told {
-        found: found,
-        next: next,
+    let rows = s.le_at(4, at);
+    let row = Opt::<Column>::ends_at(s, rows);
+    let segment = Opt::<Column>::ends_at(s, row);
+    let refs = Items::<(Le<4>, Opt<Column>)>::ends_at(s, segment);
+    if 32 < s.count_at(refs) {
+        return None;
     }
+    Some(Items::<Opt<Column>>::ends_at(s, refs))
 }
 
 // Each table, and the rows of all together.
-fn table_datas_over(b: &[u8], at: usize, end: u32) -> bool
-    requires { end ≤ length b.now }
-    ensures { Says (list_c table_data_c) b.now end at over_tables result }
+fn table_datas_over(s: Section, at: usize) -> bool
+    ensures { Says (list_c table_data_c) s.entry.bytes.now s.entry.end at over_tables result }
 {
-    let mut left = codec::count_at(b, at, end);
-    let mut p = codec::le_at(b, 4, at, end);
+    let n = s.count_at(at);
+    let mut p = s.le_at(4, at);
     let mut rows: usize = 0;
-    while 0 < left {
-        rows = rows + codec::count_at(b, p, end);
+    for _i in 0..n {
+        rows = rows + s.count_at(p);
         if 4096 < rows {
             return true;
         }
-        let t = table_data_over(b, p, end);
-        if t.found {
-            return true;
+        match table_data_over(s, p) {
+            None => return true,
+            Some(q) => p = q,
         }
-        p = t.next;
-        left = left - 1;
     }
     false
 }
 
-fn data_over(b: &[u8], at: usize, end: u32) -> bool
-    requires { end ≤ length b.now }
-    ensures { Says (list_c table_data_c) b.now end at over_data result }
+fn data_over(s: Section, at: usize) -> bool
+    ensures { Says (list_c table_data_c) s.entry.bytes.now s.entry.end at over_data result }
 {
-    let x = 16 < codec::count_at(b, at, end);
-    let y = table_datas_over(b, at, end);
+    let x = 16 < s.count_at(at);
+    let y = table_datas_over(s, at);
     codec::either(x, y)
 }
 
 // ---- the whole
 
-// 3: a limit is passed.
-pub fn over_at(b: &[u8]) -> Parts
+// 3: a limit is passed. Where none is, it tells where the spec's parts stand.
+pub fn over_at(b: &[u8]) -> Option<Parts>
     requires { (broken b.now ≡ false) × (spoilt b.now ≡ false) }
-    ensures { (result.found ≡ over (job_of b.now)) × (result.found ≡ false → (result.roots ≡ spec_roots b.now (plan_start b.now) 0) × (result.tables ≡ spec_tables b.now (plan_start b.now) 0)) }
+    ensures { ClearParts result (over (job_of b.now)) (spec_roots b.now (plan_start b.now) 0) (spec_tables b.now (plan_start b.now) 0) }
 {
     let plan = says::start(b, 4);
     let layout = says::start(b, 8);
     let envelope = says::start(b, 12);
     let data = says::start(b, 16);
     let t = says::trailer(b);
-    let x = spec_over(b, 0, plan);
-    let y = plan_over(b, plan as usize, layout);
-    let z = layout_over(b, layout as usize, envelope);
-    let w = data_over(b, data as usize, t);
-    let found = codec::either(x.found, codec::either(y.found, codec::either(z, w)));
-    Parts {
-        found,
-        roots: x.roots,
-        tables: x.tables,
+    let parts = spec_over(
+        Section {
+            bytes: b,
+            end: plan,
+        },
+        0,
+    )?;
+    plan_over(
+        Section {
+            bytes: b,
+            end: layout,
+        },
+        plan as usize,
+    )?;
+    if layout_over(
+        Section {
+            bytes: b,
+            end: envelope,
+        },
+        layout as usize,
+    ) {
+        return None;
     }
+    if data_over(Section { bytes: b, end: t }, data as usize) {
+        return None;
+    }
+    Some(parts)
 }

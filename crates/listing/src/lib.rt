@@ -1,10 +1,10 @@
 // Document 01's listing of a job.
 #![tactic(auto)]
 
-use crate::items::{List, items};
+use crate::items::{segments, stops};
 use crate::lines::findings;
 use std::io;
-use writer::Answer;
+use writer::Refused;
 
 mod items;
 mod lines;
@@ -14,28 +14,23 @@ mod words;
 // go to standard error.
 pub fn print(rt: &(impl Print + Eprint), job: &[u8]) -> io::Result<()> {
     let mut document = [0u8; 65536];
-    let mut segments = [0u64; 1536];
-    let mut stops = [0u64; 1536];
-    let listing = baktuven::listed(job, &mut document, &mut segments, &mut stops);
-    let answer = listing.answer;
-    match answer {
-        Answer::Done(bytes, s, f, p) => {
-            words::counts(rt, b"done", bytes, s, f, p)?;
-            let list = listing.findings;
-            findings(rt, list, f)?;
-            items(rt, &stops, List::Stops, p)?;
-            items(rt, &segments, List::Segments, s)?;
-            words::bytes(rt, &document, bytes)
+    let mut traced = [0u64; 1536];
+    let mut stopped = [0u64; 1536];
+    let listing = baktuven::listed(job, &mut document, &mut traced, &mut stopped);
+    match listing.answer {
+        Ok(totals) => {
+            words::done(rt, totals)?;
+            findings(rt, &listing.findings, totals.findings)?;
+            stops(rt, &stopped, totals.stops)?;
+            segments(rt, &traced, totals.segments)?;
+            words::bytes(rt, &document, totals.bytes)
         }
-        Answer::Size => words::refused(rt, 1),
-        Answer::Structure => words::refused(rt, 2),
-        Answer::Limit => words::refused(rt, 3),
-        Answer::Loops => words::refused(rt, 4),
-        Answer::Text => words::refused(rt, 5),
-        Answer::Instances => words::refused(rt, 6),
-        Answer::Room(bytes, s, f, p) => {
-            words::refused(rt, 7)?;
-            words::sizes(rt, bytes, s, f, p)
+        Err(refused) => {
+            println!(rt; "refused {}", refused.number())?;
+            match refused {
+                Refused::Room(totals) => words::room(rt, totals),
+                _ => Ok(()),
+            }
         }
     }
 }

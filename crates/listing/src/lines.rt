@@ -73,10 +73,10 @@ fn not_writable(rt: &impl Print, v: [u64; 9]) -> io::Result<()> {
     number(rt, v[7])
 }
 
+// By the kind, which is a number since C reads it.
 fn named(rt: &impl Print, f: Finding) -> io::Result<()> {
     let v = f.values;
-    let kind = f.kind;
-    match kind {
+    match f.kind {
         0 => duplicate(rt, v)?,
         1 => missing(rt, v)?,
         2 => mismatch(rt, v)?,
@@ -88,13 +88,9 @@ fn named(rt: &impl Print, f: Finding) -> io::Result<()> {
 }
 
 // The first n findings of a list.
-pub(crate) fn findings(rt: &impl Print, list: [Finding; 512], n: usize) -> io::Result<()> {
-    let mut i: usize = 0;
-    while i < n {
-        if i < 512 {
-            named(rt, list[i])?;
-        }
-        i += 1;
+pub(crate) fn findings(rt: &impl Print, list: &[Finding], n: usize) -> io::Result<()> {
+    for finding in list.iter().take(n) {
+        named(rt, *finding)?;
     }
     Ok(())
 }

@@ -11,15 +11,17 @@ use Rattle.codec.specs.Forms.{num_c}
 use Rattle.codec.specs.Skip.{skip, count_at, tag_at, Is, skip_le}
 use Rattle.codec.specs.Field.{is_in}
 use Rattle.codec.specs.Ways.{tag_in, tag_case}
+use Rattle.codec.specs.Limits.{any_of}
 use Rattle.format.specs.Words.{member_of, repeats}
 use Rattle.format.specs.Layout.{Item, segment_item, loop_item, item_c}
 use Rattle.format.specs.Fields.{item_tag, is_loop_item}
-use Rattle.format.specs.Refusal.{loops_in}
+use Rattle.format.specs.Spec.{Loop}
+use Rattle.format.specs.Refusal.{loops_in, not_child}
 use Rattle.says.specs.Says.{SaysRest, SaysBefore}
 use Rattle.tree.specs.Parts.{on_loop}
-use Rattle.loops.specs.Parts.{member_in, repeats_in, again_in}
+use Rattle.loops.specs.Parts.{member_in, repeats_in, again_in, misplaced, misplaced_in}
 use Rattle.says.proofs.Walk.{number_is}
-use Rattle.tree.proofs.Tree.{item_there, item_not}
+use Rattle.tree.proofs.Tree.{item_there, item_not, loops_any}
 
 module _ (b : List ℕ) (e at t : ℕ) (h : t ≡ tag_at b at e) where
   pub name_there : (p x : ℕ) → t ≡ 1 → p ≡ skip (le_c 1) b at e → x ≡ count_at b p e → (y : Item) → Is item_c b e at y → x ∷ [] ≡ loops_in (y ∷ [])
@@ -54,6 +56,10 @@ few_loops [] h = refl
 few_loops (segment_item k ∷ []) h = refl
 few_loops (loop_item l ∷ []) h = refl
 few_loops (x ∷ y ∷ o) h = absurd (omega arith)
+
+pub misplaced_any : (ls : List Loop) (k : ℕ) (o : List Item) → any_of (misplaced ls k) o ≡ misplaced_in ls k o
+unfolding misplaced
+misplaced_any ls k o = loops_any (λ (l : ℕ). not_child ls l k) o
 
 -- ---- searched for one that repeats
 pub member_in_step : (x : ℕ) (y : Item) (ys : List Item) → member_in x (y ∷ ys) ≡ pick (on_loop (eqb x) y) true (member_in x ys)

@@ -2,13 +2,14 @@
 use Prim.Native.Nat.{ℕ, zero, suc, ◌+◌, ◌-◌, ◌≤◌, ◌<◌}
 use mathlib.Core.Path.{◌≡◌, refl, sym, ◌∙◌, ap}
 use mathlib.Core.List.{List, [], ◌∷◌}
-use mathlib.Core.Option.{Option, none, some}
 use mathlib.Core.Bool.{Bool, true, false, not}
 use native.Mathlib.Omega.{arith}
 use native.Mathlib.Numerals.{sub-one}
 use lib.ListN.{length}
 use lib.Dec.{eqb}
 use borrow.Author.Tests.{eq-eqb, ne_eqb}
+use Rattle.std.specs.Prelude.{Some, None, Option}
+use Rattle.std.proofs.lemmas.Option.{same_Some}
 use Rattle.codec.specs.Codec.{pick, le_c, list_c}
 use Rattle.codec.specs.Forms.{num_c}
 use Rattle.codec.specs.Skip.{skip, count_at, tag_at, Is}
@@ -19,6 +20,7 @@ use Rattle.format.specs.Spec.{Loop, loop_c}
 use Rattle.format.specs.Fields.{is_loop}
 use Rattle.format.specs.Refusal.{loop_at, not_parent, not_child, up, ringed, misrooted}
 use Rattle.says.specs.Says.{Says, Rest}
+use Rattle.tree.specs.Parts.{held}
 use Rattle.loops.specs.Parts.{hit}
 use Rattle.says.proofs.Walk.{number_is, rest_start, rest_again, rest_done, present_says}
 
@@ -33,10 +35,10 @@ pub unlisted_says : (b : List ℕ) (e at m i e' loops : ℕ) (r : Bool) → m �
 unfolding not_child
 unlisted_says b e at m i e' loops r h s ls q v j = let z : m ≡ v = number_is b e m at at v h refl j in ap not (s ls q) ∙ rw z
 
-pub misplaced_says : (b : List ℕ) (e at m k e' loops : ℕ) (r : Bool) → m ≡ count_at b at e → Says (list_c loop_c) b e' loops (λ ls. member_of m (loop_at ls k).children) r
-    → (ls : List Loop) → Is (list_c loop_c) b e' loops ls → Says num_c b e at (λ l. not_child ls l k) (not r)
+pub misplaced_says : (b : List ℕ) (e at m k : ℕ) (b' : List ℕ) (e' loops : ℕ) (r : Bool) → m ≡ count_at b at e → Says (list_c loop_c) b' e' loops (λ ls. member_of m (loop_at ls k).children) r
+    → (ls : List Loop) → Is (list_c loop_c) b' e' loops ls → Says num_c b e at (λ l. not_child ls l k) (not r)
 unfolding not_child
-misplaced_says b e at m k e' loops r h s ls q v j = let z : m ≡ v = number_is b e m at at v h refl j in ap not (s ls q) ∙ rw z
+misplaced_says b e at m k b' e' loops r h s ls q v j = let z : m ≡ v = number_is b e m at at v h refl j in ap not (s ls q) ∙ rw z
 
 pub third_true : (a c d : Bool) → d ≡ true → true ≡ any (a ∷ c ∷ d ∷ [])
 unfolding any
@@ -68,36 +70,35 @@ second_false r a d h i = i ∙ rw h (go a)
 
 -- ---- rings
 abbrev pub Climbs : List ℕ → ℕ → ℕ → ℕ → ℕ → ℕ → Type 0
-Climbs b e at i n l = (ls : List Loop) → Is (list_c loop_c) b e at ls → present (times (length ls) (up ls) (some i)) ≡ present (times n (up ls) (some l))
+Climbs b e at i n l = (ls : List Loop) → Is (list_c loop_c) b e at ls → present (times (length ls) (up ls) (Some i)) ≡ present (times n (up ls) (Some l))
 
 module _ (b : List ℕ) (e at i : ℕ) where
   pub ring_start : (n : ℕ) → n ≡ count_at b at e → Climbs b e at i n i
   ring_start n h ls j = let m : length ls ≡ n = count_list loop_c b e at ls (is_list loop_c b e at ls j) ∙ sym h in rw m
 
-  pub ring_again : (n l m : ℕ) (r : Bool) → Climbs b e at i n l → 0 < n → Says (list_c loop_c) b e at (λ ls. present (loop_at ls l).parent) r → r ≡ true
-      → ((ls : List Loop) → Is (list_c loop_c) b e at ls → (x : ℕ) → (loop_at ls l).parent ≡ some x → m ≡ x) → Climbs b e at i (n - 1) m
+  pub ring_again : (n l m : ℕ) (r : Option ℕ) → Climbs b e at i n l → 0 < n → Says (list_c loop_c) b e at (λ ls. held (loop_at ls l).parent) r → r ≡ Some m → Climbs b e at i (n - 1) m
   unfolding present times up
-  ring_again zero l m r d h s t u ls j = absurd (omega arith)
-  ring_again (suc n) l m r d h s t u ls j = d ls j ∙ rw sub-one (go (loop_at ls l).parent refl (sym (s ls j) ∙ t))
+  ring_again zero l m r d h s t ls j = absurd (omega arith)
+  ring_again (suc n) l m r d h s t ls j = d ls j ∙ rw sub-one (go (loop_at ls l).parent (sym (s ls j) ∙ t))
     where
-      go : (o : Option ℕ) → (loop_at ls l).parent ≡ o → present o ≡ true → present (times n (up ls) o) ≡ present (times n (up ls) (some m))
-      go none q w = absurd (let z : ◌≡◌ {A = ℕ} 0 1 = cc in omega arith)
-      go (some x) q w = let z : m ≡ x = u ls j x q in rw z
+      go : (o : Option ℕ) → held o ≡ Some m → present (times n (up ls) o) ≡ present (times n (up ls) (Some m))
+      go None w = absurd (let z : ◌≡◌ {A = ℕ} 0 1 = cc in omega arith)
+      go (Some x) w = let z : x ≡ m = same_Some _ _ w in rw z
 
-  none_stays : (ls : List Loop) (n : ℕ) → present (times n (up ls) none) ≡ false
+  none_stays : (ls : List Loop) (n : ℕ) → present (times n (up ls) None) ≡ false
   unfolding present times up
   none_stays ls zero = refl
   none_stays ls (suc n) = none_stays ls n
 
-  pub ring_out : (n l : ℕ) (r : Bool) → Climbs b e at i n l → 0 < n → Says (list_c loop_c) b e at (λ ls. present (loop_at ls l).parent) r → r ≡ false
+  pub ring_out : (n l : ℕ) (r : Option ℕ) → Climbs b e at i n l → 0 < n → Says (list_c loop_c) b e at (λ ls. held (loop_at ls l).parent) r → r ≡ None
       → (ls : List Loop) → Is (list_c loop_c) b e at ls → (v : Loop) → false ≡ ringed ls i v
   unfolding ringed present times up
   ring_out zero l r d h s t ls j v = absurd (omega arith)
   ring_out (suc n) l r d h s t ls j v = sym (d ls j ∙ go (loop_at ls l).parent (sym (s ls j) ∙ t))
     where
-      go : (o : Option ℕ) → present o ≡ false → present (times n (up ls) o) ≡ false
-      go none w = none_stays ls n
-      go (some x) w = absurd (let z : ◌≡◌ {A = ℕ} 0 1 = cc in omega arith)
+      go : (o : Option ℕ) → held o ≡ None → present (times n (up ls) o) ≡ false
+      go None w = none_stays ls n
+      go (Some x) w = absurd (let z : ◌≡◌ {A = ℕ} 0 1 = cc in omega arith)
 
   pub ring_stays : (n l : ℕ) → Climbs b e at i n l → n ≤ 0 → (ls : List Loop) → Is (list_c loop_c) b e at ls → (v : Loop) → true ≡ ringed ls i v
   unfolding ringed present times up

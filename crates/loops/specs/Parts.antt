@@ -22,6 +22,10 @@ repeats_in is = repeats (loops_in is)
 abbrev pub again_in : List Item → Item → Bool
 again_in ys y = on_loop (λ x. member_in x ys) y
 
+-- an item that names a loop which is no child of k
+unfoldable pub misplaced : List Loop → ℕ → Item → Bool
+misplaced ls k = on_loop (λ l. not_child ls l k)
+
 abbrev pub misplaced_in : List Loop → ℕ → List Item → Bool
 misplaced_in ls k is = any_of (λ l. not_child ls l k) (loops_in is)
 

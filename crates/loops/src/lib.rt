@@ -1,4 +1,4 @@
-// 4: the loops are no forest that roots, tables and orders fit. `loops` is the place of the spec's loops.
+// 4: the loops are no forest that roots, tables and orders fit.
 #![tactic(auto)]
 
 ghost use Rattle.std.specs.Prelude.{◌≡◌, [], ◌++◌, ◌∷◌, List, ◌+◌, ◌<◌, ◌≤◌, ℕ, length, take, eqb, false};
@@ -14,416 +14,317 @@ ghost use Rattle.format.specs.Refusal.{disagrees, loops_in, misordered, misroote
 ghost use Rattle.format.specs.Sections.{broken, job_of, plan_start, spoilt};
 ghost use Rattle.says.specs.Says.{Says, SaysRest, SaysBefore};
 ghost use Rattle.tree.specs.Parts.{on_loop, Placed, Noted};
-ghost use Rattle.loops.specs.Parts.{hit, member_in, repeats_in, again_in, misplaced_in, repeats_below, tangled_spec};
+ghost use Rattle.loops.specs.Parts.{hit, member_in, repeats_in, again_in, misplaced, misplaced_in, repeats_below, tangled_spec};
+
+use codec::forms::{Items, Le};
+use codec::{Form, Section};
+use tree::Loops;
 
 // ---- parents and children
 
 // A child whose parent is not i.
-fn stranger_at(b: &[u8], at: usize, end: u32, loops: usize, places: &[usize], i: usize) -> bool
-    requires { Placed b.now end loops places.now × (end ≤ length b.now) }
-    ensures { (ls : List Loop) → Is (list_c loop_c) b.now end loops ls → Says num_c b.now end at (not_parent ls i) result }
+fn stranger_at(loops: Loops, at: usize, i: usize) -> bool
+    ensures { (ls : List Loop) → Is (list_c loop_c) loops.entry.section.bytes.now loops.entry.section.end loops.entry.at ls → Says num_c loops.entry.section.bytes.now loops.entry.section.end at (not_parent ls i) result }
 {
-    let c = codec::count_at(b, at, end);
-    !tree::parent_is(b, loops, end, places, i, c)
+    let c = loops.section.count_at(at);
+    !loops.parent_is(i, c)
 }
 
-fn strangers_at(b: &[u8], at: usize, end: u32, loops: usize, places: &[usize], i: usize) -> bool
-    requires { Placed b.now end loops places.now × (end ≤ length b.now) }
-    ensures { (ls : List Loop) → Is (list_c loop_c) b.now end loops ls → Says (list_c num_c) b.now end at (any_of (not_parent ls i)) result }
+fn strangers_at(loops: Loops, at: usize, i: usize) -> bool
+    ensures { (ls : List Loop) → Is (list_c loop_c) loops.entry.section.bytes.now loops.entry.section.end loops.entry.at ls → Says (list_c num_c) loops.entry.section.bytes.now loops.entry.section.end at (any_of (not_parent ls i)) result }
 {
-    let mut left = codec::count_at(b, at, end);
-    let mut p = codec::le_at(b, 4, at, end);
-    while 0 < left {
-        if stranger_at(b, p, end, loops, places, i) {
-            return true;
-        }
-        p = codec::le_at(b, 4, p, end);
-        left = left - 1;
-    }
-    false
+    says::lists::any_at::<Le<4>, _>(loops.section, at, |p| stranger_at(loops, p, i))
 }
 
 // A parent that has no child i.
-fn unlisted_at(b: &[u8], at: usize, end: u32, loops: usize, places: &[usize], i: usize) -> bool
-    requires { Placed b.now end loops places.now × (end ≤ length b.now) }
-    ensures { (ls : List Loop) → Is (list_c loop_c) b.now end loops ls → Says num_c b.now end at (not_child ls i) result }
+fn unlisted_at(loops: Loops, at: usize, i: usize) -> bool
+    ensures { (ls : List Loop) → Is (list_c loop_c) loops.entry.section.bytes.now loops.entry.section.end loops.entry.at ls → Says num_c loops.entry.section.bytes.now loops.entry.section.end at (not_child ls i) result }
 {
-    let p = codec::count_at(b, at, end);
-    !tree::is_child(b, loops, end, places, i, p)
+    let p = loops.section.count_at(at);
+    !loops.is_child(i, p)
 }
 
-fn opt_unlisted_at(b: &[u8], at: usize, end: u32, loops: usize, places: &[usize], i: usize) -> bool
-    requires { Placed b.now end loops places.now × (end ≤ length b.now) }
-    ensures { (ls : List Loop) → Is (list_c loop_c) b.now end loops ls → Says (opt_c num_c) b.now end at (if_some (not_child ls i)) result }
+fn opt_unlisted_at(loops: Loops, at: usize, i: usize) -> bool
+    ensures { (ls : List Loop) → Is (list_c loop_c) loops.entry.section.bytes.now loops.entry.section.end loops.entry.at ls → Says (opt_c num_c) loops.entry.section.bytes.now loops.entry.section.end at (if_some (not_child ls i)) result }
 {
-    if codec::tag_at(b, at, end) == 1 {
-        let p = codec::le_at(b, 1, at, end);
-        return unlisted_at(b, p, end, loops, places, i);
-    }
-    false
+    says::lists::opt_at::<Le<4>, _>(loops.section, at, |p| unlisted_at(loops, p, i))
 }
 
 // A loop's children repeat. Asked of all loops first, so that no list of children that is looked through is long.
-fn loops_repeat(b: &[u8], at: usize, end: u32, places: &[usize]) -> bool
-    requires { Placed b.now end at places.now × (end ≤ length b.now) }
-    ensures { Says (list_c loop_c) b.now end at (any_of repeats_below) result }
+fn loops_repeat(loops: Loops) -> bool
+    ensures { Says (list_c loop_c) loops.entry.section.bytes.now loops.entry.section.end loops.entry.at (any_of repeats_below) result }
 {
-    let n = codec::count_at(b, at, end);
-    let mut k: usize = 0;
-    while k < n {
-        let children = tree::below(b, at, end, places, k);
-        if tree::repeats_at(b, children, end) {
+    let n = loops.section.count_at(loops.at);
+    for k in 0..n {
+        let children = loops.below(k);
+        if tree::repeats_at(loops.section, children) {
             return true;
         }
-        k = k + 1;
     }
     false
 }
 
 // The loop i, whose children are known to stand at a place.
-fn disagrees_at(
-    b: &[u8],
-    at: usize,
-    children: usize,
-    end: u32,
-    loops: usize,
-    places: &[usize],
-    i: usize,
-) -> bool
-    requires { Placed b.now end loops places.now × (children ≡ loop_children b.now end at) × (end ≤ length b.now) }
-    ensures { (ls : List Loop) → Is (list_c loop_c) b.now end loops ls → Says loop_c b.now end at (disagrees ls i) result }
+fn disagrees_at(loops: Loops, at: usize, children: usize, i: usize) -> bool
+    requires { children ≡ loop_children loops.section.bytes.now loops.section.end at }
+    ensures { (ls : List Loop) → Is (list_c loop_c) loops.entry.section.bytes.now loops.entry.section.end loops.entry.at ls → Says loop_c loops.entry.section.bytes.now loops.entry.section.end at (disagrees ls i) result }
 {
-    if tree::repeats_at(b, children, end) {
+    if tree::repeats_at(loops.section, children) {
         return true;
     }
-    let x = strangers_at(b, children, end, loops, places, i);
-    let y = opt_unlisted_at(b, at, end, loops, places, i);
+    let x = strangers_at(loops, children, i);
+    let y = opt_unlisted_at(loops, at, i);
     codec::either(x, y)
 }
 
-fn disagreements(b: &[u8], at: usize, end: u32, places: &[usize]) -> bool
-    requires { Placed b.now end at places.now × (end ≤ length b.now) }
-    ensures { (ls : List Loop) → Is (list_c loop_c) b.now end at ls → Says (list_c loop_c) b.now end at (any_from (disagrees ls) 0) result }
+fn disagreements(loops: Loops) -> bool
+    ensures { (ls : List Loop) → Is (list_c loop_c) loops.entry.section.bytes.now loops.entry.section.end loops.entry.at ls → Says (list_c loop_c) loops.entry.section.bytes.now loops.entry.section.end loops.entry.at (any_from (disagrees ls) 0) result }
 {
-    let n = codec::count_at(b, at, end);
-    let mut k: usize = 0;
-    while k < n {
-        let p = tree::place_of(b, at, end, places, k);
-        let children = tree::below(b, at, end, places, k);
-        if disagrees_at(b, p, children, end, at, places, k) {
+    let n = loops.section.count_at(loops.at);
+    for k in 0..n {
+        let p = loops.place_of(k);
+        let children = loops.below(k);
+        if disagrees_at(loops, p, children, k) {
             return true;
         }
-        k = k + 1;
     }
     false
 }
 
 // ---- rings and roots
 
-fn ringed_at(b: &[u8], at: usize, end: u32, places: &[usize], i: usize) -> bool
-    requires { Placed b.now end at places.now × (end ≤ length b.now) }
-    ensures { (ls : List Loop) → Is (list_c loop_c) b.now end at ls → (v : Loop) → result ≡ ringed ls i v }
+fn ringed_at(loops: Loops, i: usize) -> bool
+    ensures { (ls : List Loop) → Is (list_c loop_c) loops.entry.section.bytes.now loops.entry.section.end loops.entry.at ls → (v : Loop) → result ≡ ringed ls i v }
 {
-    let mut left = codec::count_at(b, at, end);
+    let n = loops.section.count_at(loops.at);
     let mut l = i;
-    while 0 < left {
-        if tree::has_parent(b, at, end, places, l) {
-            l = tree::parent_number(b, at, end, places, l);
-            left = left - 1;
-        } else {
-            return false;
+    for _k in 0..n {
+        match loops.parent(l) {
+            None => return false,
+            Some(p) => l = p,
         }
     }
     true
 }
 
-fn rings(b: &[u8], at: usize, end: u32, places: &[usize]) -> bool
-    requires { Placed b.now end at places.now × (end ≤ length b.now) }
-    ensures { (ls : List Loop) → Is (list_c loop_c) b.now end at ls → Says (list_c loop_c) b.now end at (any_from (ringed ls) 0) result }
+fn rings(loops: Loops) -> bool
+    ensures { (ls : List Loop) → Is (list_c loop_c) loops.entry.section.bytes.now loops.entry.section.end loops.entry.at ls → Says (list_c loop_c) loops.entry.section.bytes.now loops.entry.section.end loops.entry.at (any_from (ringed ls) 0) result }
 {
-    let n = codec::count_at(b, at, end);
-    let mut k: usize = 0;
-    while k < n {
-        if ringed_at(b, at, end, places, k) {
+    let n = loops.section.count_at(loops.at);
+    for k in 0..n {
+        if ringed_at(loops, k) {
             return true;
         }
-        k = k + 1;
     }
     false
 }
 
-fn hit_at(b: &[u8], at: usize, end: u32, x: usize) -> usize
-    requires { end ≤ length b.now }
-    ensures { Says num_c b.now end at (hit x) result × (result < 2) }
+fn hit_at(s: Section, at: usize, x: usize) -> usize
+    ensures { Says num_c s.entry.bytes.now s.entry.end at (hit x) result × (result < 2) }
 {
-    if tree::same_at(b, at, end, x) {
+    if tree::same_at(s, at, x) {
         return 1;
     }
     0
 }
 
 // How often x is in a list of numbers.
-fn times_at(b: &[u8], at: usize, end: u32, x: usize) -> usize
-    requires { end ≤ length b.now }
-    ensures { Says (list_c num_c) b.now end at (times_in x) result }
+fn times_at(s: Section, at: usize, x: usize) -> usize
+    ensures { Says (list_c num_c) s.entry.bytes.now s.entry.end at (times_in x) result }
 {
-    let mut left = codec::count_at(b, at, end);
-    let mut p = codec::le_at(b, 4, at, end);
+    let n = s.count_at(at);
+    let mut p = s.le_at(4, at);
     let mut t: usize = 0;
-    while 0 < left {
-        t = t + hit_at(b, p, end, x);
-        p = codec::le_at(b, 4, p, end);
-        left = left - 1;
+    for _i in 0..n {
+        t = t + hit_at(s, p, x);
+        p = s.le_at(4, p);
     }
     t
 }
 
-fn misrooted_at(b: &[u8], at: usize, end: u32, roots: usize, i: usize) -> bool
-    requires { end ≤ length b.now }
-    ensures { (rs : List ℕ) → Is (list_c num_c) b.now end roots rs → Says loop_c b.now end at (misrooted rs i) result }
+fn misrooted_at(s: Section, at: usize, roots: usize, i: usize) -> bool
+    ensures { (rs : List ℕ) → Is (list_c num_c) s.entry.bytes.now s.entry.end roots rs → Says loop_c s.entry.bytes.now s.entry.end at (misrooted rs i) result }
 {
-    let t = times_at(b, roots, end, i);
-    if codec::tag_at(b, at, end) == 1 {
+    let t = times_at(s, roots, i);
+    if s.tag_at(at) == 1 {
         return t != 0;
     }
     t != 1
 }
 
-fn misroots(b: &[u8], at: usize, end: u32, roots: usize, places: &[usize]) -> bool
-    requires { Placed b.now end at places.now × (end ≤ length b.now) }
-    ensures { (rs : List ℕ) → Is (list_c num_c) b.now end roots rs → Says (list_c loop_c) b.now end at (any_from (misrooted rs) 0) result }
+fn misroots(loops: Loops, roots: usize) -> bool
+    ensures { (rs : List ℕ) → Is (list_c num_c) loops.entry.section.bytes.now loops.entry.section.end roots rs → Says (list_c loop_c) loops.entry.section.bytes.now loops.entry.section.end loops.entry.at (any_from (misrooted rs) 0) result }
 {
-    let n = codec::count_at(b, at, end);
-    let mut k: usize = 0;
-    while k < n {
-        let p = tree::place_of(b, at, end, places, k);
-        if misrooted_at(b, p, end, roots, k) {
+    let n = loops.section.count_at(loops.at);
+    for k in 0..n {
+        let p = loops.place_of(k);
+        if misrooted_at(loops.section, p, roots, k) {
             return true;
         }
-        k = k + 1;
     }
     false
 }
 
-// ---- orders; the loops stand in another section, which ends at bound
+// ---- orders; the loops stand in another section
 
 // A loop that is no child of k.
-fn misplaced_at(
-    b: &[u8],
-    at: usize,
-    end: u32,
-    loops: usize,
-    bound: u32,
-    places: &[usize],
-    k: usize,
-) -> bool
-    requires { Placed b.now bound loops places.now × (end ≤ length b.now) × (bound ≤ length b.now) }
-    ensures { (ls : List Loop) → Is (list_c loop_c) b.now bound loops ls → Says num_c b.now end at (λ l. not_child ls l k) result }
+fn misplaced_at(s: Section, at: usize, loops: Loops, k: usize) -> bool
+    ensures { (ls : List Loop) → Is (list_c loop_c) loops.entry.section.bytes.now loops.entry.section.end loops.entry.at ls → Says num_c s.entry.bytes.now s.entry.end at (λ l. not_child ls l k) result }
 {
-    let l = codec::count_at(b, at, end);
-    !tree::is_child(b, loops, bound, places, l, k)
+    let l = s.count_at(at);
+    !loops.is_child(l, k)
 }
 
-fn item_misplaced(
-    b: &[u8],
-    at: usize,
-    end: u32,
-    loops: usize,
-    bound: u32,
-    places: &[usize],
-    k: usize,
-) -> bool
-    requires { Placed b.now bound loops places.now × (end ≤ length b.now) × (bound ≤ length b.now) }
-    ensures { (ls : List Loop) → Is (list_c loop_c) b.now bound loops ls → Says item_c b.now end at (on_loop (λ l. not_child ls l k)) result }
+fn item_misplaced(s: Section, at: usize, loops: Loops, k: usize) -> bool
+    ensures { (ls : List Loop) → Is (list_c loop_c) loops.entry.section.bytes.now loops.entry.section.end loops.entry.at ls → Says item_c s.entry.bytes.now s.entry.end at (misplaced ls k) result }
 {
-    if codec::tag_at(b, at, end) == 1 {
-        let p = codec::le_at(b, 1, at, end);
-        return misplaced_at(b, p, end, loops, bound, places, k);
+    if s.tag_at(at) == 1 {
+        let p = s.le_at(1, at);
+        return misplaced_at(s, p, loops, k);
     }
     false
 }
 
-fn items_misplaced(
-    b: &[u8],
-    at: usize,
-    end: u32,
-    loops: usize,
-    bound: u32,
-    places: &[usize],
-    k: usize,
-) -> bool
-    requires { Placed b.now bound loops places.now × (end ≤ length b.now) × (bound ≤ length b.now) }
-    ensures { (ls : List Loop) → Is (list_c loop_c) b.now bound loops ls → Says (list_c item_c) b.now end at (misplaced_in ls k) result }
+fn items_misplaced(s: Section, at: usize, loops: Loops, k: usize) -> bool
+    ensures { (ls : List Loop) → Is (list_c loop_c) loops.entry.section.bytes.now loops.entry.section.end loops.entry.at ls → Says (list_c item_c) s.entry.bytes.now s.entry.end at (misplaced_in ls k) result }
 {
-    let mut left = codec::count_at(b, at, end);
-    let mut p = codec::le_at(b, 4, at, end);
-    while 0 < left {
-        if item_misplaced(b, p, end, loops, bound, places, k) {
-            return true;
-        }
-        p = format::item_at(b, p, end);
-        left = left - 1;
+    says::lists::any_at::<format::Item, _>(s, at, |p| item_misplaced(s, p, loops, k))
+}
+
+fn item_same_at(s: Section, at: usize, x: usize) -> bool
+    ensures { Says item_c s.entry.bytes.now s.entry.end at (on_loop (eqb x)) result }
+{
+    if s.tag_at(at) == 1 {
+        let p = s.le_at(1, at);
+        return tree::same_at(s, p, x);
     }
     false
 }
 
-fn item_same_at(b: &[u8], at: usize, end: u32, x: usize) -> bool
-    requires { end ≤ length b.now }
-    ensures { Says item_c b.now end at (on_loop (eqb x)) result }
+fn item_member_behind(s: Section, at: usize, rest: usize, x: usize) -> bool
+    ensures { SaysRest item_c s.entry.bytes.now s.entry.end rest at (member_in x) result }
 {
-    if codec::tag_at(b, at, end) == 1 {
-        let p = codec::le_at(b, 1, at, end);
-        return tree::same_at(b, p, end, x);
-    }
-    false
-}
-
-fn item_member_behind(b: &[u8], at: usize, end: u32, rest: usize, x: usize) -> bool
-    requires { end ≤ length b.now }
-    ensures { SaysRest item_c b.now end rest at (member_in x) result }
-{
-    let mut left = rest;
     let mut p = at;
-    while 0 < left {
-        if item_same_at(b, p, end, x) {
+    for _i in 0..rest {
+        if item_same_at(s, p, x) {
             return true;
         }
-        p = format::item_at(b, p, end);
-        left = left - 1;
+        p = format::Item::ends_at(s, p);
     }
     false
 }
 
 // Whether the item at a place names a loop that one of the rest behind it, from next on, names too.
-fn item_again(b: &[u8], at: usize, end: u32, rest: usize, next: usize) -> bool
-    requires { end ≤ length b.now }
-    ensures { SaysBefore item_c b.now end at rest next again_in result }
+fn item_again(s: Section, at: usize, rest: usize, next: usize) -> bool
+    ensures { SaysBefore item_c s.entry.bytes.now s.entry.end at rest next again_in result }
 {
-    if codec::tag_at(b, at, end) == 1 {
-        let p = codec::le_at(b, 1, at, end);
-        let x = codec::count_at(b, p, end);
-        return item_member_behind(b, next, end, rest, x);
+    if s.tag_at(at) == 1 {
+        let p = s.le_at(1, at);
+        let x = s.count_at(p);
+        return item_member_behind(s, next, rest, x);
     }
     false
 }
 
 // Whether an order names a loop twice, by a search behind each item.
-fn order_searched(b: &[u8], at: usize, end: u32) -> bool
-    requires { end ≤ length b.now }
-    ensures { Says (list_c item_c) b.now end at repeats_in result }
+fn order_searched(s: Section, at: usize) -> bool
+    ensures { Says (list_c item_c) s.entry.bytes.now s.entry.end at repeats_in result }
 {
-    let mut left = codec::count_at(b, at, end);
-    let mut p = codec::le_at(b, 4, at, end);
-    while 0 < left {
-        let q = format::item_at(b, p, end);
-        if item_again(b, p, end, left - 1, q) {
+    let n = s.count_at(at);
+    let mut p = s.le_at(4, at);
+    for i in 0..n {
+        let q = format::Item::ends_at(s, p);
+        if item_again(s, p, n - i - 1, q) {
             return true;
         }
         p = q;
-        left = left - 1;
     }
     false
 }
 
 // Notes the loop that the item at a place names, behind k others.
-fn note_name(b: &[u8], at: usize, end: u32, names: &mut [usize], k: usize) -> usize
-    requires { (k < length names.old) × (end ≤ length b.now) }
-    ensures { (length names.new ≡ length names.old) × ((result ≤ k + 1) × ((y : Item) → Is item_c b.now end at y → take result names.new ≡ take k names.old ++ loops_in (y ∷ []))) }
+fn note_name(s: Section, at: usize, names: &mut [usize], k: usize) -> usize
+    requires { k < length names.old }
+    ensures { (length names.new ≡ length names.old) × ((result ≤ k + 1) × ((y : Item) → Is item_c s.entry.bytes.now s.entry.end at y → take result names.new ≡ take k names.old ++ loops_in (y ∷ []))) }
 {
-    if codec::tag_at(b, at, end) == 1 {
-        let p = codec::le_at(b, 1, at, end);
-        names[k] = codec::count_at(b, p, end);
+    if s.tag_at(at) == 1 {
+        let p = s.le_at(1, at);
+        names[k] = s.count_at(p);
         return k + 1;
     }
     k
 }
 
 // The loops that an order names, as far as there is room.
-fn note_names(b: &[u8], at: usize, end: u32, names: &mut [usize]) -> usize
-    requires { end ≤ length b.now }
-    ensures { (length names.new ≡ length names.old) × ((result ≤ length names.new) × ((o : List Item) → Is (list_c item_c) b.now end at o → Noted (loops_in o) names.new result)) }
+fn note_names(s: Section, at: usize, names: &mut [usize]) -> usize
+    ensures { (length names.new ≡ length names.old) × ((result ≤ length names.new) × ((o : List Item) → Is (list_c item_c) s.entry.bytes.now s.entry.end at o → Noted (loops_in o) names.new result)) }
 {
-    let mut left = codec::count_at(b, at, end);
-    let mut p = codec::le_at(b, 4, at, end);
+    let n = s.count_at(at);
+    let mut p = s.le_at(4, at);
     let mut k: usize = 0;
-    while 0 < left {
+    for _i in 0..n {
         if names.len() <= k {
             return k;
         }
-        k = note_name(b, p, end, names, k);
-        p = format::item_at(b, p, end);
-        left = left - 1;
+        k = note_name(s, p, names, k);
+        p = format::Item::ends_at(s, p);
     }
     k
 }
 
 // The same from the first 33 loops that it names, as `tree::repeats_at`.
-fn order_repeats(b: &[u8], at: usize, end: u32) -> bool
-    requires { end ≤ length b.now }
-    ensures { Says (list_c item_c) b.now end at repeats_in result }
+fn order_repeats(s: Section, at: usize) -> bool
+    ensures { Says (list_c item_c) s.entry.bytes.now s.entry.end at repeats_in result }
 {
-    if codec::count_at(b, at, end) < 2 {
+    if s.count_at(at) < 2 {
         return false;
     }
     let mut names = [0usize; 33];
-    let named = note_names(b, at, end, &mut names);
+    let named = note_names(s, at, &mut names);
     if tree::names_repeat(&names, named) {
         return true;
     }
     if named < 33 {
         return false;
     }
-    order_searched(b, at, end)
+    order_searched(s, at)
 }
 
-fn misordered_at(
-    b: &[u8],
-    at: usize,
-    end: u32,
-    loops: usize,
-    bound: u32,
-    places: &[usize],
-    k: usize,
-) -> bool
-    requires { Placed b.now bound loops places.now × (end ≤ length b.now) × (bound ≤ length b.now) }
-    ensures { (ls : List Loop) → Is (list_c loop_c) b.now bound loops ls → Says (list_c item_c) b.now end at (misordered ls k) result }
+fn misordered_at(s: Section, at: usize, loops: Loops, k: usize) -> bool
+    ensures { (ls : List Loop) → Is (list_c loop_c) loops.entry.section.bytes.now loops.entry.section.end loops.entry.at ls → Says (list_c item_c) s.entry.bytes.now s.entry.end at (misordered ls k) result }
 {
-    if order_repeats(b, at, end) {
+    if order_repeats(s, at) {
         return true;
     }
-    items_misplaced(b, at, end, loops, bound, places, k)
+    items_misplaced(s, at, loops, k)
 }
 
-fn misorders(b: &[u8], at: usize, end: u32, loops: usize, bound: u32, places: &[usize]) -> bool
-    requires { Placed b.now bound loops places.now × (end ≤ length b.now) × (bound ≤ length b.now) }
-    ensures { (ls : List Loop) → Is (list_c loop_c) b.now bound loops ls → Says (list_c (list_c item_c)) b.now end at (any_from (misordered ls) 0) result }
+fn misorders(s: Section, at: usize, loops: Loops) -> bool
+    ensures { (ls : List Loop) → Is (list_c loop_c) loops.entry.section.bytes.now loops.entry.section.end loops.entry.at ls → Says (list_c (list_c item_c)) s.entry.bytes.now s.entry.end at (any_from (misordered ls) 0) result }
 {
-    let mut left = codec::count_at(b, at, end);
-    let mut p = codec::le_at(b, 4, at, end);
-    let mut k: usize = 0;
-    while 0 < left {
-        if misordered_at(b, p, end, loops, bound, places, k) {
+    let n = s.count_at(at);
+    let mut p = s.le_at(4, at);
+    for k in 0..n {
+        if misordered_at(s, p, loops, k) {
             return true;
         }
-        p = format::items_at(b, p, end);
-        k = k + 1;
-        left = left - 1;
+        p = Items::<format::Item>::ends_at(s, p);
     }
     false
 }
 
 // ---- the whole
 
-fn spec_tangled(b: &[u8], at: usize, end: u32, roots: usize, places: &[usize]) -> bool
-    requires { Placed b.now end at places.now × (roots ≡ spec_roots b.now end at) × (end ≤ length b.now) }
-    ensures { Says spec_c b.now end at tangled_spec result }
+fn spec_tangled(loops: Loops, roots: usize) -> bool
+    requires { roots ≡ spec_roots loops.section.bytes.now loops.section.end loops.at }
+    ensures { Says spec_c loops.entry.section.bytes.now loops.entry.section.end loops.entry.at tangled_spec result }
 {
-    if loops_repeat(b, at, end, places) {
+    if loops_repeat(loops) {
         return true;
     }
-    let x = disagreements(b, at, end, places);
-    let y = rings(b, at, end, places);
-    let z = misroots(b, at, end, roots, places);
+    let x = disagreements(loops);
+    let y = rings(loops);
+    let z = misroots(loops, roots);
     codec::either(x, codec::either(y, z))
 }
 
@@ -435,21 +336,34 @@ pub fn tangled_at(b: &[u8], roots: usize, tables: usize) -> bool
     let plan = says::start(b, 4);
     let layout = says::start(b, 8);
     let envelope = says::start(b, 12);
-    let n = codec::count_at(b, 0, plan);
-    if tree::spec_outside(b, 0, plan, roots, tables) {
+    let spec = Section {
+        bytes: b,
+        end: plan,
+    };
+    let orders = Section {
+        bytes: b,
+        end: envelope,
+    };
+    let n = spec.count_at(0);
+    if tree::spec_outside(spec, 0, roots, tables) {
         return true;
     }
-    if tree::orders_outside(b, layout as usize, envelope, n) {
+    if tree::orders_outside(orders, layout as usize, n) {
         return true;
     }
     // no list of roots that is counted through is long
-    if tree::repeats_at(b, roots, plan) {
+    if tree::repeats_at(spec, roots) {
         return true;
     }
     let mut places = [0usize; 64];
-    tree::fill_places(b, 0, plan, &mut places);
-    if spec_tangled(b, 0, plan, roots, &places) {
+    tree::fill_places(spec, 0, &mut places);
+    let loops = Loops {
+        section: spec,
+        at: 0,
+        places: &places,
+    };
+    if spec_tangled(loops, roots) {
         return true;
     }
-    misorders(b, layout as usize, envelope, 0, plan, &places)
+    misorders(orders, layout as usize, loops)
 }

@@ -3,7 +3,7 @@ use Prim.Native.Nat.{ℕ}
 use mathlib.Core.Path.{◌≡◌, refl, sym, ap, ◌∙◌}
 use mathlib.Core.Bool.{Bool}
 use mathlib.Core.List.{List, [], ◌∷◌, ◌++◌, append-nil}
-use mathlib.Core.Option.{Option, none, some}
+use Rattle.std.specs.Prelude.{Option, None, Some}
 use Rattle.format.specs.Spec.{Control}
 use Rattle.format.specs.Job.{Job}
 use Rattle.format.specs.Ask.{loop_of}
@@ -33,15 +33,15 @@ module _ (j : Job) (s : State) where
   opener_so : (l : ℕ) (o : Option Control) → (loop_of j l).control ≡ o
       → ((opener_out j l s).stops ≡ []) × ((opener_out j l s).bytes ≡ joined_all (separators_of j) (dues_of (opener_due j l s.counter))) × ((opener_out j l s).state.counter ≡ step_counters j (opener l) s.counter) × (traced_sources (opener_out j l s).segments ≡ sources_of (opener_due j l s.counter))
   unfolding opener_out opener_due step_counters joined_all
-  opener_so l none e = rw e (refl, refl, refl, refl)
-  opener_so l (some c) e = rw e (refl, sym (append-nil _), refl, refl)
+  opener_so l None e = rw e (refl, refl, refl, refl)
+  opener_so l (Some c) e = rw e (refl, sym (append-nil _), refl, refl)
 
   closer_so : (l : ℕ) (b : Bool) (n m : ℕ) (o : Option Control) → (loop_of j l).control ≡ o → (d : Option (List ℕ)) → (loop_of j l).end ≡ d
       → ((closer_out j l b n m s).stops ≡ []) × ((closer_out j l b n m s).bytes ≡ joined_all (separators_of j) (dues_of (closer_due j l b n m s.counter))) × ((closer_out j l b n m s).state.counter ≡ s.counter) × (traced_sources (closer_out j l b n m s).segments ≡ sources_of (closer_due j l b n m s.counter))
   unfolding closer_out closer_due joined_all
-  closer_so l b n m none e d q = rw e (refl, refl, refl, refl)
-  closer_so l b n m (some c) e none q = rw (e, q) (refl, refl, refl, refl)
-  closer_so l b n m (some c) e (some id) q = rw (e, q) (refl, sym (append-nil _), refl, refl)
+  closer_so l b n m None e d q = rw e (refl, refl, refl, refl)
+  closer_so l b n m (Some c) e None q = rw (e, q) (refl, refl, refl, refl)
+  closer_so l b n m (Some c) e (Some id) q = rw (e, q) (refl, sym (append-nil _), refl, refl)
 
   one_so : (x : Step) → ((step_out j x s).stops ≡ stop_of x) × ((step_out j x s).bytes ≡ joined_all (separators_of j) (dues_of (step_due j x s.counter))) × ((step_out j x s).state.counter ≡ step_counters j x s.counter) × (traced_sources (step_out j x s).segments ≡ sources_of (step_due j x s.counter))
   unfolding step_out step_due step_counters stop_out row_out fill_out chunk_out row_due chunk_due joined_all

@@ -4,8 +4,9 @@ use mathlib.Core.Path.{◌≡◌, refl, sym, ap, ◌∙◌}
 use mathlib.Core.Logic.{inl}
 use mathlib.Core.Bool.{true, false}
 use mathlib.Core.List.{List, [], ◌∷◌}
-use mathlib.Core.Option.{none, some, none-ne-some}
 use native.Mathlib.Omega.{arith}
+use Rattle.std.specs.Prelude.{None, Some}
+use Rattle.std.proofs.lemmas.Option.{none-some}
 use Rattle.format.specs.Spec.{Loop, no_loop}
 use Rattle.format.specs.Ask as A
 use Rattle.format.specs.Job.{no_job}
@@ -41,9 +42,9 @@ tests : complete_ok (outline_of listing) ≡ true
 unfolding outline_of complete_ok tree_tests plan_tests fits climbs is_root loop_of plan_of table_of parent_of kind_of order_of segment_of table_parent plain repeated
 tests = refl
 
-no_control : (l : ℕ) → (A.loop_of listing l).control ≡ none
+no_control : (l : ℕ) → (A.loop_of listing l).control ≡ None
 unfolding A.loop_of
-no_control l = all_get (λ (v : Loop). v.control ≡ none) listing.spec.loops no_loop (refl, (refl, tt)) refl l
+no_control l = all_get (λ (v : Loop). v.control ≡ None) listing.spec.loops no_loop (refl, (refl, tt)) refl l
 
 pub complete : CompletePlan listing
 complete = record {
@@ -55,14 +56,14 @@ complete = record {
   );
   maps = ((record { element = omega arith; components = tt }, tt), ((record { element = omega arith; components = tt }, (record { element = omega arith; components = tt }, tt)), tt));
   rules = (tt, (tt, tt));
-  separators_alone = λ l h c e. absurd (none-ne-some c (sym (no_control l) ∙ e));
+  separators_alone = λ l h c e. absurd (none-some c (sym (no_control l) ∙ e));
   codes = record { planned = (((tt, tt), tt), (((record { no_element = (λ e. omega (arith, e), (λ e. omega (arith, e), tt)); no_component = (λ e. omega (arith, e), (λ e. omega (arith, e), tt)); no_segment = (λ e. omega (arith, e), (λ e. omega (arith, e), tt)) }, (tt, tt)), tt), tt)); elements = ((tt, tt), ((tt, (tt, tt)), tt)); components = ((tt, tt), ((tt, (tt, tt)), tt)); version = tt };
 }
 
 -- ---- its due segments
 
 abbrev at : ℕ → List ℕ → Part
-at e text = record { element = e; component = none; text = text }
+at e text = record { element = e; component = None; text = text }
 
 abbrev CLP : List ℕ
 CLP = 67 ∷ 76 ∷ 80 ∷ []
@@ -82,7 +83,7 @@ unfolding due_segments steps_due step_due step_counters row_due row_put put_cell
 dues = rw steps refl
 
 -- table and row of the listing's lines S
-pub sources : sources_of (due_segments listing) ≡ some (0, 0) ∷ some (1, 0) ∷ some (0, 1) ∷ []
+pub sources : sources_of (due_segments listing) ≡ Some (0, 0) ∷ Some (1, 0) ∷ Some (0, 1) ∷ []
 unfolding due_segments steps_due step_due step_counters row_due
 sources = rw steps refl
 

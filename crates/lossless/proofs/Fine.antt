@@ -4,8 +4,9 @@ use mathlib.Core.Path.{◌≡◌, refl, sym, ap, ◌∙◌}
 use mathlib.Core.Logic.{◌≢◌, ◌⊎◌, inl, inr}
 use mathlib.Core.Bool.{Bool, true, false}
 use mathlib.Core.List.{List, [], ◌∷◌}
-use mathlib.Core.Option.{Option, none, some, none-ne-some}
 use native.Mathlib.Omega.{arith}
+use Rattle.std.specs.Prelude.{Option, None, Some}
+use Rattle.std.proofs.lemmas.Option.{none-some}
 use lib.Dec.{eqb}
 use borrow.Author.Tests.{eq-eqb, eqb-true, eqb-false}
 use Rattle.format.specs.Job.{Job}
@@ -29,7 +30,7 @@ NotAt x y = x.element ≡ y.element → x.component ≢ y.component
 
 -- an element with one plain part has plain parts only
 abbrev pub SameKind : Part → Part → Type 0
-SameKind x y = x.element ≡ y.element → x.component ≡ none → y.component ≡ none
+SameKind x y = x.element ≡ y.element → x.component ≡ None → y.component ≡ None
 
 abbrev pub Starts : Part → Type 0
 Starts y = (1 ≤ y.element) × IfThere (λ c. 1 ≤ c) y.component
@@ -40,10 +41,10 @@ OwnText xs = All (λ y. text_of xs y.element y.component ≡ y.text)
 -- ---- each part's text is the one planned for its place
 
 rank_same : (a b : Option ℕ) → rank a ≡ rank b → a ≡ b
-rank_same none none e = refl
-rank_same none (some c) e = absurd (omega arith)
-rank_same (some c) none e = absurd (omega arith)
-rank_same (some c) (some d) e = let z : c ≡ d = omega arith in ap {B = Option ℕ} some z
+rank_same None None e = refl
+rank_same None (Some c) e = absurd (omega arith)
+rank_same (Some c) None e = absurd (omega arith)
+rank_same (Some c) (Some d) e = let z : c ≡ d = omega arith in ap {B = Option ℕ} Some z
 
 not_at : (x y : Part) → NotAt x y → is_at y.element y.component x ≡ false
 not_at x y n = go (eqb x.element y.element) refl (eqb (rank x.component) (rank y.component)) refl
@@ -74,12 +75,12 @@ pub kinds : (xs : List Part) → Each2 SameKind xs → (p : ℕ) → PlainAt p x
 kinds xs h p = go (scan xs)
   where
     Plainly : List Part → Type 0
-    Plainly ys = (x : Part) × (In x ys × ((x.element ≡ p) × (x.component ≡ none)))
+    Plainly ys = (x : Part) × (In x ys × ((x.element ≡ p) × (x.component ≡ None)))
 
     first : (y : Part) (ys : List Part) (b : Bool) → eqb y.element p ≡ b → (o : Option ℕ) → y.component ≡ o → Plainly ys ⊎ ComposedAt p ys → Plainly (y ∷ ys) ⊎ ComposedAt p (y ∷ ys)
-    first y ys true e none q r = inl (y, (inl refl, (eqb-true _ _ e, q)))
-    first y ys true e (some c) q (inl w) = inl (w.0, (inr w.1.0, w.1.1))
-    first y ys true e (some c) q (inr r) = inr (λ z k. none-ne-some c (sym k ∙ q), r)
+    first y ys true e None q r = inl (y, (inl refl, (eqb-true _ _ e, q)))
+    first y ys true e (Some c) q (inl w) = inl (w.0, (inr w.1.0, w.1.1))
+    first y ys true e (Some c) q (inr r) = inr (λ z k. none-some c (sym k ∙ q), r)
     first y ys false e o q (inl w) = inl (w.0, (inr w.1.0, w.1.1))
     first y ys false e o q (inr r) = inr (λ z k. eqb-false _ _ e z, r)
 
@@ -125,10 +126,10 @@ module _ (s : Separators) (d : Due) (f : Fine s d) (x : Segment) (r : ReadAs s d
     where
       go : (o : Option ℕ) → y.component ≡ o → PlainAt y.element d.parts ⊎ ComposedAt y.element d.parts → (1 ≤ y.element) × IfThere (λ c. 1 ≤ c) y.component
           → read_at s x y.element o ≡ text_of d.parts y.element o
-      go none e (inl a) q = r.plain_at y.element q.0 a
-      go none e (inr a) q = absurd (all_in _ d.parts a y i refl e)
-      go (some c) e (inl a) q = absurd (none-ne-some c (sym (all_in _ d.parts a y i refl) ∙ e))
-      go (some c) e (inr a) q = r.component_at y.element q.0 a c (rw e at q.1)
+      go None e (inl a) q = r.plain_at y.element q.0 a
+      go None e (inr a) q = absurd (all_in _ d.parts a y i refl e)
+      go (Some c) e (inl a) q = absurd (none-some c (sym (all_in _ d.parts a y i refl) ∙ e))
+      go (Some c) e (inr a) q = r.component_at y.element q.0 a c (rw e at q.1)
 
   read_exactly : ReadExactly s d x
   read_exactly = record { planned = r; one_kind = f.one_kind; each_part = in_all _ d.parts (λ y i. read_part y i ∙ all_in _ d.parts f.own y i) }

@@ -3,10 +3,10 @@ use Prim.Native.Nat.{ℕ, zero, suc, ◌+◌, ◌≤◌, ◌<◌}
 use mathlib.Core.Path.{◌≡◌, refl, sym, ap, ◌∙◌}
 use mathlib.Core.Bool.{Bool, true, false, ◌&&◌, false≢true}
 use mathlib.Core.List.{List, [], ◌∷◌, map}
-use mathlib.Core.Option.{Option, none, some}
 use native.Mathlib.Omega.{arith}
 use native.Mathlib.Nat.{zero-add}
 use native.Mathlib.Decide.{dec_lt}
+use Rattle.std.specs.Prelude.{Option, None, Some}
 use lib.ListN.{length, get_or, get_or-eq_default}
 use lib.Dec.{eqb, ltb}
 use borrow.Author.Tests.{eqb-true, eqb-false, eq-eqb, ne_eqb, lt-ltb, le-ltb, leb-false}
@@ -101,10 +101,10 @@ none_member f k (x ∷ xs) h m = go (f x) refl h (eqb k x) refl m (none_member f
 
 if_some_true : (l : ℕ) (o : Option ℕ) → if_some (eqb l) o ≡ true → is o l ≡ true
 unfolding if_some
-if_some_true l none h = absurd (false≢true h)
-if_some_true l (some p) h = h
+if_some_true l None h = absurd (false≢true h)
+if_some_true l (Some p) h = h
 
-if_some_false : (f : ℕ → Bool) (o : Option ℕ) (p : ℕ) → if_some f o ≡ false → o ≡ some p → f p ≡ false
+if_some_false : (f : ℕ → Bool) (o : Option ℕ) (p : ℕ) → if_some f o ≡ false → o ≡ Some p → f p ≡ false
 if_some_false f o p h e = W.none_some f o h p e
 
 -- ---- the loops of a job
@@ -152,7 +152,7 @@ module _ (j : Job) (pass : tangled j ≡ false) where
       let b = none_of _ _ a.1 in
       (a.0, b.0, (none_of _ _ b.1).0)
 
-  parent_in : (l p : ℕ) → l < n → (loop_at ls l).parent ≡ some p → p < n
+  parent_in : (l p : ℕ) → l < n → (loop_at ls l).parent ≡ Some p → p < n
   unfolding outside_loop
   parent_in l p h e =
       let f = none_in (outside_loop n) ls loops.0 l no_loop h in
@@ -177,7 +177,7 @@ module _ (j : Job) (pass : tangled j ≡ false) where
   parent_kid : (l k : ℕ) → k < n → is (O.parent_of o k) l ≡ true → member_of k (kids l) ≡ true
   unfolding not_child kids
   parent_kid l k h e =
-      let p : (loop_at ls k).parent ≡ some l = is_some _ l (ap (λ p. is p l) (sym (parent_at k)) ∙ e) in
+      let p : (loop_at ls k).parent ≡ Some l = is_some _ l (ap (λ p. is p l) (sym (parent_at k)) ∙ e) in
       not_false _ (if_some_false (not_child ls k) (loop_at ls k).parent l (agrees k h).1 p)
 
   agree : (l k : ℕ) → l < n → (b c : Bool) → is (O.parent_of o k) l ≡ b → member_of k (kids l) ≡ c → c ≡ b
@@ -200,14 +200,14 @@ module _ (j : Job) (pass : tangled j ≡ false) where
       go (yes h) = times_once k (kids l) (agrees l h).2 ∙ ap once (agree l k h (is (O.parent_of o k) l) (member_of k (kids l)) refl refl)
       go (no h) = past l k (omega arith) ∙ sym (stranger l k (omega arith) (is (O.parent_of o k) l) refl)
 
-  climb : (h l : ℕ) → present (W.times h (up ls) (some l)) ≡ false → climbs o h l ≡ true
+  climb : (h l : ℕ) → present (W.times h (up ls) (Some l)) ≡ false → climbs o h l ≡ true
   unfolding climbs W.times up present
   climb zero l e = absurd (false≢true (sym e))
   climb (suc h) l e = rw (parent_at l) (go (loop_at ls l).parent e (climb h))
     where
-      go : (x : Option ℕ) → present (W.times h (up ls) x) ≡ false → ((p : ℕ) → present (W.times h (up ls) (some p)) ≡ false → climbs o h p ≡ true) → on x (climbs o h) true ≡ true
-      go none e ih = refl
-      go (some p) e ih = ih p e
+      go : (x : Option ℕ) → present (W.times h (up ls) x) ≡ false → ((p : ℕ) → present (W.times h (up ls) (Some p)) ≡ false → climbs o h p ≡ true) → on x (climbs o h) true ≡ true
+      go None e ih = refl
+      go (Some p) e ih = ih p e
 
   no_ring : (l : ℕ) → l < length o.loops → climbs o (length o.loops) l ≡ true
   unfolding ringed
@@ -223,8 +223,8 @@ module _ (j : Job) (pass : tangled j ≡ false) where
       ∙ go (loop_at ls l).parent
     where
       go : (x : Option ℕ) → pick (present x) 0 1 ≡ once (on x (λ p. false) true)
-      go none = refl
-      go (some p) = refl
+      go None = refl
+      go (Some p) = refl
 
   roots : (l : ℕ) → times l o.roots ≡ once (is_root o l)
   unfolding outline_of is_root

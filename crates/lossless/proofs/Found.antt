@@ -3,8 +3,8 @@ use Prim.Native.Nat.{ℕ, zero, suc, ◌+◌, ◌*◌}
 use mathlib.Core.Path.{◌≡◌, refl, sym, ap, ◌∙◌}
 use mathlib.Core.Bool.{Bool, true, false, cond, ◌||◌}
 use mathlib.Core.List.{List, [], ◌∷◌, ◌++◌, append_assoc, append-nil}
-use mathlib.Core.Option.{Option, none, some}
 use native.Mathlib.Omega.{arith}
+use Rattle.std.specs.Prelude.{Option, None, Some}
 use lib.Dec.{eqb, ltb}
 use lib.ListN.{length, get_or}
 use borrow.Author.Tests.{ne_eqb}
@@ -118,14 +118,14 @@ module _ (j : Job) where
       text : List ℕ
       text = padded_to d s.given.reason s.given.text
 
-      checks : (f : ℕ) (b : Bool) → found (pick b (delimited j (field f) (place_of trigger position none) text) [] ++ unwritten (field f) (place_of trigger position none) s.given.reason) ≡ holds (pick b (text ∷ []) [])
+      checks : (f : ℕ) (b : Bool) → found (pick b (delimited j (field f) (place_of trigger position None) text) [] ++ unwritten (field f) (place_of trigger position None) s.given.reason) ≡ holds (pick b (text ∷ []) [])
       checks f true = field_found _ _ _ _
       checks f false = unwritten_found _ _ _
 
-      go : (x : Option ℕ) → found (on x (λ f. record { parts = part_at position none text ∷ []; findings = field_findings j trigger position f s.given text; entries = 1 }) (put_text position none text)).findings
+      go : (x : Option ℕ) → found (on x (λ f. record { parts = part_at position None text ∷ []; findings = field_findings j trigger position f s.given text; entries = 1 }) (put_text position None text)).findings
           ≡ holds (on x (λ f. pick s.given.checked (text ∷ []) []) [])
-      go none = refl
-      go (some f) = checks f s.given.checked
+      go None = refl
+      go (Some f) = checks f s.given.checked
 
   element_found : (trigger : List ℕ) (depth place : ℕ) (control : List ℕ) (x : ℕ × ElementDef)
       → found (put_element j trigger depth place control x).findings ≡ holds (on (source_at j trigger depth place control x.0 x.1) (sourced_text x.1) [])
@@ -133,25 +133,25 @@ module _ (j : Job) where
   element_found trigger depth place control x = go (source_at j trigger depth place control x.0 x.1)
     where
       go : (o : Option Sourced) → found (on o (put_sourced j trigger x.0 x.1) nothing).findings ≡ holds (on o (sourced_text x.1) [])
-      go none = refl
-      go (some s) = sourced_found trigger x.0 x.1 s
+      go None = refl
+      go (Some s) = sourced_found trigger x.0 x.1 s
 
   opener_found : (l : ℕ) (s : State) → found (opener_out j l s).findings ≡ some_of (segment_holds j) (opener_due j l s.counter)
   unfolding opener_out opener_due opener_put
   opener_found l s = go (loop_of j l).control refl
     where
       go : (o : Option Control) → (loop_of j l).control ≡ o → found (opener_out j l s).findings ≡ some_of (segment_holds j) (opener_due j l s.counter)
-      go none e = rw e refl
-      go (some c) e = rw e (put_found _ _ (element_found (loop_of j l).trigger (depth_of j l) c.opener (control_in j l c (get_or s.counter l 0))) (on (segment_def j (loop_of j l).trigger) (λ d. d) []) ∙ or_false _)
+      go None e = rw e refl
+      go (Some c) e = rw e (put_found _ _ (element_found (loop_of j l).trigger (depth_of j l) c.opener (control_in j l c (get_or s.counter l 0))) (on (segment_def j (loop_of j l).trigger) (λ d. d) []) ∙ or_false _)
 
   closer_found : (l : ℕ) (b : Bool) (n m : ℕ) (s : State) → found (closer_out j l b n m s).findings ≡ some_of (segment_holds j) (closer_due j l b n m s.counter)
   unfolding closer_out closer_due
   closer_found l b n m s = go (loop_of j l).control refl (loop_of j l).end refl
     where
       go : (o : Option Control) → (loop_of j l).control ≡ o → (d : Option (List ℕ)) → (loop_of j l).end ≡ d → found (closer_out j l b n m s).findings ≡ some_of (segment_holds j) (closer_due j l b n m s.counter)
-      go none e d q = rw e refl
-      go (some c) e none q = rw (e, q) refl
-      go (some c) e (some id) q = rw (e, q) (ap found (closer_quiet _ _ _))
+      go None e d q = rw e refl
+      go (Some c) e None q = rw (e, q) refl
+      go (Some c) e (Some id) q = rw (e, q) (ap found (closer_quiet _ _ _))
 
   -- ---- the walk
 
@@ -186,19 +186,19 @@ module _ (j : Job) where
 
   stop_found : (l t r : ℕ) (s : State) → found (stop_out (outline_of j) l t r s).findings ≡ false
   unfolding stop_out
-  stop_found l t r s = go (get_or s.high t none)
+  stop_found l t r s = go (get_or s.high t None)
     where
       above_it : (h : ℕ) (x : Option ℕ) → found (on x (λ u. out_of_order t r u (on ((outline_of j).reference t u r) (λ v. v) 0) h ∷ []) []) ≡ false
-      above_it h none = refl
-      above_it h (some u) = refl
+      above_it h None = refl
+      above_it h (Some u) = refl
 
       lower : (h : ℕ) (b : Bool) → found (pick b (on (above (outline_of j) t r) (λ u. out_of_order t r u (on ((outline_of j).reference t u r) (λ v. v) 0) h ∷ []) []) []) ≡ false
       lower h true = above_it h (above (outline_of j) t r)
       lower h false = refl
 
       go : (x : Option ℕ) → found (order_findings (outline_of j) t r x) ≡ false
-      go none = refl
-      go (some h) = lower h (ltb r h)
+      go None = refl
+      go (Some h) = lower h (ltb r h)
 
   -- the rows of a chunk, from number k on
   rows_right : (l i t k : ℕ) (rs : List ℕ) (s : State) → found (steps_out j (row_steps l i t k rs) s).findings ≡ holds (chunk_cells j (identifier_of j l i) t (step_of j t) k (planned_of j l i).elements rs)
@@ -270,8 +270,8 @@ module _ (o : Outline) where
       two false x h = refl
 
       go : (x : Option ℕ) → found (on x (λ f. cond (ltb f r) (duplicate t r (o.key t r) f ∷ []) []) []) ≡ false
-      go none = refl
-      go (some f) = two (ltb f r) (duplicate t r (o.key t r) f) refl
+      go None = refl
+      go (Some f) = two (ltb f r) (duplicate t r (o.key t r) f) refl
 
   contradiction_quiet : (t r : ℕ) (p : Row) (a : ℕ) → found (contradiction_at o t r p a) ≡ false
   unfolding contradiction_at
@@ -282,28 +282,28 @@ module _ (o : Outline) where
       two false x h = rw h
 
       go : (x y : Option ℕ) → found (differing x y (λ v e. mismatch t r a v p.table p.row e ∷ [])) ≡ false
-      go none y = refl
-      go (some v) none = refl
-      go (some v) (some e) = two (eqb v e) (mismatch t r a v p.table p.row e) refl
+      go None y = refl
+      go (Some v) None = refl
+      go (Some v) (Some e) = two (eqb v e) (mismatch t r a v p.table p.row e) refl
 
   missing_quiet : (t r : ℕ) → found (missing_at o t r) ≡ false
   unfolding missing_at
   missing_quiet t r = go (repeated o t) (claim_in o t r (anchors o t)) (table_parent o t)
     where
       go : (b : Bool) (x : Option Claim) (y : Option ℕ)
-          → found (cond b (on x (λ k. missing t r k.table (some k.value)) (missing t r (last_table t (anchors o t)) none) ∷ []) (on y (λ u. missing t r u (o.reference t u r) ∷ []) [])) ≡ false
-      go true none y = refl
-      go true (some k) y = refl
-      go false x none = refl
-      go false x (some u) = refl
+          → found (cond b (on x (λ k. missing t r k.table (Some k.value)) (missing t r (last_table t (anchors o t)) None) ∷ []) (on y (λ u. missing t r u (o.reference t u r) ∷ []) [])) ≡ false
+      go true None y = refl
+      go true (Some k) y = refl
+      go false x None = refl
+      go false x (Some u) = refl
 
   row_quiet : (t r : ℕ) → found (row_findings o t r) ≡ false
   unfolding row_findings contradictions
   row_quiet t r = go (hangs o t r)
     where
       go : (x : Option Row) → found (on x (contradictions o t r) (missing_at o t r)) ≡ false
-      go none = missing_quiet t r
-      go (some p) = none_each is_delimiter (contradiction_at o t r p) (table_of o p.table).ancestors (contradiction_quiet t r p)
+      go None = missing_quiet t r
+      go (Some p) = none_each is_delimiter (contradiction_at o t r p) (table_of o p.table).ancestors (contradiction_quiet t r p)
 
   nest_quiet : found (nest_findings o) ≡ false
   unfolding nest_findings duplicates table_findings

@@ -4,8 +4,8 @@ use mathlib.Core.Path.{◌≡◌, sym, ap, ◌∙◌}
 use mathlib.Core.Logic.{◌≢◌}
 use mathlib.Core.Bool.{Bool, true, false, cond}
 use mathlib.Core.List.{List, [], ◌∷◌, map}
-use mathlib.Core.Option.{Option, none, some}
 use native.Mathlib.Omega.{arith}
+use Rattle.std.specs.Prelude.{Option, None, Some}
 use lib.ListN.{length, get_or}
 use borrow.Author.Tests.{ltb-true}
 use Rattle.codec.specs.Forms.{bytes_c}
@@ -36,7 +36,7 @@ found_so : {K B : Type 0} (P : B → Type 0) (is : K → Bool) (xs : List (K × 
 found_so P is [] h = tt
 found_so {K} {B} P is (x ∷ xs) h = go (is x.0) (found_so P is xs h.1)
   where
-    go : (b : Bool) → IfThere P (found is xs) → IfThere P (cond b (some x.1) (found is xs))
+    go : (b : Bool) → IfThere P (found is xs) → IfThere P (cond b (Some x.1) (found is xs))
     go true ih = h.0
     go false ih = ih
 
@@ -45,8 +45,8 @@ unfolding segment_def
 segment_so P j id nil h = go (segment_def j id) (found_so P (same_bytes id) j.spec.segments h)
   where
     go : (o : Option SegmentDef) → IfThere P o → P (on o (λ d. d) [])
-    go none k = nil
-    go (some d) k = k
+    go None k = nil
+    go (Some d) k = k
 
 all_at : {A : Type 0} (P : A → Type 0) (xs : List A) → ((i : ℕ) (d : A) → i < length xs → P (get_or xs i d)) → All P xs
 all_at P [] h = tt
@@ -72,7 +72,7 @@ module _ (j : Job) where
   pub codes_at : CompletePlan j → (l i : ℕ) → All (λ (e : ElementPlan). CodeClear j e.value) (planned_of j l i).elements
   codes_at C = planned_so (λ (p : SegmentPlan). All (λ (e : ElementPlan). CodeClear j e.value) p.elements) tt C.codes.planned
 
-  pub rule_at : CompletePlan j → (l : ℕ) (c : Control) → (loop_of j l).control ≡ some c → RuleFits c
+  pub rule_at : CompletePlan j → (l : ℕ) (c : Control) → (loop_of j l).control ≡ Some c → RuleFits c
   unfolding loop_of
   rule_at C l c e = rw e at (all_get (λ (v : Loop). IfThere RuleFits v.control) j.spec.loops no_loop C.rules tt l)
 

@@ -4,10 +4,11 @@ use mathlib.Core.Path.{◌≡◌, refl, sym, ap, ◌∙◌, subst}
 use mathlib.Core.Logic.{◌≢◌}
 use mathlib.Core.Bool.{Bool, true, false, false≢true}
 use mathlib.Core.List.{List, [], ◌∷◌, ◌++◌}
-use mathlib.Core.Option.{some, none-ne-some}
 use native.Mathlib.Omega.{arith}
 use native.Mathlib.Nat.{not-suc-le-zero}
 use native.Mathlib.Decide.{dec_lt}
+use Rattle.std.specs.Prelude.{Some}
+use Rattle.std.proofs.lemmas.Option.{none-some}
 use lib.ListN.{length, get_or, replicate, get_or-eq_default}
 use lib.Dec.{eqb}
 use borrow.Author.Tests.{eq-eqb, le-leb}
@@ -93,7 +94,7 @@ module _ (j : Job) (fit : unfit j ≡ false) where
       record { element_segment = p.0.1.0; element_component = p.0.0; component_segment = p.1.0.0 }
 
   -- the repetition separator, where there is one
-  pub repetition_apart : (r : ℕ) → j.envelope.repetition ≡ some r → (r ≢ j.envelope.element) × (r ≢ j.envelope.segment)
+  pub repetition_apart : (r : ℕ) → j.envelope.repetition ≡ Some r → (r ≢ j.envelope.element) × (r ≢ j.envelope.segment)
   unfolding separators
   repetition_apart r e =
       let p = repeats_apart (separators j.envelope) (no_repeats j fit) in
@@ -135,16 +136,16 @@ module _ (j : Job) (fit : unfit j ≡ false) where
       go (yes q) = q
       go (no q) = absurd (never (subst P (past_loops l (omega arith)) h))
 
-  pub trigger_clear : (l : ℕ) (c : Control) → (loop_of j l).control ≡ some c → ((loop_of j l).trigger ≢ []) × Clear j (loop_of j l).trigger
+  pub trigger_clear : (l : ℕ) (c : Control) → (loop_of j l).control ≡ Some c → ((loop_of j l).trigger ≢ []) × Clear j (loop_of j l).trigger
   unfolding unfit_loop
   trigger_clear l c e =
-      let h = there l (λ v. v.control ≡ some c) (λ q. none-ne-some c q) e in
+      let h = there l (λ v. v.control ≡ Some c) (λ q. none-some c q) e in
       named_clear _ (none_of _ _ (loop_fit l h)).0
 
-  pub end_clear : (l : ℕ) (id : List ℕ) → (loop_of j l).end ≡ some id → (id ≢ []) × Clear j id
+  pub end_clear : (l : ℕ) (id : List ℕ) → (loop_of j l).end ≡ Some id → (id ≢ []) × Clear j id
   unfolding unfit_loop
   end_clear l id e =
-      let h = there l (λ v. v.end ≡ some id) (λ q. none-ne-some id q) e in
+      let h = there l (λ v. v.end ≡ Some id) (λ q. none-some id q) e in
       named_clear id (none_some unnamed (loop_of j l).end (none_of _ _ (none_of _ _ (none_of _ _ (loop_fit l h)).1).1).0 id e)
 
   pub occurrence_clear : (l i : ℕ) → i < length (loop_of j l).occurrences → (get_or (loop_of j l).occurrences i [] ≢ []) × Clear j (get_or (loop_of j l).occurrences i [])

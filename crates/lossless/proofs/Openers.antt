@@ -4,7 +4,6 @@ use mathlib.Core.Path.{◌≡◌, refl, sym}
 use mathlib.Core.Logic.{◌≢◌, ◌⊎◌, inl, inr}
 use mathlib.Core.Bool.{Bool, true, false, cond, false≢true}
 use mathlib.Core.List.{List, [], ◌∷◌, ◌++◌}
-use mathlib.Core.Option.{Option, none, some}
 use native.Mathlib.Omega.{arith}
 use lib.ListN.{length, replicate}
 use lib.Dec.{eqb, ltb, leb}
@@ -15,9 +14,8 @@ use Rattle.format.specs.Spec.{Control, ElementDef}
 use Rattle.format.specs.Job.{Job}
 use Rattle.format.specs.Ask.{loop_of, depth_of}
 use Rattle.format.specs.Refusal.{unfit}
-use Rattle.texts.specs.declared.envelope.Min.{Min}
-use Rattle.texts.specs.declared.envelope.Min.TheVariants as Min
-use Rattle.texts.specs.declared.render.Max.{Max}
+use Rattle.std.specs.Prelude.{Some, None, Option}
+use Rattle.texts.specs.Reason.{Width}
 use Rattle.texts.specs.Number.{count_text}
 use Rattle.texts.specs.Floor.{signed32}
 use Rattle.texts.specs.DateText.{envelope_date}
@@ -42,10 +40,10 @@ use Rattle.lossless.proofs.Fine.{NotAt, own_text, Fine}
 
 -- ---- numbers are digits
 
-zero_padded_lem : (min : Min) (text : List ℕ) → Textual text → Textual (zero_padded min text)
+zero_padded_lem : (min : Width) (text : List ℕ) → Textual text → Textual (zero_padded min text)
 unfolding zero_padded
-zero_padded_lem Min.Free text h = h
-zero_padded_lem (Min.At least) text h = all_append _ (replicate (least - length text) 48) text (zeros_textual (least - length text)) h
+zero_padded_lem None text h = h
+zero_padded_lem (Some least) text h = all_append _ (replicate (least - length text) 48) text (zeros_textual (least - length text)) h
 
 pub control_textual : (j : Job) (l : ℕ) (c : Control) (number : ℕ) → Textual (control_in j l c number)
 unfolding control_in control_text
@@ -60,12 +58,12 @@ module _ (j : Job) (fit : unfit j ≡ false) where
 
   -- ---- padding
 
-  pad_plain : (numeric : Bool) (min : Min) (max : Max) (text : List ℕ) → Plainly text → Plainly (padded numeric min max text)
+  pad_plain : (numeric : Bool) (min : Width) (max : Width) (text : List ℕ) → Plainly text → Plainly (padded numeric min max text)
   unfolding padded zero_padded space_padded
-  pad_plain true Min.Free max text h = h
-  pad_plain true (Min.At n) max text h = plain_append j (replicate (n - length text) 48) text (textual_plain _ (zeros_textual (n - length text))) h
-  pad_plain false Min.Free max text h = h
-  pad_plain false (Min.At n) max text h = go (is_at max n)
+  pad_plain true None max text h = h
+  pad_plain true (Some n) max text h = plain_append j (replicate (n - length text) 48) text (textual_plain _ (zeros_textual (n - length text))) h
+  pad_plain false None max text h = h
+  pad_plain false (Some n) max text h = go (is_at max n)
     where
       go : (b : Bool) → Plainly (cond b (text ++ replicate (n - length text) 32) text)
       go true = plain_append j text (replicate (n - length text) 32) h (textual_plain _ (spaces_textual (n - length text)))
@@ -85,33 +83,33 @@ module _ (j : Job) (fit : unfit j ≡ false) where
   one_plain b p q = record { no_element = (p, tt); no_segment = (q, tt) }
 
   repetition_sure : (o : Option (List ℕ)) (r : Option ℕ) → j.envelope.repetition ≡ r → IfThere Sure (repetition_given o r)
-  repetition_sure (some code) r e = inl refl
-  repetition_sure none none e = tt
-  repetition_sure none (some b) e = let a = repetition_apart j fit b e in inr (one_plain b a.0 a.1)
+  repetition_sure (Some code) r e = inl refl
+  repetition_sure None None e = tt
+  repetition_sure None (Some b) e = let a = repetition_apart j fit b e in inr (one_plain b a.0 a.1)
 
   -- what the fields give, as they are listed
   unfoldable givens : ElementDef → List (Option Given)
   givens d =
       let e = j.envelope in
-      some (plainly e.sender_qualifier)
-      ∷ some (plainly e.sender_id)
-      ∷ some (plainly e.receiver_qualifier)
-      ∷ some (plainly e.receiver_id)
-      ∷ some (plainly (on e.application_sender (λ x. x) (trim_end e.sender_id)))
-      ∷ some (plainly (on e.application_receiver (λ x. x) (trim_end e.receiver_id)))
-      ∷ some (outcome (envelope_date (signed32 e.date) (max_in d.max)))
-      ∷ some (outcome (envelope_time (signed32 e.time) (max_in d.max)))
-      ∷ some (plainly e.usage_indicator)
-      ∷ none
+      Some (plainly e.sender_qualifier)
+      ∷ Some (plainly e.sender_id)
+      ∷ Some (plainly e.receiver_qualifier)
+      ∷ Some (plainly e.receiver_id)
+      ∷ Some (plainly (on e.application_sender (λ x. x) (trim_end e.sender_id)))
+      ∷ Some (plainly (on e.application_receiver (λ x. x) (trim_end e.receiver_id)))
+      ∷ Some (outcome (envelope_date (signed32 e.date) (max_in d.max)))
+      ∷ Some (outcome (envelope_time (signed32 e.time) (max_in d.max)))
+      ∷ Some (plainly e.usage_indicator)
+      ∷ None
       ∷ repetition_given (first d.codes) e.repetition
-      ∷ some (separator e.component)
+      ∷ Some (separator e.component)
       ∷ []
 
   given_sure : (d : ElementDef) (f : ℕ) → IfThere Sure (field_given j.envelope d f)
   unfolding field_given givens
   given_sure d f =
       let a = apart j fit in
-      all_get (IfThere Sure) (givens d) none (
+      all_get (IfThere Sure) (givens d) None (
         inl refl,
         (
           inl refl,
@@ -150,15 +148,15 @@ module _ (j : Job) (fit : unfit j ≡ false) where
   abbrev Filled : ElementDef → Sourced → Type 0
   Filled d s = some_of (holds_separator j) (sourced_text d s) ≡ false → Plainly (padded_to d s.given.reason s.given.text)
 
-  sure_filled : (d : ElementDef) (f : ℕ) (g : Given) → Sure g → Filled d (record { field = some f; given = g })
+  sure_filled : (d : ElementDef) (f : ℕ) (g : Given) → Sure g → Filled d (record { field = Some f; given = g })
   sure_filled d f g (inl e) h =
       let k : some_of (holds_separator j) (padded_to d g.reason g.text ∷ []) ≡ false = rw e at h in
       clear_plain j _ (held_not j _ (none_all (holds_separator j) (padded_to d g.reason g.text ∷ []) k).0)
   sure_filled d f g (inr p) h = padded_plain d g.reason g.text p
 
-  field_filled : (d : ElementDef) (f : ℕ) (o : Option Given) → IfThere Sure o → IfThere (Filled d) (on o (λ g. some (record { field = some f; given = g })) none)
-  field_filled d f none h = tt
-  field_filled d f (some g) h = sure_filled d f g h
+  field_filled : (d : ElementDef) (f : ℕ) (o : Option Given) → IfThere Sure o → IfThere (Filled d) (on o (λ g. Some (record { field = Some f; given = g })) None)
+  field_filled d f None h = tt
+  field_filled d f (Some g) h = sure_filled d f g h
 
   code_plain : (codes : List (List ℕ)) → All (Clear j) codes → Plainly (on (first codes) (λ c. c) [])
   code_plain [] h = record { no_element = tt; no_segment = tt }
@@ -169,31 +167,31 @@ module _ (j : Job) (fit : unfit j ≡ false) where
   source_filled trigger depth place control position d codes = opened (eqb position place)
     where
       other : (v : Option (List ℕ)) → Filled d (on v versioned (unsourced d))
-      other none h = padded_plain d 0 (on (first d.codes) (λ c. c) []) (code_plain d.codes codes)
-      other (some text) h = sure_filled d version (plainly text) (inl refl) h
+      other None h = padded_plain d 0 (on (first d.codes) (λ c. c) []) (code_plain d.codes codes)
+      other (Some text) h = sure_filled d version (plainly text) (inl refl) h
 
-      by_field : (o : Option ℕ) → IfThere (Filled d) (on o (fielded j.envelope d) (some (on (version_at j trigger position) versioned (unsourced d))))
-      by_field none = other (version_at j trigger position)
-      by_field (some f) = field_filled d f (field_given j.envelope d f) (given_sure d f)
+      by_field : (o : Option ℕ) → IfThere (Filled d) (on o (fielded j.envelope d) (Some (on (version_at j trigger position) versioned (unsourced d))))
+      by_field None = other (version_at j trigger position)
+      by_field (Some f) = field_filled d f (field_given j.envelope d f) (given_sure d f)
 
-      opened : (b : Bool) → IfThere (Filled d) (pick b (some (record { field = some control_number; given = plainly control })) (on (field_at depth position) (fielded j.envelope d) (some (on (version_at j trigger position) versioned (unsourced d)))))
+      opened : (b : Bool) → IfThere (Filled d) (pick b (Some (record { field = Some control_number; given = plainly control })) (on (field_at depth position) (fielded j.envelope d) (Some (on (version_at j trigger position) versioned (unsourced d)))))
       opened true = sure_filled d control_number (plainly control) (inl refl)
       opened false = by_field (field_at depth position)
 
   -- a part at its element, or none
   element_so : (Q : List Part → Type 0) (trigger : List ℕ) (depth place : ℕ) (control : List ℕ) (x : ℕ × ElementDef) → All (Clear j) x.1.codes
       → some_of (holds_separator j) (on (source_at j trigger depth place control x.0 x.1) (sourced_text x.1) []) ≡ false
-      → Q [] → ((text : List ℕ) → Plainly text → Q (part_at x.0 none text ∷ [])) → Q (put_element j trigger depth place control x).parts
+      → Q [] → ((text : List ℕ) → Plainly text → Q (part_at x.0 None text ∷ [])) → Q (put_element j trigger depth place control x).parts
   unfolding put_element
   element_so Q trigger depth place control x codes h nil one = go (source_at j trigger depth place control x.0 x.1) (source_filled trigger depth place control x.0 x.1 codes) h
     where
       part : (s : Sourced) (o : Option ℕ) → s.field ≡ o → Plainly (padded_to x.1 s.given.reason s.given.text) → Q (put_sourced j trigger x.0 x.1 s).parts
-      part s none e p = rw e (one _ p)
-      part s (some f) e p = rw e (one _ p)
+      part s None e p = rw e (one _ p)
+      part s (Some f) e p = rw e (one _ p)
 
       go : (o : Option Sourced) → IfThere (Filled x.1) o → some_of (holds_separator j) (on o (sourced_text x.1) []) ≡ false → Q (on o (put_sourced j trigger x.0 x.1) nothing).parts
-      go none f h = nil
-      go (some s) f h = part s s.field refl (f h)
+      go None f h = nil
+      go (Some s) f h = part s s.field refl (f h)
 
   -- ---- the parts of a trigger, whose keys are at least low
 
@@ -201,7 +199,7 @@ module _ (j : Job) (fit : unfit j ≡ false) where
     rises : (p : ℕ) → p ≤ low → RisesFrom p ps
     places : Pairs NotAt ps
     from_low : All (λ (y : Part). low ≤ y.element) ps
-    plain : All (λ (y : Part). y.component ≡ none) ps
+    plain : All (λ (y : Part). y.component ≡ None) ps
     clear : All (λ (y : Part). Plainly y.text) ps
 
   opened_lower : (low high : ℕ) (ps : List Part) → low ≤ high → Opened high ps → Opened low ps
@@ -213,7 +211,7 @@ module _ (j : Job) (fit : unfit j ≡ false) where
     clear = o.clear;
   }
 
-  opened_next : (low at : ℕ) (text : List ℕ) (ps : List Part) → low ≤ at → Plainly text → Opened (at + 1) ps → Opened low (part_at at none text ∷ ps)
+  opened_next : (low at : ℕ) (text : List ℕ) (ps : List Part) → low ≤ at → Plainly text → Opened (at + 1) ps → Opened low (part_at at None text ∷ ps)
   opened_next low at text ps h t o = record {
     rises = λ p q. (omega arith, o.rises at (omega arith));
     places = (all_weaker _ _ ps (λ y q e. absurd (omega (arith, q, e))) o.from_low, o.places);
@@ -261,7 +259,7 @@ module _ (j : Job) (fit : unfit j ≡ false) where
 
   -- ---- a closer: two numbers at different elements
 
-  two_opened : (p q : ℕ) (a b : List ℕ) → 1 ≤ p → p < q → Textual a → Textual b → Opened 1 (part_at p none a ∷ part_at q none b ∷ [])
+  two_opened : (p q : ℕ) (a b : List ℕ) → 1 ≤ p → p < q → Textual a → Textual b → Opened 1 (part_at p None a ∷ part_at q None b ∷ [])
   two_opened p q a b h k s t = opened_next 1 p a _ h (textual_plain a s) (opened_next (p + 1) q b [] (omega arith) (textual_plain b t) (record { rises = λ p q. tt; places = tt; from_low = tt; plain = tt; clear = tt }))
 
   pub closer_fine : (id : List ℕ) (c : Control) (control : List ℕ) (count : ℕ) → (id ≢ []) × Clear j id → RuleFits c → Textual control

@@ -3,8 +3,9 @@ use Prim.Native.Nat.{ℕ, zero, suc}
 use mathlib.Core.Path.{◌≡◌, refl}
 use mathlib.Core.Bool.{true, false}
 use mathlib.Core.List.{List, [], ◌∷◌}
-use mathlib.Core.Option.{none, some, none-ne-some}
 use native.Mathlib.Omega.{arith}
+use Rattle.std.specs.Prelude.{None, Some}
+use Rattle.std.proofs.lemmas.Option.{none-some}
 use Rattle.format.specs.Spec.{required, situational, count_children, kind_an, ElementDef, Spec}
 use Rattle.format.specs.Plan.{enveloped, rows_of, from_envelope, from_row, from_repeat, from_column, from_group, Value, ElementPlan, SegmentPlan, Plan}
 use Rattle.format.specs.Layout.{segment_item, loop_item}
@@ -31,23 +32,23 @@ abbrev CAS : List ℕ
 CAS = 67 ∷ 65 ∷ 83 ∷ []
 
 abbrev element : ElementDef
-element = record { kind = kind_an; min = some 1; max = some 38; components = []; codes = [] }
+element = record { kind = kind_an; min = Some 1; max = Some 38; components = []; codes = [] }
 
 abbrev spec : Spec
 spec = record {
   loops =
-      record { parent = none; trigger = ISA; occurrences = ISA ∷ []; usage = required; end = some IEA; control = some (record { opener = 13; closer = 2; count = 1; counted = count_children }); children = 1 ∷ [] }
-      ∷ record { parent = some 0; trigger = CLP; occurrences = CLP ∷ CAS ∷ []; usage = situational; end = none; control = none; children = [] } ∷ [];
+      record { parent = None; trigger = ISA; occurrences = ISA ∷ []; usage = required; end = Some IEA; control = Some (record { opener = 13; closer = 2; count = 1; counted = count_children }); children = 1 ∷ [] }
+      ∷ record { parent = Some 0; trigger = CLP; occurrences = CLP ∷ CAS ∷ []; usage = situational; end = None; control = None; children = [] } ∷ [];
   roots = 0 ∷ [];
   segments = (CLP, (1, element) ∷ []) ∷ (ISA, (11, element) ∷ (13, element) ∷ (16, element) ∷ []) ∷ [];
   tables =
-      record { loops = 1 ∷ []; segment = false; repeat = none; columns = 1; parent = none; ancestors = [] }
-      ∷ record { loops = 1 ∷ []; segment = true; repeat = some (record { from = 2; step = 3 }); columns = 3; parent = some 0; ancestors = 0 ∷ [] } ∷ [];
-  version = none;
+      record { loops = 1 ∷ []; segment = false; repeat = None; columns = 1; parent = None; ancestors = [] }
+      ∷ record { loops = 1 ∷ []; segment = true; repeat = Some (record { from = 2; step = 3 }); columns = 3; parent = Some 0; ancestors = 0 ∷ [] } ∷ [];
+  version = None;
 }
 
 abbrev placed : ℕ → Value → ElementPlan
-placed e v = record { element = e; component = none; value = v }
+placed e v = record { element = e; component = None; value = v }
 
 abbrev claim : SegmentPlan
 claim = record { occurrence = 0; source = from_row 0; elements = placed 1 (from_column 0) ∷ [] }
@@ -62,7 +63,7 @@ plan =
     ∷ record { instances = rows_of 0; segments = claim ∷ adjustments ∷ [] } ∷ []
 
 abbrev empty : TableData
-empty = record { rows = 0; row = none; segment = none; refs = []; columns = [] }
+empty = record { rows = 0; row = None; segment = None; refs = []; columns = [] }
 
 abbrev job : Job
 job = record {
@@ -72,7 +73,7 @@ job = record {
     order = (segment_item 0 ∷ loop_item 1 ∷ []) ∷ (segment_item 0 ∷ segment_item 1 ∷ []) ∷ [];
     forced = (false ∷ []) ∷ (false ∷ false ∷ []) ∷ [];
     group_columns = [] ∷ [] ∷ [];
-    depth = some 0 ∷ none ∷ [];
+    depth = Some 0 ∷ None ∷ [];
     capacity = 1 ∷ 2 ∷ [];
   };
   envelope = record {
@@ -80,8 +81,8 @@ job = record {
     sender_id = [];
     receiver_qualifier = [];
     receiver_id = [];
-    application_sender = none;
-    application_receiver = none;
+    application_sender = None;
+    application_receiver = None;
     date = 0;
     time = 0;
     usage_indicator = [];
@@ -89,7 +90,7 @@ job = record {
     element = 42;
     component = 58;
     segment = 126;
-    repetition = some 94;
+    repetition = Some 94;
     line_break = false;
   };
   tables = empty ∷ empty ∷ [];
@@ -128,7 +129,7 @@ alone n = record { no_components = refl; plain = tt }
 separators_alone : SeparatorsAlone job
 unfolding A.loop_of A.plan_of A.segment_def
 separators_alone zero h c e = ((λ s. (λ g. alone 11, (λ g. alone 13, (λ g. alone 16, tt)))), tt)
-separators_alone (suc zero) h c e = absurd (none-ne-some c e)
+separators_alone (suc zero) h c e = absurd (none-some c e)
 separators_alone (suc (suc l)) h c e = absurd (omega arith)
 
 pub complete : CompletePlan job

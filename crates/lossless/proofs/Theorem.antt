@@ -4,7 +4,7 @@ use mathlib.Core.Path.{◌≡◌, refl, sym, ap, ◌∙◌, subst}
 use mathlib.Core.Logic.{◌≢◌}
 use mathlib.Core.Bool.{Bool, true, false}
 use mathlib.Core.List.{List, [], ◌∷◌, ◌++◌, map}
-use mathlib.Core.Option.{Option, none, some}
+use Rattle.std.specs.Prelude.{Option, None, Some}
 use lib.ListN.{length, get_or}
 use Rattle.format.specs.Spec.{Control, ElementDef}
 use Rattle.format.specs.Plan.{from_row, from_repeat}
@@ -58,8 +58,8 @@ module _ (b : List ℕ) (p : Passed b) (C : CompletePlan (job_of b)) where
   opener_done l cs = go (loop_of j l).control refl
     where
       go : (o : Option Control) → (loop_of j l).control ≡ o → AllFine (opener_due j l cs)
-      go none e = rw e (λ h. tt)
-      go (some c) e = rw e (λ h. (
+      go None e = rw e (λ h. tt)
+      go (Some c) e = rw e (λ h. (
         opener_fine j p.fit l c (get_or cs l 0) (on (segment_def j (loop_of j l).trigger) (λ d. d) []) (trigger_clear j p.fit l c e)
             (segment_so (λ d. rises_from 0 d ≡ true) j (loop_of j l).trigger refl (keys_rise b p))
             (segment_so (All MapStarts) j (loop_of j l).trigger tt C.maps)
@@ -77,9 +77,9 @@ module _ (b : List ℕ) (p : Passed b) (C : CompletePlan (job_of b)) where
       control c false = tt
 
       go : (x : Option Control) → (loop_of j l).control ≡ x → (y : Option (List ℕ)) → (loop_of j l).end ≡ y → AllFine (closer_due j l o n m cs)
-      go none e y q = rw e (λ h. tt)
-      go (some c) e none q = rw (e, q) (λ h. tt)
-      go (some c) e (some id) q = rw (e, q) (λ h.
+      go None e y q = rw e (λ h. tt)
+      go (Some c) e None q = rw (e, q) (λ h. tt)
+      go (Some c) e (Some id) q = rw (e, q) (λ h.
           (closer_fine j p.fit id c (pick o (control_in j l c (last_taken l cs)) []) (count_of c.counted n m) (end_clear j p.fit l id q) (rule_at j C l c e) (control c o), tt))
 
   row_done : (l i t r : ℕ) → (planned_of j l i).source ≡ from_row t → (identifier_of j l i ≢ []) × Clear j (identifier_of j l i) → AllFine (row_due j l i t r ∷ [])

@@ -3,8 +3,8 @@ use Prim.Native.Nat.{ℕ, zero, suc, ◌+◌, ◌-◌, ◌≤◌, ◌<◌, max}
 use mathlib.Core.Path.{◌≡◌, refl}
 use mathlib.Core.Bool.{Bool, true, false, cond, ◌&&◌}
 use mathlib.Core.List.{List, [], ◌∷◌, ◌++◌}
-use mathlib.Core.Option.{Option, none, some}
 use native.Mathlib.Omega.{arith}
+use Rattle.std.specs.Prelude.{Option, None, Some}
 use lib.ListN.{length, length-append}
 use lib.Dec.{ltb}
 use borrow.Author.Tests.{ltb-true}
@@ -78,13 +78,13 @@ module _ (o : Outline) (P : List Step → Type 0) (C : Closed o P) where
     where
       rows : i < planned o l → (t : ℕ) → (segment_of o l i).source ≡ of_row t → (x : Option ℕ)
           → P (on x (λ r. cond (has_occurrence o l i && due_row o l i t r) (row_segment l i t r ∷ []) []) [])
-      rows h t e none = C.nothing
-      rows h t e (some r) = chosen (has_occurrence o l i && due_row o l i t r) (row_segment l i t r ∷ []) (λ q. C.row l i t r h e (both (has_occurrence o l i) (due_row o l i t r) q).0)
+      rows h t e None = C.nothing
+      rows h t e (Some r) = chosen (has_occurrence o l i && due_row o l i t r) (row_segment l i t r ∷ []) (λ q. C.row l i t r h e (both (has_occurrence o l i) (due_row o l i t r) q).0)
 
       owned : i < planned o l → (t : ℕ) → (segment_of o l i).source ≡ of_repeat t → has_occurrence o l i ≡ true → (x : Option Row)
           → P (on x (λ p. repeat_steps o l i t p.row) [])
-      owned h t e q none = C.nothing
-      owned h t e q (some p) = repeat_so l i t h e q p.row
+      owned h t e q None = C.nothing
+      owned h t e q (Some p) = repeat_so l i t h e q p.row
 
       by_source : i < planned o l → (s : Source) → (segment_of o l i).source ≡ s → P (from_source o l i c s)
       by_source h of_envelope e = chosen (loop_of o l).controlled (opener l ∷ []) (λ q. C.opens l)
@@ -92,8 +92,8 @@ module _ (o : Outline) (P : List Step → Type 0) (C : Closed o P) where
       by_source h (of_repeat t) e = chosen (has_occurrence o l i) (on (own_row (kind_of o l) c) (λ p. repeat_steps o l i t p.row) []) (λ q. owned h t e q (own_row (kind_of o l) c))
 
   stop_so : (l : ℕ) (own : Option Row) → P (stop_at l own)
-  stop_so l none = C.nothing
-  stop_so l (some p) = C.stopped l p.table p.row
+  stop_so l None = C.nothing
+  stop_so l (Some p) = C.stopped l p.table p.row
 
   close_so : (l n : ℕ) (body : List Step) → P (close_steps o l n body)
   unfolding close_steps

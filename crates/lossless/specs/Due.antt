@@ -1,8 +1,7 @@
 -- A job's due segments (document 01: "those that the definitions of nest, walk and skipping give, in order, from the job alone"): for each step of
 -- the walk that writes, the identifier, the parts, the source, and the texts of its cells and envelope fields. The one thing that a step needs to know
 -- of those before it is the next control number of its loop.
-use Rattle.std.specs.Prelude.{ℕ, zero, suc, ◌+◌, ◌*◌, ◌-◌, ◌%◌, ◌^◌, Bool, List, [], ◌∷◌, ◌++◌, map, get_or, set, replicate}
-use Rattle.std.proofs.Math.Option.{Option, none, some}
+use Rattle.std.specs.Prelude.{ℕ, zero, suc, ◌+◌, ◌*◌, ◌-◌, ◌%◌, ◌^◌, Bool, List, [], ◌∷◌, ◌++◌, map, get_or, set, replicate, Option, None, Some}
 use Rattle.format.specs.Spec.{ElementDef}
 use Rattle.format.specs.Plan.{Value, from_column, from_group, from_code, ElementPlan}
 use Rattle.format.specs.Job.{Job}
@@ -68,13 +67,13 @@ opener_due j l cs = on (loop_of j l).control (λ c.
     let trigger = (loop_of j l).trigger in
     let number = get_or cs l 0 in
     due_with trigger (opener_put j l c number).parts
-    (field_texts j trigger (depth_of j l) c.opener (control_in j l c number) (on (segment_def j trigger) (λ d. d) [])) none ∷ []) []
+    (field_texts j trigger (depth_of j l) c.opener (control_in j l c number) (on (segment_def j trigger) (λ d. d) [])) None ∷ []) []
 
 unfoldable pub row_due : Job → ℕ → ℕ → ℕ → ℕ → DueSegment
 row_due j l i t r =
     let id = identifier_of j l i in
     let es = (planned_of j l i).elements in
-    due_with id (row_put j id t r es).parts (row_cells j id t r es) (some (t, r))
+    due_with id (row_put j id t r es).parts (row_cells j id t r es) (Some (t, r))
 
 unfoldable pub chunk_due : Job → ℕ → ℕ → ℕ → List ℕ → DueSegment
 chunk_due j l i t rs =
@@ -88,7 +87,7 @@ last_taken l cs = (get_or cs l 0 + (2 ^ 64 - 1)) % 2 ^ 64
 
 unfoldable pub closer_due : Job → ℕ → Bool → ℕ → ℕ → List ℕ → List DueSegment
 closer_due j l opened children count cs = on (loop_of j l).control (λ c. on (loop_of j l).end (λ id.
-    due_with id (closer_put c (pick opened (control_in j l c (last_taken l cs)) []) (count_of c.counted children count)).parts [] none ∷ []) []) []
+    due_with id (closer_put c (pick opened (control_in j l c (last_taken l cs)) []) (count_of c.counted children count)).parts [] None ∷ []) []) []
 
 unfoldable pub step_due : Job → Step → List ℕ → List DueSegment
 step_due j (enters l) cs = []

@@ -1,6 +1,5 @@
 -- Demand 3: of a job that is not refused and has a complete plan nothing is lost.
-use Rattle.std.specs.Prelude.{ℕ, ◌<◌, ◌≡◌, ◌⊎◌, false, ◌&&◌, List, ◌++◌, map, length, eqb}
-use Rattle.std.proofs.Math.Option.{Option, none, some}
+use Rattle.std.specs.Prelude.{ℕ, ◌<◌, ◌≡◌, ◌⊎◌, false, ◌&&◌, List, ◌++◌, map, length, eqb, Option, None, Some}
 use Rattle.format.specs.Job.{Job}
 use Rattle.segment.specs.declared.Separators.{Separators}
 use Rattle.segment.specs.Grammar.{Segment, All, Reads}
@@ -31,8 +30,8 @@ traced_sources = map (λ (x : Traced). x.row)
 
 -- the text read at a place: an element, or a component of it
 abbrev pub read_at : Separators → Segment → ℕ → Option ℕ → List ℕ
-read_at s x p none = place x p
-read_at s x p (some c) = component s x p c
+read_at s x p None = place x p
+read_at s x p (Some c) = component s x p c
 
 -- every place of a due segment reads as its planned text, and any other as nothing (`ReadAs`); each element is planned plain or with components,
 -- so that this decides every place; and each part is read at its own place, none hidden behind another

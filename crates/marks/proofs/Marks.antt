@@ -2,9 +2,9 @@
 use Prim.Native.Nat.{ℕ, ◌+◌, ◌≤◌, ◌<◌}
 use mathlib.Core.Path.{◌≡◌, refl, sym, ◌∙◌}
 use mathlib.Core.List.{List, [], ◌∷◌}
-use mathlib.Core.Option.{Option, none, some}
 use mathlib.Core.Bool.{Bool, true, false, not}
 use native.Mathlib.Omega.{arith}
+use Rattle.std.specs.Prelude.{Option, None, Some}
 use lib.ListN.{length, get_or}
 use lib.Dec.{ltb, leb, eqb}
 use borrow.Author.Tests.{lt-leb, le-leb}
@@ -97,8 +97,8 @@ module _ (b : List ℕ) (e x y z k₀ k₁ k₂ k₃ q₁ q₂ q₃ : ℕ) (v : 
   marks_three t r h n s = s ∙ rw (byte_is b e x k₀ k₀ v.element h₀ refl i₀, byte_is b e y k₁ q₁ v.component h₁ e₁ i₁, byte_is b e z k₂ q₂ v.segment h₂ e₂ i₂) (go v.repetition i₃)
     where
       go : (o : Option ℕ) → Is (opt_c byte_c) b e q₃ o → marked (v.element ∷ v.component ∷ v.segment ∷ []) ≡ marked (separators (record { sender_qualifier = v.sender_qualifier; sender_id = v.sender_id; receiver_qualifier = v.receiver_qualifier; receiver_id = v.receiver_id; application_sender = v.application_sender; application_receiver = v.application_receiver; date = v.date; time = v.time; usage_indicator = v.usage_indicator; control_number = v.control_number; element = v.element; component = v.component; segment = v.segment; repetition = o; line_break = v.line_break }))
-      go none i = refl
-      go (some w) i =
+      go None i = refl
+      go (Some w) i =
           let m = is_some byte_c b e q₃ w i in
           let l : q₃ + 1 ≤ e = is_in byte_c b e (q₃ + 1) w m.1 in
           absurd (n (h ∙ rw e₃ (tag_in b q₃ e (omega arith)) ∙ m.0))
@@ -111,8 +111,8 @@ module _ (b : List ℕ) (e x y z k₀ k₁ k₂ k₃ q₁ q₂ q₃ : ℕ) (v : 
       l = tag_case b k₃ e 1 (sym h ∙ n) (omega arith)
 
       go : (o : Option ℕ) → Is (opt_c byte_c) b e q₃ o → marked (v.element ∷ v.component ∷ v.segment ∷ w ∷ []) ≡ marked (separators (record { sender_qualifier = v.sender_qualifier; sender_id = v.sender_id; receiver_qualifier = v.receiver_qualifier; receiver_id = v.receiver_id; application_sender = v.application_sender; application_receiver = v.application_receiver; date = v.date; time = v.time; usage_indicator = v.usage_indicator; control_number = v.control_number; element = v.element; component = v.component; segment = v.segment; repetition = o; line_break = v.line_break }))
-      go none i = absurd (omega (arith, is_none byte_c b e q₃ i, rw e₃ at (sym (tag_in b k₃ e l) ∙ sym h ∙ n)))
-      go (some c) i =
+      go None i = absurd (omega (arith, is_none byte_c b e q₃ i, rw e₃ at (sym (tag_in b k₃ e l) ∙ sym h ∙ n)))
+      go (Some c) i =
           let z : p ≡ q₃ + 1 = g ∙ skip_le 1 b k₃ e (omega (arith, l)) ∙ rw e₃ in
           let y : w ≡ c = byte_is b e w p (q₃ + 1) c u z (is_some byte_c b e q₃ c i).1 in
           rw y

@@ -12,10 +12,12 @@ ghost use Rattle.format.specs.Refusal.{foreign, textual, unfit, unfit_column, un
 ghost use Rattle.format.specs.Data.{column_c, table_data_c};
 ghost use Rattle.format.specs.Envelope.{Envelope, envelope_c};
 ghost use Rattle.format.specs.Sections.{broken, job_of, spoilt};
-ghost use Rattle.says.specs.Says.{Says, Passes};
+ghost use Rattle.says.specs.Says.{Says, Clears};
 ghost use Rattle.marks.specs.Parts.{stray, marked, marked_envelope, foreign_envelope, high};
 
-use says::Told;
+use codec::forms::{Bytes, Items, Le, NumMap, Opt};
+use codec::{Form, Section};
+use format::{Column, Component, Control, Element, Kind, Loop, Table, TableData, Version};
 
 // ---- bytes and byte strings
 
@@ -46,318 +48,171 @@ fn is_textual(c: usize) -> bool
 }
 
 // A byte that no identifier has.
-fn stray_at(b: &[u8], at: usize, end: u32) -> bool
-    requires { end ≤ length b.now }
-    ensures { Says byte_c b.now end at stray result }
+fn stray_at(s: Section, at: usize) -> bool
+    ensures { Says byte_c s.entry.bytes.now s.entry.end at stray result }
 {
-    let c = codec::tag_at(b, at, end);
+    let c = s.tag_at(at);
     let x = within(65, 90, c);
     let y = within(48, 57, c);
     !codec::either(x, y)
 }
 
-fn strays_at(b: &[u8], at: usize, end: u32) -> bool
-    requires { end ≤ length b.now }
-    ensures { Says (list_c byte_c) b.now end at (any_of stray) result }
+fn strays_at(s: Section, at: usize) -> bool
+    ensures { Says (list_c byte_c) s.entry.bytes.now s.entry.end at (any_of stray) result }
 {
-    let mut left = codec::count_at(b, at, end);
-    let mut p = codec::le_at(b, 4, at, end);
-    while 0 < left {
-        if stray_at(b, p, end) {
-            return true;
-        }
-        p = codec::le_at(b, 1, p, end);
-        left = left - 1;
-    }
-    false
+    says::lists::any_at::<Le<1>, _>(s, at, |p| stray_at(s, p))
 }
 
 // Not 2 or 3 bytes of A to Z, 0 to 9.
-fn unnamed_at(b: &[u8], at: usize, end: u32) -> bool
-    requires { end ≤ length b.now }
-    ensures { Says bytes_c b.now end at unnamed result }
+fn unnamed_at(s: Section, at: usize) -> bool
+    ensures { Says bytes_c s.entry.bytes.now s.entry.end at unnamed result }
 {
-    let n = codec::count_at(b, at, end);
+    let n = s.count_at(at);
     if within(2, 3, n) {
-        return strays_at(b, at, end);
+        return strays_at(s, at);
     }
     true
 }
 
-fn names_unfit(b: &[u8], at: usize, end: u32) -> Told
-    requires { end ≤ length b.now }
-    ensures { Passes (list_c bytes_c) b.now end at (any_of unnamed) result.found result.next }
+fn names_unfit(s: Section, at: usize) -> Option<usize>
+    ensures { Clears (list_c bytes_c) s.entry.bytes.now s.entry.end at (any_of unnamed) result }
 {
-    let mut left = codec::count_at(b, at, end);
-    let mut p = codec::le_at(b, 4, at, end);
-    while 0 < left {
-        if unnamed_at(b, p, end) {
-            return Told {
-                found: true,
-                next: p,
-            };
-        }
-        p = codec::bytes_at(b, p, end);
-        left = left - 1;
-    }
-    Told {
-        found: false,
-        next: p,
-    }
+    says::lists::any_clear::<Bytes, _>(s, at, |p| unnamed_at(s, p))
 }
 
-fn opt_unnamed_at(b: &[u8], at: usize, end: u32) -> bool
-    requires { end ≤ length b.now }
-    ensures { Says (opt_c bytes_c) b.now end at (if_some unnamed) result }
+fn opt_unnamed_at(s: Section, at: usize) -> bool
+    ensures { Says (opt_c bytes_c) s.entry.bytes.now s.entry.end at (if_some unnamed) result }
 {
-    if codec::tag_at(b, at, end) == 1 {
-        let p = codec::le_at(b, 1, at, end);
-        return unnamed_at(b, p, end);
-    }
-    false
+    says::lists::opt_at::<Bytes, _>(s, at, |p| unnamed_at(s, p))
 }
 
-fn high_at(b: &[u8], at: usize, end: u32) -> bool
-    requires { end ≤ length b.now }
-    ensures { Says byte_c b.now end at high result }
+fn high_at(s: Section, at: usize) -> bool
+    ensures { Says byte_c s.entry.bytes.now s.entry.end at high result }
 {
-    127 < codec::tag_at(b, at, end)
+    127 < s.tag_at(at)
 }
 
 // Not ASCII.
-fn foreign_at(b: &[u8], at: usize, end: u32) -> bool
-    requires { end ≤ length b.now }
-    ensures { Says bytes_c b.now end at foreign result }
+fn foreign_at(s: Section, at: usize) -> bool
+    ensures { Says bytes_c s.entry.bytes.now s.entry.end at foreign result }
 {
-    let mut left = codec::count_at(b, at, end);
-    let mut p = codec::le_at(b, 4, at, end);
-    while 0 < left {
-        if high_at(b, p, end) {
-            return true;
-        }
-        p = codec::le_at(b, 1, p, end);
-        left = left - 1;
-    }
-    false
+    says::lists::any_at::<Le<1>, _>(s, at, |p| high_at(s, p))
 }
 
-fn opt_foreign_at(b: &[u8], at: usize, end: u32) -> bool
-    requires { end ≤ length b.now }
-    ensures { Says (opt_c bytes_c) b.now end at (if_some foreign) result }
+fn opt_foreign_at(s: Section, at: usize) -> bool
+    ensures { Says (opt_c bytes_c) s.entry.bytes.now s.entry.end at (if_some foreign) result }
 {
-    if codec::tag_at(b, at, end) == 1 {
-        let p = codec::le_at(b, 1, at, end);
-        return foreign_at(b, p, end);
-    }
-    false
+    says::lists::opt_at::<Bytes, _>(s, at, |p| foreign_at(s, p))
 }
 
-fn codes_unfit(b: &[u8], at: usize, end: u32) -> Told
-    requires { end ≤ length b.now }
-    ensures { Passes (list_c bytes_c) b.now end at (any_of foreign) result.found result.next }
+fn codes_unfit(s: Section, at: usize) -> Option<usize>
+    ensures { Clears (list_c bytes_c) s.entry.bytes.now s.entry.end at (any_of foreign) result }
 {
-    let mut left = codec::count_at(b, at, end);
-    let mut p = codec::le_at(b, 4, at, end);
-    while 0 < left {
-        if foreign_at(b, p, end) {
-            return Told {
-                found: true,
-                next: p,
-            };
-        }
-        p = codec::bytes_at(b, p, end);
-        left = left - 1;
-    }
-    Told {
-        found: false,
-        next: p,
-    }
+    says::lists::any_clear::<Bytes, _>(s, at, |p| foreign_at(s, p))
 }
 
 // ---- spec
 
-fn loop_unfit(b: &[u8], at: usize, end: u32) -> Told
-    requires { end ≤ length b.now }
-    ensures { Passes loop_c b.now end at unfit_loop result.found result.next }
+fn loop_unfit(s: Section, at: usize) -> Option<usize>
+    ensures { Clears loop_c s.entry.bytes.now s.entry.end at unfit_loop result }
 {
-    let parent = codec::opt_num_at(b, at, end);
-    let trigger = codec::bytes_at(b, parent, end);
-    let x = unnamed_at(b, parent, end);
-    let y = names_unfit(b, trigger, end);
-    let usage = codec::case_at(b, 2, y.next, end);
-    let last = codec::opt_bytes_at(b, usage, end);
-    let control = format::opt_control_at(b, last, end);
-    let z = opt_unnamed_at(b, usage, end);
-    let found = codec::either(x, codec::either(y.found, z));
-    let next = codec::les_at(b, 4, control, end);
-    Told {
-        found: found,
-        next: next,
+    let parent = s.opt_num_at(at);
+    if unnamed_at(s, parent) {
+        return None;
     }
+    let trigger = s.bytes_at(parent);
+    let occurrences = names_unfit(s, trigger)?;
+    let usage = s.case_at(2, occurrences);
+    if opt_unnamed_at(s, usage) {
+        return None;
+    }
+    let last = s.opt_bytes_at(usage);
+    let control = Opt::<Control>::ends_at(s, last);
+    Some(s.les_at(4, control))
 }
 
-fn loops_unfit(b: &[u8], at: usize, end: u32) -> Told
-    requires { end ≤ length b.now }
-    ensures { Passes (list_c loop_c) b.now end at (any_of unfit_loop) result.found result.next }
+fn loops_unfit(s: Section, at: usize) -> Option<usize>
+    ensures { Clears (list_c loop_c) s.entry.bytes.now s.entry.end at (any_of unfit_loop) result }
 {
-    let mut left = codec::count_at(b, at, end);
-    let mut p = codec::le_at(b, 4, at, end);
-    while 0 < left {
-        let t = loop_unfit(b, p, end);
-        if t.found {
-            // what lies behind is not asked for
-            return Told {
-                found: true,
-                next: end as usize + 1,
-            };
-        }
-        p = t.next;
-        left = left - 1;
-    }
-    Told {
-        found: false,
-        next: p,
-    }
+    says::lists::list_clear::<Loop, _>(s, at, |p| loop_unfit(s, p))
 }
 
-fn component_unfit(b: &[u8], at: usize, end: u32) -> Told
-    requires { end ≤ length b.now }
-    ensures { Passes (num_c ⊗ component_c) b.now end at unfit_component result.found result.next }
+fn component_unfit(s: Section, at: usize) -> Option<usize>
+    ensures { Clears (num_c ⊗ component_c) s.entry.bytes.now s.entry.end at unfit_component result }
 {
-    let value = codec::le_at(b, 4, at, end);
-    let kind = format::kind_at(b, value, end);
-    let min = codec::opt_num_at(b, kind, end);
-    let max = codec::opt_num_at(b, min, end);
-    codes_unfit(b, max, end)
+    let value = s.le_at(4, at);
+    let kind = Kind::ends_at(s, value);
+    let min = s.opt_num_at(kind);
+    let max = s.opt_num_at(min);
+    codes_unfit(s, max)
 }
 
-fn components_unfit(b: &[u8], at: usize, end: u32) -> Told
-    requires { end ≤ length b.now }
-    ensures { Passes (list_c (num_c ⊗ component_c)) b.now end at (any_of unfit_component) result.found result.next }
+fn components_unfit(s: Section, at: usize) -> Option<usize>
+    ensures { Clears (list_c (num_c ⊗ component_c)) s.entry.bytes.now s.entry.end at (any_of unfit_component) result }
 {
-    let mut left = codec::count_at(b, at, end);
-    let mut p = codec::le_at(b, 4, at, end);
-    while 0 < left {
-        let t = component_unfit(b, p, end);
-        if t.found {
-            return t;
-        }
-        p = t.next;
-        left = left - 1;
-    }
-    Told {
-        found: false,
-        next: p,
-    }
+    says::lists::list_clear::<(Le<4>, Component), _>(s, at, |p| component_unfit(s, p))
 }
 
-fn element_unfit(b: &[u8], at: usize, end: u32) -> Told
-    requires { end ≤ length b.now }
-    ensures { Passes (num_c ⊗ element_c) b.now end at unfit_element result.found result.next }
+fn element_unfit(s: Section, at: usize) -> Option<usize>
+    ensures { Clears (num_c ⊗ element_c) s.entry.bytes.now s.entry.end at unfit_element result }
 {
-    let value = codec::le_at(b, 4, at, end);
-    let kind = format::kind_at(b, value, end);
-    let min = codec::opt_num_at(b, kind, end);
-    let max = codec::opt_num_at(b, min, end);
-    let x = components_unfit(b, max, end);
-    let y = codes_unfit(b, x.next, end);
-    let found = codec::either(x.found, y.found);
-    Told {
-        found,
-        next: y.next,
-    }
+    let value = s.le_at(4, at);
+    let kind = Kind::ends_at(s, value);
+    let min = s.opt_num_at(kind);
+    let max = s.opt_num_at(min);
+    let components = components_unfit(s, max)?;
+    codes_unfit(s, components)
 }
 
-fn elements_unfit(b: &[u8], at: usize, end: u32) -> Told
-    requires { end ≤ length b.now }
-    ensures { Passes (list_c (num_c ⊗ element_c)) b.now end at (any_of unfit_element) result.found result.next }
+fn elements_unfit(s: Section, at: usize) -> Option<usize>
+    ensures { Clears (list_c (num_c ⊗ element_c)) s.entry.bytes.now s.entry.end at (any_of unfit_element) result }
 {
-    let mut left = codec::count_at(b, at, end);
-    let mut p = codec::le_at(b, 4, at, end);
-    while 0 < left {
-        let t = element_unfit(b, p, end);
-        if t.found {
-            return t;
-        }
-        p = t.next;
-        left = left - 1;
-    }
-    Told {
-        found: false,
-        next: p,
-    }
+    says::lists::list_clear::<(Le<4>, Element), _>(s, at, |p| element_unfit(s, p))
 }
 
-fn segment_unfit(b: &[u8], at: usize, end: u32) -> Told
-    requires { end ≤ length b.now }
-    ensures { Passes (bytes_c ⊗ segment_c) b.now end at unfit_segment result.found result.next }
+fn segment_unfit(s: Section, at: usize) -> Option<usize>
+    ensures { Clears (bytes_c ⊗ segment_c) s.entry.bytes.now s.entry.end at unfit_segment result }
 {
-    let value = codec::bytes_at(b, at, end);
-    let x = unnamed_at(b, at, end);
-    let y = elements_unfit(b, value, end);
-    let found = codec::either(x, y.found);
-    Told {
-        found,
-        next: y.next,
+    if unnamed_at(s, at) {
+        return None;
     }
+    let value = s.bytes_at(at);
+    elements_unfit(s, value)
 }
 
-fn segments_unfit(b: &[u8], at: usize, end: u32) -> Told
-    requires { end ≤ length b.now }
-    ensures { Passes (list_c (bytes_c ⊗ segment_c)) b.now end at (any_of unfit_segment) result.found result.next }
+fn segments_unfit(s: Section, at: usize) -> Option<usize>
+    ensures { Clears (list_c (bytes_c ⊗ segment_c)) s.entry.bytes.now s.entry.end at (any_of unfit_segment) result }
 {
-    let mut left = codec::count_at(b, at, end);
-    let mut p = codec::le_at(b, 4, at, end);
-    while 0 < left {
-        let t = segment_unfit(b, p, end);
-        if t.found {
-            // what lies behind is not asked for
-            return Told {
-                found: true,
-                next: end as usize + 1,
-            };
-        }
-        p = t.next;
-        left = left - 1;
-    }
-    Told {
-        found: false,
-        next: p,
-    }
+    says::lists::list_clear::<(Bytes, NumMap<Element>), _>(s, at, |p| segment_unfit(s, p))
 }
 
-fn version_unfit(b: &[u8], at: usize, end: u32) -> bool
-    requires { end ≤ length b.now }
-    ensures { Says version_c b.now end at unfit_version result }
+fn version_unfit(s: Section, at: usize) -> bool
+    ensures { Says version_c s.entry.bytes.now s.entry.end at unfit_version result }
 {
-    let segment = codec::bytes_at(b, at, end);
-    let element = codec::le_at(b, 4, segment, end);
-    let x = unnamed_at(b, at, end);
-    let y = foreign_at(b, element, end);
+    let segment = s.bytes_at(at);
+    let element = s.le_at(4, segment);
+    let x = unnamed_at(s, at);
+    let y = foreign_at(s, element);
     codec::either(x, y)
 }
 
-fn opt_version_unfit(b: &[u8], at: usize, end: u32) -> bool
-    requires { end ≤ length b.now }
-    ensures { Says (opt_c version_c) b.now end at (if_some unfit_version) result }
+fn opt_version_unfit(s: Section, at: usize) -> bool
+    ensures { Says (opt_c version_c) s.entry.bytes.now s.entry.end at (if_some unfit_version) result }
 {
-    if codec::tag_at(b, at, end) == 1 {
-        let p = codec::le_at(b, 1, at, end);
-        return version_unfit(b, p, end);
-    }
-    false
+    says::lists::opt_at::<Version, _>(s, at, |p| version_unfit(s, p))
 }
 
-fn spec_unfit(b: &[u8], at: usize, end: u32) -> bool
-    requires { end ≤ length b.now }
-    ensures { Says spec_c b.now end at unfit_spec result }
+fn spec_unfit(s: Section, at: usize) -> Option<usize>
+    ensures { Clears spec_c s.entry.bytes.now s.entry.end at unfit_spec result }
 {
-    let roots = loops_unfit(b, at, end);
-    let segments = codec::les_at(b, 4, roots.next, end);
-    let tables = segments_unfit(b, segments, end);
-    let version = format::tables_at(b, tables.next, end);
-    let z = opt_version_unfit(b, version, end);
-    codec::either(roots.found, codec::either(tables.found, z))
+    let roots = loops_unfit(s, at)?;
+    let segments = s.les_at(4, roots);
+    let tables = segments_unfit(s, segments)?;
+    let version = Items::<Table>::ends_at(s, tables);
+    if opt_version_unfit(s, version) {
+        return None;
+    }
+    Some(Opt::<Version>::ends_at(s, version))
 }
 
 // ---- envelope
@@ -391,66 +246,63 @@ fn four_marked(x: usize, y: usize, z: usize, w: usize) -> bool
 }
 
 // The separators, the element's first.
-fn marks_unfit(b: &[u8], at: usize, end: u32) -> bool
-    requires { end ≤ length b.now }
+fn marks_unfit(s: Section, at: usize) -> bool
     ensures { (v : Envelope)
-        → Is byte_c b.now end at v.element
-        → Is byte_c b.now end (skip byte_c b.now at end) v.component
-        → Is byte_c b.now end (skip byte_c b.now (skip byte_c b.now at end) end) v.segment
-        → Is (opt_c byte_c) b.now end (skip byte_c b.now (skip byte_c b.now (skip byte_c b.now at end) end) end) v.repetition
+        → Is byte_c s.entry.bytes.now s.entry.end at v.element
+        → Is byte_c s.entry.bytes.now s.entry.end (skip byte_c s.entry.bytes.now at s.entry.end) v.component
+        → Is byte_c s.entry.bytes.now s.entry.end (skip byte_c s.entry.bytes.now (skip byte_c s.entry.bytes.now at s.entry.end) s.entry.end) v.segment
+        → Is (opt_c byte_c) s.entry.bytes.now s.entry.end (skip byte_c s.entry.bytes.now (skip byte_c s.entry.bytes.now (skip byte_c s.entry.bytes.now at s.entry.end) s.entry.end) s.entry.end) v.repetition
         → result ≡ marked_envelope v }
 {
-    let component = codec::le_at(b, 1, at, end);
-    let segment = codec::le_at(b, 1, component, end);
-    let repetition = codec::le_at(b, 1, segment, end);
-    let x = codec::tag_at(b, at, end);
-    let y = codec::tag_at(b, component, end);
-    let z = codec::tag_at(b, segment, end);
-    if codec::tag_at(b, repetition, end) == 1 {
-        let p = codec::le_at(b, 1, repetition, end);
-        let w = codec::tag_at(b, p, end);
+    let component = s.le_at(1, at);
+    let segment = s.le_at(1, component);
+    let repetition = s.le_at(1, segment);
+    let x = s.tag_at(at);
+    let y = s.tag_at(component);
+    let z = s.tag_at(segment);
+    if s.tag_at(repetition) == 1 {
+        let p = s.le_at(1, repetition);
+        let w = s.tag_at(p);
         return four_marked(x, y, z, w);
     }
     three_marked(x, y, z)
 }
 
-fn separators_unfit(b: &[u8], at: usize, end: u32) -> bool
-    requires { end ≤ length b.now }
-    ensures { Says envelope_c b.now end at marked_envelope result }
+fn separators_unfit(s: Section, at: usize) -> bool
+    ensures { Says envelope_c s.entry.bytes.now s.entry.end at marked_envelope result }
 {
-    let sender_qualifier = codec::bytes_at(b, at, end);
-    let sender_id = codec::bytes_at(b, sender_qualifier, end);
-    let receiver_qualifier = codec::bytes_at(b, sender_id, end);
-    let receiver_id = codec::bytes_at(b, receiver_qualifier, end);
-    let application_sender = codec::opt_bytes_at(b, receiver_id, end);
-    let application_receiver = codec::opt_bytes_at(b, application_sender, end);
-    let date = codec::le_at(b, 4, application_receiver, end);
-    let time = codec::le_at(b, 4, date, end);
-    let usage_indicator = codec::bytes_at(b, time, end);
-    let control_number = codec::le_at(b, 8, usage_indicator, end);
-    marks_unfit(b, control_number, end)
+    let sender_qualifier = s.bytes_at(at);
+    let sender_id = s.bytes_at(sender_qualifier);
+    let receiver_qualifier = s.bytes_at(sender_id);
+    let receiver_id = s.bytes_at(receiver_qualifier);
+    let application_sender = s.opt_bytes_at(receiver_id);
+    let application_receiver = s.opt_bytes_at(application_sender);
+    let date = s.le_at(4, application_receiver);
+    let time = s.le_at(4, date);
+    let usage_indicator = s.bytes_at(time);
+    let control_number = s.le_at(8, usage_indicator);
+    marks_unfit(s, control_number)
 }
 
 // The envelope's strings.
-fn strings_unfit(b: &[u8], at: usize, end: u32) -> bool
-    requires { end ≤ length b.now }
-    ensures { Says envelope_c b.now end at foreign_envelope result }
+fn strings_unfit(s: Section, at: usize) -> bool
+    ensures { Says envelope_c s.entry.bytes.now s.entry.end at foreign_envelope result }
 {
-    let sender_qualifier = codec::bytes_at(b, at, end);
-    let sender_id = codec::bytes_at(b, sender_qualifier, end);
-    let receiver_qualifier = codec::bytes_at(b, sender_id, end);
-    let receiver_id = codec::bytes_at(b, receiver_qualifier, end);
-    let application_sender = codec::opt_bytes_at(b, receiver_id, end);
-    let application_receiver = codec::opt_bytes_at(b, application_sender, end);
-    let date = codec::le_at(b, 4, application_receiver, end);
-    let time = codec::le_at(b, 4, date, end);
-    let x = foreign_at(b, at, end);
-    let y = foreign_at(b, sender_qualifier, end);
-    let z = foreign_at(b, sender_id, end);
-    let u = foreign_at(b, receiver_qualifier, end);
-    let v = opt_foreign_at(b, receiver_id, end);
-    let w = opt_foreign_at(b, application_sender, end);
-    let t = foreign_at(b, time, end);
+    let sender_qualifier = s.bytes_at(at);
+    let sender_id = s.bytes_at(sender_qualifier);
+    let receiver_qualifier = s.bytes_at(sender_id);
+    let receiver_id = s.bytes_at(receiver_qualifier);
+    let application_sender = s.opt_bytes_at(receiver_id);
+    let application_receiver = s.opt_bytes_at(application_sender);
+    let date = s.le_at(4, application_receiver);
+    let time = s.le_at(4, date);
+    let x = foreign_at(s, at);
+    let y = foreign_at(s, sender_qualifier);
+    let z = foreign_at(s, sender_id);
+    let u = foreign_at(s, receiver_qualifier);
+    let v = opt_foreign_at(s, receiver_id);
+    let w = opt_foreign_at(s, application_sender);
+    let t = foreign_at(s, time);
     codec::either(
         x,
         codec::either(
@@ -460,134 +312,78 @@ fn strings_unfit(b: &[u8], at: usize, end: u32) -> bool
     )
 }
 
-fn envelope_unfit(b: &[u8], at: usize, end: u32) -> bool
-    requires { end ≤ length b.now }
-    ensures { Says envelope_c b.now end at unfit_envelope result }
+fn envelope_unfit(s: Section, at: usize) -> bool
+    ensures { Says envelope_c s.entry.bytes.now s.entry.end at unfit_envelope result }
 {
-    let x = separators_unfit(b, at, end);
-    let y = strings_unfit(b, at, end);
+    let x = separators_unfit(s, at);
+    let y = strings_unfit(s, at);
     codec::either(x, y)
 }
 
 // ---- data
 
 // A scale above 38.
-fn column_unfit(b: &[u8], at: usize, end: u32) -> bool
-    requires { end ≤ length b.now }
-    ensures { Says column_c b.now end at unfit_column result }
+fn column_unfit(s: Section, at: usize) -> bool
+    ensures { Says column_c s.entry.bytes.now s.entry.end at unfit_column result }
 {
-    let t = codec::tag_at(b, at, end);
-    let p = codec::le_at(b, 1, at, end);
+    let t = s.tag_at(at);
+    let p = s.le_at(1, at);
     if t == 1 {
-        let numbers = codec::les_at(b, 8, p, end);
-        return 38 < codec::tag_at(b, numbers, end);
+        let numbers = s.les_at(8, p);
+        return 38 < s.tag_at(numbers);
     }
     if t == 2 {
-        let numbers = codec::les_at(b, 16, p, end);
-        return 38 < codec::tag_at(b, numbers, end);
+        let numbers = s.les_at(16, p);
+        return 38 < s.tag_at(numbers);
     }
     false
 }
 
-fn opt_column_unfit(b: &[u8], at: usize, end: u32) -> bool
-    requires { end ≤ length b.now }
-    ensures { Says (opt_c column_c) b.now end at (if_some unfit_column) result }
+fn opt_column_unfit(s: Section, at: usize) -> bool
+    ensures { Says (opt_c column_c) s.entry.bytes.now s.entry.end at (if_some unfit_column) result }
 {
-    if codec::tag_at(b, at, end) == 1 {
-        let p = codec::le_at(b, 1, at, end);
-        return column_unfit(b, p, end);
-    }
-    false
+    says::lists::opt_at::<Column, _>(s, at, |p| column_unfit(s, p))
 }
 
-fn columns_unfit(b: &[u8], at: usize, end: u32) -> Told
-    requires { end ≤ length b.now }
-    ensures { Passes (list_c (opt_c column_c)) b.now end at (any_of (if_some unfit_column)) result.found result.next }
+fn columns_unfit(s: Section, at: usize) -> Option<usize>
+    ensures { Clears (list_c (opt_c column_c)) s.entry.bytes.now s.entry.end at (any_of (if_some unfit_column)) result }
 {
-    let mut left = codec::count_at(b, at, end);
-    let mut p = codec::le_at(b, 4, at, end);
-    while 0 < left {
-        if opt_column_unfit(b, p, end) {
-            return Told {
-                found: true,
-                next: p,
-            };
-        }
-        p = format::opt_column_at(b, p, end);
-        left = left - 1;
-    }
-    Told {
-        found: false,
-        next: p,
-    }
+    says::lists::any_clear::<Opt<Column>, _>(s, at, |p| opt_column_unfit(s, p))
 }
 
-fn reference_unfit(b: &[u8], at: usize, end: u32) -> bool
-    requires { end ≤ length b.now }
-    ensures { Says (num_c ⊗ opt_c column_c) b.now end at unfit_reference result }
+fn reference_unfit(s: Section, at: usize) -> bool
+    ensures { Says (num_c ⊗ opt_c column_c) s.entry.bytes.now s.entry.end at unfit_reference result }
 {
-    let table = codec::le_at(b, 4, at, end);
-    opt_column_unfit(b, table, end)
+    let table = s.le_at(4, at);
+    opt_column_unfit(s, table)
 }
 
-fn references_unfit(b: &[u8], at: usize, end: u32) -> Told
-    requires { end ≤ length b.now }
-    ensures { Passes (list_c (num_c ⊗ opt_c column_c)) b.now end at (any_of unfit_reference) result.found result.next }
+fn references_unfit(s: Section, at: usize) -> Option<usize>
+    ensures { Clears (list_c (num_c ⊗ opt_c column_c)) s.entry.bytes.now s.entry.end at (any_of unfit_reference) result }
 {
-    let mut left = codec::count_at(b, at, end);
-    let mut p = codec::le_at(b, 4, at, end);
-    while 0 < left {
-        if reference_unfit(b, p, end) {
-            return Told {
-                found: true,
-                next: p,
-            };
-        }
-        p = format::reference_at(b, p, end);
-        left = left - 1;
-    }
-    Told {
-        found: false,
-        next: p,
-    }
+    says::lists::any_clear::<(Le<4>, Opt<Column>), _>(s, at, |p| reference_unfit(s, p))
 }
 
-fn table_data_unfit(b: &[u8], at: usize, end: u32) -> Told
-    requires { end ≤ length b.now }
-    ensures { Passes table_data_c b.now end at unfit_table_data result.found result.next }
+fn table_data_unfit(s: Section, at: usize) -> Option<usize>
+    ensures { Clears table_data_c s.entry.bytes.now s.entry.end at unfit_table_data result }
 {
-    let rows = codec::le_at(b, 4, at, end);
-    let row = format::opt_column_at(b, rows, end);
-    let segment = format::opt_column_at(b, row, end);
-    let x = opt_column_unfit(b, rows, end);
-    let y = opt_column_unfit(b, row, end);
-    let z = references_unfit(b, segment, end);
-    let w = columns_unfit(b, z.next, end);
-    let found = codec::either(x, codec::either(y, codec::either(z.found, w.found)));
-    Told {
-        found,
-        next: w.next,
+    let rows = s.le_at(4, at);
+    if opt_column_unfit(s, rows) {
+        return None;
     }
+    let row = Opt::<Column>::ends_at(s, rows);
+    if opt_column_unfit(s, row) {
+        return None;
+    }
+    let segment = Opt::<Column>::ends_at(s, row);
+    let refs = references_unfit(s, segment)?;
+    columns_unfit(s, refs)
 }
 
-fn data_unfit(b: &[u8], at: usize, end: u32) -> Told
-    requires { end ≤ length b.now }
-    ensures { Passes (list_c table_data_c) b.now end at (any_of unfit_table_data) result.found result.next }
+fn data_unfit(s: Section, at: usize) -> Option<usize>
+    ensures { Clears (list_c table_data_c) s.entry.bytes.now s.entry.end at (any_of unfit_table_data) result }
 {
-    let mut left = codec::count_at(b, at, end);
-    let mut p = codec::le_at(b, 4, at, end);
-    while 0 < left {
-        let t = table_data_unfit(b, p, end);
-        if t.found {
-            return t;
-        }
-        p = t.next;
-        left = left - 1;
-    }
-    Told {
-        found: false,
-        next: p,
-    }
+    says::lists::list_clear::<TableData, _>(s, at, |p| table_data_unfit(s, p))
 }
 
 // ---- the whole
@@ -601,8 +397,21 @@ pub fn unfit_at(b: &[u8]) -> bool
     let envelope = says::start(b, 12);
     let data = says::start(b, 16);
     let t = says::trailer(b);
-    let x = spec_unfit(b, 0, plan);
-    let y = envelope_unfit(b, envelope as usize, data);
-    let z = data_unfit(b, data as usize, t);
-    codec::either(x, codec::either(y, z.found))
+    let x = spec_unfit(
+        Section {
+            bytes: b,
+            end: plan,
+        },
+        0,
+    )
+    .is_none();
+    let y = envelope_unfit(
+        Section {
+            bytes: b,
+            end: data,
+        },
+        envelope as usize,
+    );
+    let z = data_unfit(Section { bytes: b, end: t }, data as usize).is_none();
+    codec::either(x, codec::either(y, z))
 }

@@ -3,11 +3,11 @@ use Prim.Native.Nat.{ℕ, zero, suc, ◌+◌, ◌-◌, ◌≤◌, ◌<◌}
 use mathlib.Core.Path.{◌≡◌, refl, sym, ap, ap₂, ◌∙◌}
 use mathlib.Core.Bool.{Bool, true, false, cond}
 use mathlib.Core.List.{List, [], ◌∷◌, ◌++◌, foldr}
-use mathlib.Core.Option.{Option, none, some}
 use native.Mathlib.Numerals.{sub-one}
 use native.Mathlib.Omega.{arith}
+use Rattle.std.specs.Prelude.{Option, None, Some}
 use lib.ListN.{length, drop, get_or, drop_of_length-le}
-use lib.Dec.{eqb, leb}
+use lib.Dec.{eqb}
 use borrow.Author.Tests.{eqb-true, eqb-false, eq-eqb, ne_eqb, le-leb, lt-leb}
 use Rattle.nest.specs.Lists.{each, on, All}
 use Rattle.nest.specs.Outline.{Outline, Kind, absent, envelope, implied, rows, inside, groups, row_table, kind_of, parent_of, table_of}
@@ -17,12 +17,12 @@ use Rattle.nest.proofs.Scan.{drop_next}
 
 -- ---- how deep a loop stands
 
-pub depth_top : (j : Outline) (h l : ℕ) → parent_of j l ≡ none → depth j h l ≡ 0
+pub depth_top : (j : Outline) (h l : ℕ) → parent_of j l ≡ None → depth j h l ≡ 0
 unfolding depth
 depth_top j zero l e = refl
 depth_top j (suc h) l e = rw e
 
-pub depth_up : (j : Outline) (h l p : ℕ) → 0 < h → parent_of j l ≡ some p → depth j h l ≡ suc (depth j (h - 1) p)
+pub depth_up : (j : Outline) (h l p : ℕ) → 0 < h → parent_of j l ≡ Some p → depth j h l ≡ suc (depth j (h - 1) p)
 unfolding depth
 depth_up j zero l p k e = absurd (omega arith)
 depth_up j (suc h) l p k e = rw (e, sub-one)
@@ -37,8 +37,8 @@ depth_small j zero l = omega arith
 depth_small j (suc h) l = go (parent_of j l) (depth_small j h)
   where
     go : (x : Option ℕ) → ((p : ℕ) → depth j h p ≤ h) → on x (λ p. suc (depth j h p)) 0 ≤ suc h
-    go none more = omega arith
-    go (some p) more = omega (arith, more p)
+    go None more = omega arith
+    go (Some p) more = omega (arith, more p)
 
 -- ---- by depth
 
@@ -97,7 +97,7 @@ module _ (j : Outline) where
   unfolding anchors_at
   none_at d l n = rw (ne_eqb (depth_of j l) d n)
 
-  no_rows : (d l : ℕ) → row_table (kind_of j l) ≡ none → anchors_at j d l ≡ []
+  no_rows : (d l : ℕ) → row_table (kind_of j l) ≡ None → anchors_at j d l ≡ []
   unfolding anchors_at
   no_rows d l e = go (eqb (depth_of j l) d)
     where
@@ -105,7 +105,7 @@ module _ (j : Outline) where
       go true = rw e
       go false = refl
 
-  one_at : (d l u : ℕ) → depth_of j l ≡ d → row_table (kind_of j l) ≡ some u → anchors_at j d l ≡ record { loop = l; table = u } ∷ []
+  one_at : (d l u : ℕ) → depth_of j l ≡ d → row_table (kind_of j l) ≡ Some u → anchors_at j d l ≡ record { loop = l; table = u } ∷ []
   unfolding anchors_at
   one_at d l u q e = rw (eq-eqb (depth_of j l) d q, e)
 
@@ -115,7 +115,7 @@ module _ (j : Outline) where
   shallower_skip l zero ls h = refl
   shallower_skip l (suc d) ls h = ap₂ (λ x y. (x ++ each (anchors_at j d) ls) ++ y) (h d (omega arith)) (shallower_skip l d ls (λ n k. h n (omega arith)))
 
-  inserted : (l u d : ℕ) (ls : List ℕ) → row_table (kind_of j l) ≡ some u → depth_of j l < d → insert j (record { loop = l; table = u }) (shallower j ls d) ≡ shallower j (l ∷ ls) d
+  inserted : (l u d : ℕ) (ls : List ℕ) → row_table (kind_of j l) ≡ Some u → depth_of j l < d → insert j (record { loop = l; table = u }) (shallower j ls d) ≡ shallower j (l ∷ ls) d
   unfolding shallower
   inserted l u zero ls e h = absurd (omega arith)
   inserted l u (suc d) ls e h = go (eqb (depth_of j l) d) refl (inserted l u d ls e)
@@ -145,8 +145,8 @@ module _ (j : Outline) where
     where
       go : (x : Option ℕ) → row_table (kind_of j l) ≡ x → foldr (insert j) [] (each (λ l. anchor_at l (kind_of j l)) ls) ≡ shallower j ls d
           → foldr (insert j) [] (anchor_at l (kind_of j l) ++ each (λ l. anchor_at l (kind_of j l)) ls) ≡ shallower j (l ∷ ls) d
-      go none e more = rw e (more ∙ sym (shallower_skip l d ls (λ n k. no_rows n l e)))
-      go (some u) e more = rw e (ap (insert j (record { loop = l; table = u })) more ∙ inserted l u d ls e h.0)
+      go None e more = rw e (more ∙ sym (shallower_skip l d ls (λ n k. no_rows n l e)))
+      go (Some u) e more = rw e (ap (insert j (record { loop = l; table = u })) more ∙ inserted l u d ls e h.0)
 
 -- ---- the laws of the search: at depth d, at place i of the table's list
 
@@ -163,34 +163,36 @@ pub left_other : (j : Outline) (ls : List ℕ) (d i : ℕ) → i < length ls →
 left_other j ls d i h n = left_step j ls d i h ∙ ap (λ r. r ++ each (anchors_at j d) (drop (i + 1) ls) ++ shallower j ls d) (none_at j d (get_or ls i 0) n)
 
 -- a loop without rows
-pub left_no_rows : (j : Outline) (ls : List ℕ) (d i : ℕ) → i < length ls → row_table (kind_of j (get_or ls i 0)) ≡ none → left j ls d i ≡ left j ls d (i + 1)
+pub left_no_rows : (j : Outline) (ls : List ℕ) (d i : ℕ) → i < length ls → row_table (kind_of j (get_or ls i 0)) ≡ None → left j ls d i ≡ left j ls d (i + 1)
 left_no_rows j ls d i h e = left_step j ls d i h ∙ ap (λ r. r ++ each (anchors_at j d) (drop (i + 1) ls) ++ shallower j ls d) (no_rows j d (get_or ls i 0) e)
 
 -- an anchor
-pub left_anchor : (j : Outline) (ls : List ℕ) (d i u : ℕ) → i < length ls → depth_of j (get_or ls i 0) ≡ d → row_table (kind_of j (get_or ls i 0)) ≡ some u
+pub left_anchor : (j : Outline) (ls : List ℕ) (d i u : ℕ) → i < length ls → depth_of j (get_or ls i 0) ≡ d → row_table (kind_of j (get_or ls i 0)) ≡ Some u
     → left j ls d i ≡ record { loop = get_or ls i 0; table = u } ∷ left j ls d (i + 1)
 left_anchor j ls d i u h q e = left_step j ls d i h ∙ ap (λ r. r ++ each (anchors_at j d) (drop (i + 1) ls) ++ shallower j ls d) (one_at j d (get_or ls i 0) u q e)
 
--- one depth less
-pub left_down : (j : Outline) (ls : List ℕ) (d i : ℕ) → 0 < d → length ls ≤ i → left j ls d i ≡ left j ls (d - 1) 0
+-- those of depth d and less, and one depth less
+pub left_start : (j : Outline) (ls : List ℕ) (d : ℕ) → shallower j ls (suc d) ≡ left j ls d 0
 unfolding shallower
-left_down j ls zero i k h = absurd (omega arith)
-left_down j ls (suc d) i k h = rw (drop_of_length-le ls h, sub-one)
+left_start j ls d = refl
 
-pub left_end : (j : Outline) (ls : List ℕ) (i : ℕ) → length ls ≤ i → left j ls 0 i ≡ []
+pub left_down : (j : Outline) (ls : List ℕ) (d i : ℕ) → length ls ≤ i → left j ls d i ≡ shallower j ls d
+left_down j ls d i h = rw (drop_of_length-le ls h)
+
+pub left_end : (j : Outline) (ls : List ℕ) → shallower j ls 0 ≡ []
 unfolding shallower
-left_end j ls i h = rw (drop_of_length-le ls h)
+left_end j ls = refl
 
 -- ---- the claim
 
-pub claim_here : (j : Outline) (t r v : ℕ) (a : Anchor) (more : List Anchor) → j.reference t a.table r ≡ some v → claim_in j t r (a ∷ more) ≡ some (claim_on a v)
+pub claim_here : (j : Outline) (t r v : ℕ) (a : Anchor) (more : List Anchor) → j.reference t a.table r ≡ Some v → claim_in j t r (a ∷ more) ≡ Some (claim_on a v)
 unfolding claim_in
 claim_here j t r v a more e = rw e
 
-pub claim_next : (j : Outline) (t r : ℕ) (a : Anchor) (more : List Anchor) → j.reference t a.table r ≡ none → claim_in j t r (a ∷ more) ≡ claim_in j t r more
+pub claim_next : (j : Outline) (t r : ℕ) (a : Anchor) (more : List Anchor) → j.reference t a.table r ≡ None → claim_in j t r (a ∷ more) ≡ claim_in j t r more
 unfolding claim_in
 claim_next j t r a more e = rw e
 
-pub claim_none : (j : Outline) (t r : ℕ) → claim_in j t r [] ≡ none
+pub claim_none : (j : Outline) (t r : ℕ) → claim_in j t r [] ≡ None
 unfolding claim_in
 claim_none j t r = refl

@@ -1,15 +1,15 @@
 -- The array that nest leaves, read as code reads it, says where each row hangs.
-use Prim.Native.Nat.{ℕ, suc, ◌+◌, ◌*◌, ◌≤◌, ◌<◌}
-use mathlib.Core.Path.{◌≡◌, refl, sym, ap, ap₂, ◌∙◌}
-use mathlib.Core.Bool.{Bool, true, false, ◌&&◌}
-use mathlib.Core.Option.{Option, none, some}
+use Prim.Native.Nat.{ℕ, ◌+◌, ◌*◌, ◌<◌}
+use mathlib.Core.Path.{◌≡◌, sym, ap, ap₂, ◌∙◌}
+use mathlib.Core.Bool.{true, false, ◌&&◌}
 use native.Mathlib.Omega.{arith}
 use native.Mathlib.Numerals.{add-one}
+use Rattle.std.specs.Prelude.{Some}
 use lib.ListN.{length, get_or}
 use lib.Dec.{eqb}
 use Rattle.nest.specs.Lists.{keep, first, up_to, is}
 use Rattle.nest.specs.Outline.{Outline, table_parent, row_count, repeated}
-use Rattle.nest.specs.Nest.{Row, referred, hook, hooked, hangs, nest_record, nest_array}
+use Rattle.nest.specs.Nest.{referred, hook, hooked, nest_record, nest_array}
 use Rattle.nest.specs.Found.{nest_at, held_at, hooked_at}
 use Rattle.nest.proofs.Scan.{keep_alike}
 use Rattle.nest.proofs.NestLaws.{rows_before, array_at, holds, takes}
@@ -19,7 +19,7 @@ module _ (j : Outline) (t : ℕ) (there : t < length j.row_counts) where
   pub number_at : (r i : ℕ) → r < row_count j t → i < 3 → nest_at (nest_array j) (rows_before j t) r i ≡ get_or (nest_record j t r) i 0
   number_at r i h k = let q : (rows_before j t + r) * 3 + i ≡ 3 * (rows_before j t + r) + i = omega arith in ap (λ a. get_or (nest_array j) a 0) q ∙ array_at j t r i there h k
 
-  pub held_in_array : (r u p : ℕ) → r < row_count j t → repeated j t ≡ false → table_parent j t ≡ some u → held_at (nest_array j) (rows_before j t) p r ≡ is (referred j t r u) p
+  pub held_in_array : (r u p : ℕ) → r < row_count j t → repeated j t ≡ false → table_parent j t ≡ Some u → held_at (nest_array j) (rows_before j t) p r ≡ is (referred j t r u) p
   unfolding held_at
   held_in_array r u p h f q = ap₂ eqb (number_at r 0 h (omega arith)) (add-one p) ∙ sym (holds j t r u p f q)
 
@@ -28,7 +28,7 @@ module _ (j : Outline) (t : ℕ) (there : t < length j.row_counts) where
   hooked_in_array r l p h f = ap₂ ◌&&◌ (ap₂ eqb (number_at r 0 h (omega arith)) (add-one p)) (ap (λ n. eqb n l) (number_at r 1 h (omega arith))) ∙ sym (takes j t r l p f)
 
   -- what `next_held` and `next_hooked` find
-  pub next_held : (k u p : ℕ) → repeated j t ≡ false → table_parent j t ≡ some u
+  pub next_held : (k u p : ℕ) → repeated j t ≡ false → table_parent j t ≡ Some u
       → first (keep (held_at (nest_array j) (rows_before j t) p) (up_to k (row_count j t))) ≡ first (keep (λ r. is (referred j t r u) p) (up_to k (row_count j t)))
   next_held k u p f q = ap first (keep_alike _ _ k (row_count j t) (λ r h. held_in_array r u p h f q))
 

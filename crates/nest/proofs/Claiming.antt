@@ -1,14 +1,12 @@
 -- The ways through the search for a repeat row's anchor.
-use Prim.Native.Nat.{ℕ, zero, suc, ◌+◌, ◌-◌, ◌*◌, ◌≤◌, ◌<◌}
-use mathlib.Core.Path.{◌≡◌, refl, sym, ap, ap₂, ◌∙◌}
+use Prim.Native.Nat.{ℕ, suc, ◌+◌, ◌-◌, ◌≤◌, ◌<◌}
+use mathlib.Core.Path.{◌≡◌, refl, sym, ap, ◌∙◌}
 use mathlib.Core.Bool.{Bool, true, false, cond}
 use mathlib.Core.List.{List, [], ◌∷◌}
-use mathlib.Core.Option.{Option, none, some}
 use native.Mathlib.Omega.{arith}
-use native.Mathlib.Nat.{suc-mul}
 use lib.ListN.{length, get_or, set, replicate, length-set, get_or-eq_default}
 use lib.Seq.{get_or-set_same, get_or-set_other}
-use lib.Dec.{eqb, leb, ltb}
+use lib.Dec.{eqb, ltb}
 use borrow.Author.Count.{below_more}
 use borrow.Author.Tests.{eq-eqb, ne_eqb, eqb-true, eqb-false, ltb-true, ltb-false, leb-false}
 use Rattle.codec.specs.Limits.{none_of, none_in}
@@ -19,34 +17,24 @@ use Rattle.format.specs.Sections.{job_of}
 use Rattle.format.specs.Refusal.{tangled, outside_table, outside}
 use Rattle.format.specs.Passed.{Passed, few}
 use Rattle.format.specs.Ask as A
-use Rattle.column.specs.Cell.{reference_of}
-use Rattle.column.specs.Answers.{int_is}
-use Rattle.column.specs.declared.OptInt.{OptInt}
-use Rattle.column.specs.declared.OptInt.TheVariants.{Number, NoNumber}
-use Rattle.spec.specs.Answers.{number_of}
-use Rattle.spec.specs.declared.ids.Number.{Number as Numbered}
-use Rattle.spec.specs.declared.ids.Number.TheVariants as number
-use Rattle.spec.specs.declared.ids.LoopId.{LoopId}
 use Rattle.spec.specs.declared.ids.TableId.{TableId}
 use Rattle.plan.specs.Answers.{instances_of}
 use Rattle.plan.specs.declared.answers.Instances.{Instances}
 use Rattle.plan.specs.declared.answers.Instances.TheVariants.{Rows}
-use Rattle.nest.specs.declared.hang.Anchored.{Anchored}
-use Rattle.nest.specs.declared.hang.Anchored.TheVariants.{Is, Nothing}
+use Rattle.std.specs.Prelude.{Ok, Err, Option, None, Some}
 use Rattle.nest.specs.Outline.{Outline, row_table, kind_of, table_of}
-use Rattle.nest.specs.Nest.{Anchor, depth_of, anchors, claim_in, claim_on}
+use Rattle.nest.specs.Nest.{Anchor, depth_of, anchors, claim_in}
 use Rattle.nest.specs.Lists.{All}
 use Rattle.nest.specs.NestFindings.{last_table}
 use Rattle.nest.specs.Claims.{claim_by, anchor_table}
 use Rattle.nest.specs.Keys.{Deep, Within}
 use Rattle.nest.specs.OfJob.{outline_of, kind_in}
-use Rattle.nest.proofs.Anchors.{depth_small, left, left_all, left_other, left_no_rows, left_anchor, left_down, left_end, claim_here, claim_next, claim_none}
-use Rattle.nest.proofs.Bridge.{kind_is, loops_is, loop_count_is, reference_is}
-use Rattle.nest.proofs.Ways.{refers, refers_not}
+use Rattle.nest.proofs.Anchors.{depth_small, left, left_all, left_other, left_no_rows, left_anchor, shallower, left_start, left_down, left_end, claim_here, claim_next, claim_none}
+use Rattle.nest.proofs.Bridge.{kind_is, loops_is, loop_count_is}
 
 abbrev mark : Option ℕ → ℕ
-mark none = 0
-mark (some u) = 1
+mark None = 0
+mark (Some u) = 1
 
 -- ---- the loops of a table have numbers below 32
 pub loop_small : (b : List ℕ) → Passed b → (t k n l : ℕ) → n ≡ length (A.table_of (job_of b) t).loops → k < n → l ≡ get_or (A.table_of (job_of b) t).loops k 0 → l < 32
@@ -108,21 +96,21 @@ pub within_all : (j : Job) (t k n d : ℕ) → Within (outline_of j) t k d → n
 within_all j t k n d w c h = record { of = λ p m. let g : p < length (A.table_of j t).loops = rw (← loops_is j t) m in w.of p (omega (arith, g, c, h)) }
 
 -- ---- an anchor
-pub rows_kind : (k : Instances) (t : TableId) → k ≡ Rows t → some t.0 ≡ row_table (kind_in (instances_of k))
+pub rows_kind : (k : Instances) (t : TableId) → k ≡ Rows t → Some t.0 ≡ row_table (kind_in (instances_of k))
 rows_kind k t q = rw q
 
 module _ (j : Job) (l d n : ℕ) (e : n ≡ depth_of (outline_of j) l) where
   pub anchor_here : (x : Option ℕ) (k : P.Instances) → n ≡ d → k ≡ (A.plan_of j l).instances → x ≡ row_table (kind_in k) → x ≡ anchor_table (outline_of j) l d
   anchor_here x k h q i = i ∙ rw (q, ← kind_is j l) (sym (rw (eq-eqb (depth_of (outline_of j) l) d (sym e ∙ h)) refl))
 
-  pub anchor_elsewhere : (n ≡ d → ⊥) → none ≡ anchor_table (outline_of j) l d
+  pub anchor_elsewhere : (n ≡ d → ⊥) → None ≡ anchor_table (outline_of j) l d
   anchor_elsewhere h = sym (rw (ne_eqb (depth_of (outline_of j) l) d (λ x. h (e ∙ x))) refl)
 
 -- ---- what is left of the anchors from depth d and place i on
 
 module _ (j : Job) (t : ℕ) where
-  pub all_left : (d : ℕ) → Within (outline_of j) t (length (table_of (outline_of j) t).loops) d → anchors (outline_of j) t ≡ left (outline_of j) (table_of (outline_of j) t).loops d 0
-  all_left d w = left_all (outline_of j) t d (all_at (λ l. depth_of (outline_of j) l < suc d) (table_of (outline_of j) t).loops (λ k h. omega (arith, w.of k h)))
+  pub all_left : (d : ℕ) → Within (outline_of j) t (length (table_of (outline_of j) t).loops) d → anchors (outline_of j) t ≡ shallower (outline_of j) (table_of (outline_of j) t).loops (d + 1 - 0)
+  all_left d w = let z : d + 1 - 0 ≡ suc d = omega arith in rw (z, left_start) (left_all (outline_of j) t d (all_at (λ l. depth_of (outline_of j) l < suc d) (table_of (outline_of j) t).loops (λ k h. omega (arith, w.of k h))))
 
   module _ (d i n l : ℕ) (c : n ≡ length (A.table_of j t).loops) (h : i < n) (e : l ≡ get_or (A.table_of j t).loops i 0) where
     here : i < length (table_of (outline_of j) t).loops
@@ -131,37 +119,38 @@ module _ (j : Job) (t : ℕ) where
     it : l ≡ get_or (table_of (outline_of j) t).loops i 0
     it = rw (loops_is j t) e
 
-    module _ (u : ℕ) (a : anchor_table (outline_of j) l d ≡ some u) where
+    module _ (u : ℕ) (a : anchor_table (outline_of j) l d ≡ Some u) where
       at_depth : depth_of (outline_of j) l ≡ d
       at_depth = go (eqb (depth_of (outline_of j) l) d) refl a
         where
-          go : (b : Bool) → eqb (depth_of (outline_of j) l) d ≡ b → cond {A = Option ℕ} b (row_table (kind_of (outline_of j) l)) none ≡ some u → depth_of (outline_of j) l ≡ d
+          go : (b : Bool) → eqb (depth_of (outline_of j) l) d ≡ b → cond {A = Option ℕ} b (row_table (kind_of (outline_of j) l)) None ≡ Some u → depth_of (outline_of j) l ≡ d
           go true q x = eqb-true _ _ q
           go false q x = let z : ◌≡◌ {A = ℕ} 0 1 = ap mark x in absurd (omega arith)
 
-      with_rows : row_table (kind_of (outline_of j) l) ≡ some u
+      with_rows : row_table (kind_of (outline_of j) l) ≡ Some u
       with_rows = sym (rw (eq-eqb (depth_of (outline_of j) l) d at_depth) refl) ∙ a
 
       pub left_here : left (outline_of j) (table_of (outline_of j) t).loops d i ≡ record { loop = l; table = u } ∷ left (outline_of j) (table_of (outline_of j) t).loops d (i + 1)
       left_here = rw it (left_anchor (outline_of j) (table_of (outline_of j) t).loops d i u here (rw (← it) at_depth) (rw (← it) with_rows))
 
-    pub left_passed : anchor_table (outline_of j) l d ≡ none → left (outline_of j) (table_of (outline_of j) t).loops d i ≡ left (outline_of j) (table_of (outline_of j) t).loops d (i + 1)
+    pub left_passed : anchor_table (outline_of j) l d ≡ None → left (outline_of j) (table_of (outline_of j) t).loops d i ≡ left (outline_of j) (table_of (outline_of j) t).loops d (i + 1)
     left_passed a = go (eqb (depth_of (outline_of j) l) d) refl a
       where
-        go : (b : Bool) → eqb (depth_of (outline_of j) l) d ≡ b → cond {A = Option ℕ} b (row_table (kind_of (outline_of j) l)) none ≡ none
+        go : (b : Bool) → eqb (depth_of (outline_of j) l) d ≡ b → cond {A = Option ℕ} b (row_table (kind_of (outline_of j) l)) None ≡ None
             → left (outline_of j) (table_of (outline_of j) t).loops d i ≡ left (outline_of j) (table_of (outline_of j) t).loops d (i + 1)
         go true q x = left_no_rows (outline_of j) (table_of (outline_of j) t).loops d i here (rw (← it) x)
         go false q x = left_other (outline_of j) (table_of (outline_of j) t).loops d i here (λ y. eqb-false (depth_of (outline_of j) l) d q (ap (depth_of (outline_of j)) it ∙ y))
 
-  module _ (d i n : ℕ) (c : n ≡ length (A.table_of j t).loops) (h : n ≤ i) where
-    past : length (table_of (outline_of j) t).loops ≤ i
-    past = rw (loops_is j t) (omega arith)
+  -- the depths from the greatest down: `up` above the depth that is tried
+  pub left_first : (top up : ℕ) → up ≤ top → shallower (outline_of j) (table_of (outline_of j) t).loops (top + 1 - up) ≡ left (outline_of j) (table_of (outline_of j) t).loops (top - up) 0
+  left_first top up h = let z : top + 1 - up ≡ suc (top - up) = omega arith in rw z (left_start (outline_of j) _ (top - up))
 
-    pub left_lower : 0 < d → left (outline_of j) (table_of (outline_of j) t).loops d i ≡ left (outline_of j) (table_of (outline_of j) t).loops (d - 1) 0
-    left_lower k = left_down (outline_of j) (table_of (outline_of j) t).loops d i k past
+  pub left_lower : (top up i n : ℕ) → n ≡ length (A.table_of j t).loops → n ≤ i
+      → left (outline_of j) (table_of (outline_of j) t).loops (top - up) i ≡ shallower (outline_of j) (table_of (outline_of j) t).loops (top + 1 - (up + 1))
+  left_lower top up i n c h = let z : top + 1 - (up + 1) ≡ top - up = omega arith in rw z (left_down (outline_of j) (table_of (outline_of j) t).loops (top - up) i (rw (loops_is j t) (omega arith)))
 
-    pub left_over : d ≡ 0 → left (outline_of j) (table_of (outline_of j) t).loops d i ≡ []
-    left_over z = rw z (left_end (outline_of j) _ i past)
+  pub left_over : (top up : ℕ) → top + 1 ≤ up → shallower (outline_of j) (table_of (outline_of j) t).loops (top + 1 - up) ≡ []
+  left_over top up h = let z : top + 1 - up ≡ 0 = omega arith in rw z (left_end (outline_of j) _)
 
 -- ---- what is left to try; last is the table of the last anchor tried
 pub record Tried (j : Job) (t r last : ℕ) (more : List Anchor) : Type 0 where
@@ -176,20 +165,15 @@ module _ (j : Job) (t r : ℕ) where
     pub tried_on : (more : List Anchor) → xs ≡ more → Tried j t r last more
     tried_on more q = record { claims = w.claims ∙ ap (claim_in (outline_of j) t r) q; lasts = w.lasts ∙ ap (last_table last) q }
 
-    pub tried_here : (l u v : ℕ) (more : List Anchor) → xs ≡ record { loop = l; table = u } ∷ more → (outline_of j).reference t u r ≡ some v
-        → Is (record { l = record { 0 = l }; table = record { 0 = u }; value = v }) ≡ claim_by (claim_in (outline_of j) t r (anchors (outline_of j) t)) (last_table t (anchors (outline_of j) t))
+    pub tried_here : (l u v : ℕ) (more : List Anchor) → xs ≡ record { loop = l; table = u } ∷ more → (outline_of j).reference t u r ≡ Some v
+        → Ok (record { l = record { 0 = l }; table = record { 0 = u }; value = v }) ≡ claim_by (claim_in (outline_of j) t r (anchors (outline_of j) t)) (last_table t (anchors (outline_of j) t))
     tried_here l u v more e q = rw (w.claims ∙ ap (claim_in (outline_of j) t r) e ∙ claim_here (outline_of j) t r v (record { loop = l; table = u }) more q) refl
 
-    pub tried_next : (l u : ℕ) (more : List Anchor) → xs ≡ record { loop = l; table = u } ∷ more → (outline_of j).reference t u r ≡ none → Tried j t r u more
+    pub tried_next : (l u : ℕ) (more : List Anchor) → xs ≡ record { loop = l; table = u } ∷ more → (outline_of j).reference t u r ≡ None → Tried j t r u more
     tried_next l u more e q = record {
       claims = w.claims ∙ ap (claim_in (outline_of j) t r) e ∙ claim_next (outline_of j) t r (record { loop = l; table = u }) more q;
       lasts = w.lasts ∙ ap (last_table last) e;
     }
 
-    pub tried_end : xs ≡ [] → Nothing (record { 0 = last }) ≡ claim_by (claim_in (outline_of j) t r (anchors (outline_of j) t)) (last_table t (anchors (outline_of j) t))
+    pub tried_end : xs ≡ [] → Err (record { 0 = last }) ≡ claim_by (claim_in (outline_of j) t r (anchors (outline_of j) t)) (last_table t (anchors (outline_of j) t))
     tried_end q = rw (w.claims ∙ ap (claim_in (outline_of j) t r) q ∙ claim_none (outline_of j) t r, w.lasts ∙ ap (last_table last) q) refl
-
--- the search goes on for so many steps at most
-pub less_down : (d n i : ℕ) → 0 < d → n ≤ i → (d - 1) * suc n + (n - 0) < d * suc n + (n - i)
-less_down zero n i h k = absurd (omega arith)
-less_down (suc d) n i h k = let s : suc d * suc n ≡ d * suc n + suc n = suc-mul d (suc n) in let e : suc d - 1 ≡ d = omega arith in rw e (omega (arith, s))

@@ -1,12 +1,12 @@
 -- A finding's record tells which finding it is.
 use Prim.Native.Nat.{ℕ, zero, suc, ◌+◌, ◌-◌, ◌*◌, ◌≤◌, ◌<◌}
 use mathlib.Core.Path.{◌≡◌, refl, sym, ap, ap₂, ◌∙◌}
-use mathlib.Core.Bool.{Bool, true, false, cond}
+use mathlib.Core.Bool.{cond}
 use mathlib.Core.List.{List, [], ◌∷◌, ◌++◌}
-use mathlib.Core.Option.{Option, none, some}
 use native.Mathlib.Numerals.{sub-one}
 use native.Mathlib.Omega.{arith}
 use native.Mathlib.Decide.{dec_lt}
+use Rattle.std.specs.Prelude.{Option, None, Some}
 use lib.ListN.{length, take, drop, get_or, length-drop, take-append-drop}
 use lib.Dec.{eqb, leb}
 use borrow.Author.Tests.{ne_eqb}
@@ -73,13 +73,13 @@ module _ (name words : List ℕ) where
   origin = cond (eqb (w 1) 0) (cell (w 2) (w 3) (w 4)) (field (w 2))
 
   abbrev place : Place
-  place = record { identifier = name; element = w 6; component = cond (eqb (w 7) 0) none (some (w 7 - 1)) }
+  place = record { identifier = name; element = w 6; component = cond (eqb (w 7) 0) None (Some (w 7 - 1)) }
 
   abbrev finding : Finding
   finding =
       get_or (
       duplicate (w 1) (w 2) (w 3) (w 4)
-      ∷ missing (w 1) (w 2) (w 3) (cond (eqb (w 4) 0) none (some (w 5)))
+      ∷ missing (w 1) (w 2) (w 3) (cond (eqb (w 4) 0) None (Some (w 5)))
       ∷ mismatch (w 1) (w 2) (w 3) (w 4) (w 5) (w 6) (w 7)
       ∷ out_of_order (w 1) (w 2) (w 3) (w 4) (w 5)
       ∷ delimiter origin place (w 8) (w 9)
@@ -90,15 +90,15 @@ module _ (name words : List ℕ) where
   abbrev name_number : ℕ
   name_number = cond (leb 4 (w 0)) (w 5) 0
 
-component_back : (x : Option ℕ) → cond (eqb (or_zero x) 0) none (some (or_zero x - 1)) ≡ x
-component_back none = refl
-component_back (some c) = rw (ne_eqb (suc c) 0 (λ z. omega (arith, z)), sub-one)
+component_back : (x : Option ℕ) → cond (eqb (or_zero x) 0) None (Some (or_zero x - 1)) ≡ x
+component_back None = refl
+component_back (Some c) = rw (ne_eqb (suc c) 0 (λ z. omega (arith, z)), sub-one)
 
 back : (f : Finding) → finding (identifier_of f) (record_of f) ≡ f
 unfolding record_of
 back (duplicate t r k f) = refl
-back (missing t r u none) = refl
-back (missing t r u (some v)) = refl
+back (missing t r u None) = refl
+back (missing t r u (Some v)) = refl
 back (mismatch t r a v u p e) = refl
 back (out_of_order t r a v h) = refl
 back (delimiter (cell t r c) p b role) = ap (λ x. delimiter (cell t r c) (record { identifier = p.identifier; element = p.element; component = x }) b role) (component_back p.component)
@@ -109,8 +109,8 @@ back (not_writable (field f) p reason) = ap (λ x. not_writable (field f) (recor
 name_back : (f : Finding) → name_number (identifier_of f) (record_of f) ≡ number_from 0 (identifier_of f)
 unfolding record_of
 name_back (duplicate t r k f) = refl
-name_back (missing t r u none) = refl
-name_back (missing t r u (some v)) = refl
+name_back (missing t r u None) = refl
+name_back (missing t r u (Some v)) = refl
 name_back (mismatch t r a v u p e) = refl
 name_back (out_of_order t r a v h) = refl
 name_back (delimiter (cell t r c) p b role) = refl
@@ -128,8 +128,8 @@ record-injective f g h k e =
 pub record-length : (f : Finding) → length (record_of f) ≡ 10
 unfolding record_of
 record-length (duplicate t r k f) = refl
-record-length (missing t r u none) = refl
-record-length (missing t r u (some v)) = refl
+record-length (missing t r u None) = refl
+record-length (missing t r u (Some v)) = refl
 record-length (mismatch t r a v u p e) = refl
 record-length (out_of_order t r a v h) = refl
 record-length (delimiter (cell t r c) p b role) = refl

@@ -1,32 +1,31 @@
 -- Nest's numbers in the array, one law for each way that code takes.
 use Prim.Native.Nat.{ℕ, zero, suc, ◌+◌, ◌-◌, ◌*◌}
 use mathlib.Core.Path.{◌≡◌, refl, sym, ap, ◌∙◌}
-use mathlib.Core.Bool.{Bool, true, false, ◌&&◌}
+use mathlib.Core.Bool.{true, false}
 use mathlib.Core.List.{List}
-use mathlib.Core.Option.{Option, none, some}
 use native.Mathlib.Numerals.{sub-one}
 use native.Mathlib.Omega.{arith}
 use lib.ListN.{get_or}
 use lib.Dec.{eqb}
 use borrow.Author.Tests.{eq-eqb, ne_eqb}
-use Rattle.nest.specs.declared.Found.TheVariants.{Row, Nothing}
+use Rattle.std.specs.Prelude.{Some, None}
 use Rattle.nest.specs.Found.{found_by, row_place, nest_at, row_above, held_at, hooked_at}
 
-nest_first : (nest : List ℕ) (base r : ℕ) → nest_at nest base r 0 ≡ get_or nest ((base + r) * 3) 0
+pub nest_first : (nest : List ℕ) (base r : ℕ) → nest_at nest base r 0 ≡ get_or nest ((base + r) * 3) 0
 nest_first nest base r = let q : (base + r) * 3 + 0 ≡ (base + r) * 3 = omega arith in rw q
 
-pub place_none : (n : ℕ) → n ≡ 0 → found_by (row_place n) ≡ Nothing
+pub place_none : (n : ℕ) → n ≡ 0 → found_by (row_place n) ≡ None
 place_none n e = rw e
 
-pub place_some : (n : ℕ) → (n ≡ 0 → ⊥) → found_by (row_place n) ≡ Row (record { 0 = n - 1 })
+pub place_some : (n : ℕ) → (n ≡ 0 → ⊥) → found_by (row_place n) ≡ Some (record { 0 = n - 1 })
 place_some zero d = absurd (d refl)
 place_some (suc n) d = rw sub-one
 
-pub above_none : (nest : List ℕ) (base r : ℕ) → get_or nest ((base + r) * 3) 0 ≡ 0 → row_above nest base r ≡ Nothing
+pub above_none : (nest : List ℕ) (base r : ℕ) → get_or nest ((base + r) * 3) 0 ≡ 0 → row_above nest base r ≡ None
 unfolding row_above
 above_none nest base r e = place_none (nest_at nest base r 0) (nest_first nest base r ∙ e)
 
-pub above_row : (nest : List ℕ) (base r : ℕ) → (get_or nest ((base + r) * 3) 0 ≡ 0 → ⊥) → row_above nest base r ≡ Row (record { 0 = get_or nest ((base + r) * 3) 0 - 1 })
+pub above_row : (nest : List ℕ) (base r : ℕ) → (get_or nest ((base + r) * 3) 0 ≡ 0 → ⊥) → row_above nest base r ≡ Some (record { 0 = get_or nest ((base + r) * 3) 0 - 1 })
 unfolding row_above
 above_row nest base r d = ap (λ n. found_by (row_place n)) (nest_first nest base r) ∙ place_some (get_or nest ((base + r) * 3) 0) d
 
@@ -38,13 +37,9 @@ pub held_no : (nest : List ℕ) (base p r : ℕ) → (get_or nest ((base + r) * 
 unfolding held_at
 held_no nest base p r d = ne_eqb (nest_at nest base r 0) (p + 1) (λ z. d (sym (nest_first nest base r) ∙ z))
 
-pub hooked_yes : (nest : List ℕ) (base l p r : ℕ) → held_at nest base p r ≡ true → get_or nest ((base + r) * 3 + 1) 0 ≡ l → hooked_at nest base l p r ≡ true
+pub hooked_there : (nest : List ℕ) (base l p r : ℕ) → held_at nest base p r ≡ true → eqb (get_or nest ((base + r) * 3 + 1) 0) l ≡ hooked_at nest base l p r
 unfolding hooked_at
-hooked_yes nest base l p r e q = rw (e, eq-eqb (nest_at nest base r 1) l q)
-
-pub hooked_elsewhere : (nest : List ℕ) (base l p r : ℕ) → held_at nest base p r ≡ true → (get_or nest ((base + r) * 3 + 1) 0 ≡ l → ⊥) → hooked_at nest base l p r ≡ false
-unfolding hooked_at
-hooked_elsewhere nest base l p r e q = rw (e, ne_eqb (nest_at nest base r 1) l q)
+hooked_there nest base l p r e = rw e
 
 pub hooked_no : (nest : List ℕ) (base l p r : ℕ) → held_at nest base p r ≡ false → hooked_at nest base l p r ≡ false
 unfolding hooked_at

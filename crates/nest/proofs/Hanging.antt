@@ -3,8 +3,10 @@ use Prim.Native.Nat.{ℕ, zero, suc, ◌+◌, ◌<◌}
 use mathlib.Core.Path.{◌≡◌, refl, sym, ap, ◌∙◌, subst}
 use mathlib.Core.Logic.{◌⊎◌, inl, inr}
 use mathlib.Core.Bool.{Bool, true, false, not, ◌&&◌, false≢true}
-use mathlib.Core.Option.{Option, none, some, map, some-injective, none-ne-some}
 use native.Mathlib.Omega.{arith}
+use Rattle.std.specs.Prelude.{Option, None, Some}
+use Rattle.std.specs.Option.{option_map}
+use Rattle.std.proofs.lemmas.Option.{same_Some, none-some}
 use lib.ListN.{length}
 use lib.Dec.{ltb, eqb}
 use borrow.Author.Tests.{ltb-true, lt-ltb}
@@ -14,29 +16,29 @@ use Rattle.nest.specs.Nest.{has_keys, first_row, referred, Row, row_of, hangs, n
 
 -- ---- a row found exists
 
-first_kept : (p : ℕ → Bool) (n a o : ℕ) → first (keep p (from a n)) ≡ some o → o < a + n
-first_kept p zero a o e = absurd (none-ne-some o e)
+first_kept : (p : ℕ → Bool) (n a o : ℕ) → first (keep p (from a n)) ≡ Some o → o < a + n
+first_kept p zero a o e = absurd (none-some o e)
 first_kept p (suc n) a o e = go (p a) refl (first_kept p n (suc a) o)
   where
-    go : (b : Bool) → p a ≡ b → (first (keep p (from (suc a) n)) ≡ some o → o < suc a + n) → o < a + suc n
-    go true q more = omega (arith, some-injective a o (rw q at e))
+    go : (b : Bool) → p a ≡ b → (first (keep p (from (suc a) n)) ≡ Some o → o < suc a + n) → o < a + suc n
+    go true q more = omega (arith, same_Some a o (rw q at e))
     go false q more = omega (arith, more (rw q at e))
 
-pub first_exists : (j : Outline) (u v o : ℕ) → first_row j u v ≡ some o → o < row_count j u
+pub first_exists : (j : Outline) (u v o : ℕ) → first_row j u v ≡ Some o → o < row_count j u
 unfolding first_row
 first_exists j u v o e = go (has_keys j u) refl
   where
     go : (b : Bool) → has_keys j u ≡ b → o < row_count j u
     go true q = omega (arith, first_kept (λ o. eqb (j.key u o) v) (row_count j u) 0 o (rw q at e))
-    go false q = absurd (none-ne-some o (rw q at e))
+    go false q = absurd (none-some o (rw q at e))
 
-pub referred_exists : (j : Outline) (t r u o : ℕ) → referred j t r u ≡ some o → o < row_count j u
+pub referred_exists : (j : Outline) (t r u o : ℕ) → referred j t r u ≡ Some o → o < row_count j u
 unfolding referred
 referred_exists j t r u o e = go (j.reference t u r) refl
   where
     go : (x : Option ℕ) → j.reference t u r ≡ x → o < row_count j u
-    go none q = absurd (none-ne-some o (rw q at e))
-    go (some v) q = first_exists j u v o (rw q at e)
+    go None q = absurd (none-some o (rw q at e))
+    go (Some v) q = first_exists j u v o (rw q at e)
 
 -- ---- tables with and without repeat segment
 
@@ -67,21 +69,21 @@ plain_or j t h = go (table_of j t).repeats (ltb t (length j.tables)) (lt-ltb t (
 
 -- ---- adrift, one row up
 
-pub hangs_parent : (j : Outline) (t r u : ℕ) → plain j t ≡ true → table_parent j t ≡ some u → hangs j t r ≡ map (row_of u) (referred j t r u)
+pub hangs_parent : (j : Outline) (t r u : ℕ) → plain j t ≡ true → table_parent j t ≡ Some u → hangs j t r ≡ option_map (row_of u) (referred j t r u)
 unfolding hangs
 hangs_parent j t r u e q = rw (plain_not j t e, q)
 
-pub adrift_up : (j : Outline) (t r : ℕ) (a : Row) → hangs j t r ≡ some a → Adrift j t r → Adrift j a.table a.row
-adrift_up j t r a e (it lacks) = absurd (none-ne-some a (sym lacks.none_there ∙ e))
-adrift_up j t r a e (above {a = b} q more) = subst (λ z. Adrift j z.table z.row) (some-injective b a (sym q ∙ e)) more
+pub adrift_up : (j : Outline) (t r : ℕ) (a : Row) → hangs j t r ≡ Some a → Adrift j t r → Adrift j a.table a.row
+adrift_up j t r a e (it lacks) = absurd (none-some a (sym lacks.none_there ∙ e))
+adrift_up j t r a e (above {a = b} q more) = subst (λ z. Adrift j z.table z.row) (same_Some b a (sym q ∙ e)) more
 
-pub adrift_here : (j : Outline) (t r u : ℕ) → plain j t ≡ true → table_parent j t ≡ some u → referred j t r u ≡ none → Adrift j t r
+pub adrift_here : (j : Outline) (t r u : ℕ) → plain j t ≡ true → table_parent j t ≡ Some u → referred j t r u ≡ None → Adrift j t r
 unfolding needs_parent
 adrift_here j t r u e q z =
     let must : needs_parent j t ≡ true = rw (plain_not j t e, q) in
-    it (record { needs = must; none_there = hangs_parent j t r u e q ∙ ap (map (row_of u)) z })
+    it (record { needs = must; none_there = hangs_parent j t r u e q ∙ ap (option_map (row_of u)) z })
 
-pub not_adrift : (j : Outline) (t r : ℕ) → plain j t ≡ true → table_parent j t ≡ none → Adrift j t r → ⊥
+pub not_adrift : (j : Outline) (t r : ℕ) → plain j t ≡ true → table_parent j t ≡ None → Adrift j t r → ⊥
 unfolding needs_parent hangs
 not_adrift j t r e q (it lacks) = false≢true (rw (plain_not j t e, q) at lacks.needs)
-not_adrift j t r e q (above {a = a} h more) = none-ne-some a (rw (plain_not j t e, q) at h)
+not_adrift j t r e q (above {a = a} h more) = none-some a (rw (plain_not j t e, q) at h)

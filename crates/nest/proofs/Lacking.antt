@@ -1,29 +1,21 @@
 -- The ways through the reports of a row, and of all rows.
-use Prim.Native.Nat.{ℕ, zero, suc, ◌+◌, ◌-◌, ◌≤◌, ◌<◌}
+use Prim.Native.Nat.{ℕ, zero, suc, ◌+◌, ◌-◌, ◌≤◌}
 use mathlib.Core.Path.{◌≡◌, refl, sym, ap, ◌∙◌}
 use mathlib.Core.Bool.{true, false}
 use mathlib.Core.List.{List, [], ◌∷◌, ◌++◌}
-use mathlib.Core.Option.{none, some}
 use native.Mathlib.Omega.{arith}
 use native.Mathlib.Numerals.{add-one}
 use lib.ListN.{length, get_or, drop}
 use Rattle.format.specs.Job.{Job}
 use Rattle.format.specs.Ask as A
 use Rattle.column.specs.Cell.{reference_of}
-use Rattle.column.specs.Answers.{int_is}
-use Rattle.column.specs.declared.OptInt.{OptInt}
-use Rattle.column.specs.declared.OptInt.TheVariants.{Number, NoNumber}
 use Rattle.lent.specs.Fit.{wide, Noted}
 use Rattle.lent.proofs.Laws.{stored_append}
-use Rattle.spec.specs.Answers.{number_of}
-use Rattle.spec.specs.declared.ids.Number.{Number as Numbered}
-use Rattle.spec.specs.declared.ids.Number.TheVariants as number
 use Rattle.spec.specs.declared.ids.TableId.{TableId}
-use Rattle.nest.specs.declared.hang.Anchored.{Anchored}
-use Rattle.nest.specs.declared.hang.Anchored.TheVariants as anchored
+use Rattle.std.specs.Prelude.{Result, Ok, Err, None, Some, Option}
 use Rattle.nest.specs.declared.hang.Claimed.{Claimed}
 use Rattle.nest.specs.Lists.{each, from, up_to}
-use Rattle.nest.specs.Outline.{Outline, table_of, repeated}
+use Rattle.nest.specs.Outline.{Outline, repeated}
 use Rattle.nest.specs.Nest.{anchors, claim_in, row_of}
 use Rattle.nest.specs.Finding.{Finding, missing, mismatch, record_of}
 use Rattle.nest.specs.NestFindings.{duplicates, contradiction_at, contradictions, missing_at, last_table, table_findings, nest_findings}
@@ -37,17 +29,17 @@ use Rattle.nest.proofs.Ways.{refers, refers_not}
 use Rattle.nest.proofs.Placing.{claimed_none, claimed_is}
 
 -- ---- contradictions
-pub agrees_null : (j : Job) (t r u p a : ℕ) (x : OptInt) → int_is x ≡ reference_of (A.data_of j t) a r → x ≡ NoNumber → contradiction_at (outline_of j) t r (row_of u p) a ≡ []
+pub agrees_null : (j : Job) (t r u p a : ℕ) (x : Option ℕ) → x ≡ reference_of (A.data_of j t) a r → x ≡ None → contradiction_at (outline_of j) t r (row_of u p) a ≡ []
 agrees_null j t r u p a x e q = agree_null (outline_of j) t r (row_of u p) a (refers_not j t r a x e q)
 
-module _ (j : Job) (t r u p a : ℕ) (x y : OptInt) (e : int_is x ≡ reference_of (A.data_of j t) a r) (f : int_is y ≡ reference_of (A.data_of j u) a p) where
-  pub agrees_above : (v : ℕ) → x ≡ Number v → y ≡ NoNumber → contradiction_at (outline_of j) t r (row_of u p) a ≡ []
+module _ (j : Job) (t r u p a : ℕ) (x y : Option ℕ) (e : x ≡ reference_of (A.data_of j t) a r) (f : y ≡ reference_of (A.data_of j u) a p) where
+  pub agrees_above : (v : ℕ) → x ≡ Some v → y ≡ None → contradiction_at (outline_of j) t r (row_of u p) a ≡ []
   agrees_above v q z = agree_above_null (outline_of j) t r (row_of u p) a v (refers j t r a x e v q) (refers_not j u p a y f z)
 
-  pub agrees_same : (v w : ℕ) → x ≡ Number v → y ≡ Number w → v ≡ w → contradiction_at (outline_of j) t r (row_of u p) a ≡ []
+  pub agrees_same : (v w : ℕ) → x ≡ Some v → y ≡ Some w → v ≡ w → contradiction_at (outline_of j) t r (row_of u p) a ≡ []
   agrees_same v w q z s = agree_same (outline_of j) t r (row_of u p) a v w (refers j t r a x e v q) (refers j u p a y f w z) s
 
-  pub differs : (v w : ℕ) → x ≡ Number v → y ≡ Number w → (v ≡ w → ⊥) → contradiction_at (outline_of j) t r (row_of u p) a ≡ mismatch t r a v u p w ∷ []
+  pub differs : (v w : ℕ) → x ≡ Some v → y ≡ Some w → (v ≡ w → ⊥) → contradiction_at (outline_of j) t r (row_of u p) a ≡ mismatch t r a v u p w ∷ []
   differs v w q z s = differ (outline_of j) t r (row_of u p) a v w (refers j t r a x e v q) (refers j u p a y f w z) s
 
 pub mismatch_words : (t r a v u p w : ℕ) → 2 ∷ t ∷ r ∷ a ∷ v ∷ u ∷ p ∷ w ∷ 0 ∷ 0 ∷ [] ≡ record_of (mismatch t r a v u p w)
@@ -72,42 +64,42 @@ module _ (j : Job) (t r u p : ℕ) where
   against_one d d' at n k a e s = rw (← e) s
 
 -- ---- missing parents
-pub missing_some : (t r u v : ℕ) → 1 ∷ t ∷ r ∷ u ∷ 1 ∷ v ∷ 0 ∷ 0 ∷ 0 ∷ 0 ∷ [] ≡ record_of (missing t r u (some v))
+pub missing_some : (t r u v : ℕ) → 1 ∷ t ∷ r ∷ u ∷ 1 ∷ v ∷ 0 ∷ 0 ∷ 0 ∷ 0 ∷ [] ≡ record_of (missing t r u (Some v))
 unfolding record_of
 missing_some t r u v = refl
 
-pub missing_none : (t r u : ℕ) → 1 ∷ t ∷ r ∷ u ∷ 0 ∷ 0 ∷ 0 ∷ 0 ∷ 0 ∷ 0 ∷ [] ≡ record_of (missing t r u none)
+pub missing_none : (t r u : ℕ) → 1 ∷ t ∷ r ∷ u ∷ 0 ∷ 0 ∷ 0 ∷ 0 ∷ 0 ∷ 0 ∷ [] ≡ record_of (missing t r u None)
 unfolding record_of
 missing_none t r u = refl
 
-module _ (j : Job) (t r : ℕ) (plain : repeated (outline_of j) t ≡ false) (x : Numbered) (e : number_of x ≡ (A.table_of j t).parent) where
-  pub lacks_top : x ≡ number.None → missing_at (outline_of j) t r ≡ []
-  lacks_top q = missing_top (outline_of j) t r plain (table_parent_is j t ∙ sym e ∙ ap number_of q)
+module _ (j : Job) (t r : ℕ) (plain : repeated (outline_of j) t ≡ false) (x : Option ℕ) (e : x ≡ (A.table_of j t).parent) where
+  pub lacks_top : x ≡ None → missing_at (outline_of j) t r ≡ []
+  lacks_top q = missing_top (outline_of j) t r plain (table_parent_is j t ∙ sym e ∙ q)
 
-  module _ (u : ℕ) (q : x ≡ number.Is u) (y : OptInt) (f : int_is y ≡ reference_of (A.data_of j t) u r) where
+  module _ (u : ℕ) (q : x ≡ Some u) (y : Option ℕ) (f : y ≡ reference_of (A.data_of j t) u r) where
     lacks : missing_at (outline_of j) t r ≡ missing t r u ((outline_of j).reference t u r) ∷ []
-    lacks = missing_parent (outline_of j) t r u plain (table_parent_is j t ∙ sym e ∙ ap number_of q)
+    lacks = missing_parent (outline_of j) t r u plain (table_parent_is j t ∙ sym e ∙ q)
 
-    pub lacks_value : (v : ℕ) → y ≡ Number v → missing_at (outline_of j) t r ≡ missing t r u (some v) ∷ []
+    pub lacks_value : (v : ℕ) → y ≡ Some v → missing_at (outline_of j) t r ≡ missing t r u (Some v) ∷ []
     lacks_value v z = lacks ∙ ap (λ o. missing t r u o ∷ []) (refers j t r u y f v z)
 
-    pub lacks_null : y ≡ NoNumber → missing_at (outline_of j) t r ≡ missing t r u none ∷ []
+    pub lacks_null : y ≡ None → missing_at (outline_of j) t r ≡ missing t r u None ∷ []
     lacks_null z = lacks ∙ ap (λ o. missing t r u o ∷ []) (refers_not j t r u y f z)
 
 -- the last anchor tried
-abbrev last_is : Anchored → ℕ → ℕ
-last_is (anchored.Is k) d = d
-last_is (anchored.Nothing t) d = t.0
+abbrev last_is : Result Claimed TableId → ℕ → ℕ
+last_is (Ok k) d = d
+last_is (Err t) d = t.0
 
-module _ (j : Job) (t r : ℕ) (again : repeated (outline_of j) t ≡ true) (a : Anchored) (e : a ≡ claim_by (claim_in (outline_of j) t r (anchors (outline_of j) t)) (last_table t (anchors (outline_of j) t))) where
-  pub lacks_claim : (k : Claimed) → a ≡ anchored.Is k → missing_at (outline_of j) t r ≡ missing t r k.table.0 (some k.value) ∷ []
+module _ (j : Job) (t r : ℕ) (again : repeated (outline_of j) t ≡ true) (a : Result Claimed TableId) (e : a ≡ claim_by (claim_in (outline_of j) t r (anchors (outline_of j) t)) (last_table t (anchors (outline_of j) t))) where
+  pub lacks_claim : (k : Claimed) → a ≡ Ok k → missing_at (outline_of j) t r ≡ missing t r k.table.0 (Some k.value) ∷ []
   lacks_claim k q = missing_claim (outline_of j) t r _ again (claimed_is j t r again a _ e k q)
 
-  pub lacks_anchor : (u : TableId) → a ≡ anchored.Nothing u → missing_at (outline_of j) t r ≡ missing t r u.0 none ∷ []
+  pub lacks_anchor : (u : TableId) → a ≡ Err u → missing_at (outline_of j) t r ≡ missing t r u.0 None ∷ []
   lacks_anchor u q =
       let c = claimed_none j t r again a _ e u q in
       let l : u.0 ≡ last_table t (anchors (outline_of j) t) = sym (ap (λ x. last_is x u.0) q) ∙ ap (λ x. last_is x u.0) e ∙ ap (λ x. last_is (claim_by x (last_table t (anchors (outline_of j) t))) u.0) c in
-      missing_unclaimed (outline_of j) t r again c ∙ ap (λ n. missing t r n none ∷ []) (sym l)
+      missing_unclaimed (outline_of j) t r again c ∙ ap (λ n. missing t r n None ∷ []) (sym l)
 
 -- ---- a row
 pub stored_as : (d d' : List ℕ) (at n : ℕ) (fs gs : List Finding) → fs ≡ gs → Noted d at (words gs) n d' → Noted d at (words fs) n d'

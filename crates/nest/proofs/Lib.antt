@@ -1,6 +1,7 @@
 pub mod Alls
 pub mod Sums
 pub mod Scan
+pub mod Seeking
 pub mod Hanging
 pub mod Anchors
 pub mod Findings

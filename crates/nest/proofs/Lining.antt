@@ -1,7 +1,6 @@
 -- The anchors of a table as they are lined up.
 use Prim.Native.Nat.{ℕ, ◌+◌, ◌≤◌, ◌<◌}
 use mathlib.Core.Path.{◌≡◌, refl, sym, ap, ap₂, ◌∙◌}
-use mathlib.Core.Bool.{true, false, true≢false}
 use mathlib.Core.List.{List, [], ◌∷◌}
 use native.Mathlib.Omega.{arith}
 use lib.ListN.{length, drop, get_or, set, replicate, length-set}
@@ -40,11 +39,8 @@ module _ (j : Outline) (t n : ℕ) (line : List AnchorLoop) (xs : List Anchor) (
         few = omega (arith, small);
       }
 
-  pub lining_end : xs ≡ [] → Lined j t (record { anchors = line; n = n; whole = true })
-  lining_end e = record { few = λ q. w.few; next = λ q. w.next; all = λ q. w.rest ∙ e }
+  pub lining_end : xs ≡ [] → Lined j t (record { anchors = line; n = n })
+  lining_end e = record { few = w.few; next = w.next; all = w.rest ∙ e }
 
-pub unlined : (j : Outline) (t : ℕ) (s : Line) → s.whole ≡ false → Lined j t s
-unlined j t s e = record { few = λ q. absurd (true≢false (sym q ∙ e)); next = λ q. absurd (true≢false (sym q ∙ e)); all = λ q. absurd (true≢false (sym q ∙ e)) }
-
-pub lined_end : (j : Outline) (t k : ℕ) (s : Line) → Lined j t s → s.whole ≡ true → k ≤ s.n → s.n ≤ k → drop k (anchors j t) ≡ []
-lined_end j t k s w q h g = let e : k ≡ s.n = omega arith in ap (λ (i : ℕ). drop i (anchors j t)) e ∙ w.all q
+pub lined_end : (j : Outline) (t k : ℕ) (s : Line) → Lined j t s → k ≤ s.n → s.n ≤ k → drop k (anchors j t) ≡ []
+lined_end j t k s w h g = let e : k ≡ s.n = omega arith in ap (λ (i : ℕ). drop i (anchors j t)) e ∙ w.all

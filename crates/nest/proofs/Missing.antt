@@ -1,10 +1,10 @@
 -- Each row that lacks its parent is reported once as such, and no other row is.
-use Prim.Native.Nat.{ℕ, zero, suc, ◌+◌, ◌<◌}
-use mathlib.Core.Path.{◌≡◌, refl, sym, ap, ◌∙◌}
+use Prim.Native.Nat.{ℕ, ◌<◌}
+use mathlib.Core.Path.{◌≡◌, refl, ap, ◌∙◌}
 use mathlib.Core.Bool.{Bool, true, false, cond, ◌&&◌, ◌||◌, false≢true}
-use mathlib.Core.List.{List, [], ◌∷◌, ◌++◌}
-use mathlib.Core.Option.{Option, none, some, none-ne-some}
+use mathlib.Core.List.{List, [], ◌∷◌}
 use native.Mathlib.Omega.{arith}
+use Rattle.std.specs.Prelude.{Option, None, Some}
 use lib.ListN.{length}
 use lib.Dec.{eqb, ltb}
 use borrow.Author.Tests.{eq-eqb, ne_eqb}
@@ -28,8 +28,8 @@ unfolding lacking
 lacking_lacks j t r e = go (hangs j t r) refl e
   where
     go : (x : Option Row) → hangs j t r ≡ x → on x (λ p. false) (needs_parent j t) ≡ true → Lacks j t r
-    go none q z = record { needs = z; none_there = q }
-    go (some p) q z = absurd (false≢true z)
+    go None q z = record { needs = z; none_there = q }
+    go (Some p) q z = absurd (false≢true z)
 
 module _ (j : Outline) (t r : ℕ) where
   abbrev M : List Finding → ℕ
@@ -44,8 +44,8 @@ module _ (j : Outline) (t r : ℕ) where
       earlier o f false = refl
 
       at_first : (o : ℕ) (x : Option ℕ) → M (on x (λ f. cond (ltb f o) (duplicate u o (j.key u o) f ∷ []) []) []) ≡ 0
-      at_first o none = refl
-      at_first o (some f) = earlier o f (ltb f o)
+      at_first o None = refl
+      at_first o (Some f) = earlier o f (ltb f o)
 
   no_contradiction : (u o : ℕ) (p : Row) → M (contradictions j u o p) ≡ 0
   unfolding contradictions contradiction_at
@@ -58,31 +58,31 @@ module _ (j : Outline) (t r : ℕ) where
       unlike a v e false = refl
 
       mine : (a : ℕ) (x y : Option ℕ) → M (differing x y (λ v e. mismatch u o a v p.table p.row e ∷ [])) ≡ 0
-      mine a none y = refl
-      mine a (some v) none = refl
-      mine a (some v) (some e) = unlike a v e (eqb v e)
+      mine a None y = refl
+      mine a (Some v) None = refl
+      mine a (Some v) (Some e) = unlike a v e (eqb v e)
 
   -- one row's findings
   of_row_lem : (u o : ℕ) → M (row_findings j u o) ≡ once (lacking j u o && (eqb u t && eqb o r))
   unfolding row_findings missing_at lacking needs_parent
   of_row_lem u o = go (hangs j u o)
     where
-      claimed : (x : Option Claim) → M (on x (λ (k : Claim). missing u o k.table (some k.value)) (missing u o (last_table u (anchors j u)) none) ∷ []) ≡ once (eqb u t && eqb o r)
-      claimed none = omega arith
-      claimed (some k) = omega arith
+      claimed : (x : Option Claim) → M (on x (λ (k : Claim). missing u o k.table (Some k.value)) (missing u o (last_table u (anchors j u)) None) ∷ []) ≡ once (eqb u t && eqb o r)
+      claimed None = omega arith
+      claimed (Some k) = omega arith
 
       parented : (x : Option ℕ) → M (on x (λ v. missing u o v (j.reference u v o) ∷ []) []) ≡ once (on x (λ v. true) false && (eqb u t && eqb o r))
-      parented none = refl
-      parented (some v) = omega arith
+      parented None = refl
+      parented (Some v) = omega arith
 
-      kept : (b : Bool) → M (cond b (on (claim_in j u o (anchors j u)) (λ (k : Claim). missing u o k.table (some k.value)) (missing u o (last_table u (anchors j u)) none) ∷ []) (on (table_parent j u) (λ v. missing u o v (j.reference u v o) ∷ []) []))
+      kept : (b : Bool) → M (cond b (on (claim_in j u o (anchors j u)) (λ (k : Claim). missing u o k.table (Some k.value)) (missing u o (last_table u (anchors j u)) None) ∷ []) (on (table_parent j u) (λ v. missing u o v (j.reference u v o) ∷ []) []))
           ≡ once ((b || on (table_parent j u) (λ v. true) false) && (eqb u t && eqb o r))
       kept true = claimed (claim_in j u o (anchors j u))
       kept false = parented (table_parent j u)
 
       go : (x : Option Row) → M (on x (contradictions j u o) (missing_at j u o)) ≡ once (on x (λ p. false) (needs_parent j u) && (eqb u t && eqb o r))
-      go none = kept (repeated j u)
-      go (some p) = no_contradiction u o p
+      go None = kept (repeated j u)
+      go (Some p) = no_contradiction u o p
 
   off : (a b c : Bool) → b ≡ false → once (a && (b && c)) ≡ 0
   off true b c e = rw e

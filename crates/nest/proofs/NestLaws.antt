@@ -3,9 +3,10 @@ use Prim.Native.Nat.{ℕ, zero, suc, ◌+◌, ◌-◌, ◌*◌, ◌≤◌, ◌<�
 use mathlib.Core.Path.{◌≡◌, refl, sym, ap, ◌∙◌}
 use mathlib.Core.Bool.{Bool, true, false, cond, ◌&&◌}
 use mathlib.Core.List.{List, [], ◌∷◌, ◌++◌, append_assoc}
-use mathlib.Core.Option.{Option, none, some, none-ne-some, some-injective}
 use native.Mathlib.Numerals.{add-one}
 use native.Mathlib.Omega.{arith}
+use Rattle.std.specs.Prelude.{Option, None, Some}
+use Rattle.std.proofs.lemmas.Option.{none-some, same_Some}
 use lib.ListN.{length, drop, get_or, length-append, get_or-append}
 use lib.Seq.{get_or-append-add}
 use lib.Dec.{eqb}
@@ -13,7 +14,6 @@ use borrow.Author.Tests.{eq-eqb, ne_eqb, eqb-true, eqb-false}
 use Rattle.nest.specs.Lists.{each, keep, some_of, first, on, from, is, sum, up_to}
 use Rattle.nest.specs.Outline.{Outline, Table, no_table, table_of, table_parent, row_count, repeated}
 use Rattle.nest.specs.Nest.{has_keys, first_row, referred, anchors, Claim, claim_in, settle, Hook, hook, Row, row_of, hangs, held, hooked, repeat_rows, loose_record, hook_record, parent_record, nest_record, table_array, nest_array}
-use Rattle.nest.proofs.Sums.{sum_same}
 use Rattle.nest.proofs.Scan.{up_to_all, some_at, some_not_at, some_past}
 
 -- ---- keys: the spec's tables from i on
@@ -38,7 +38,7 @@ keys_end j u i h = some_past _ j.tables i h
 
 -- ---- the first row with a key: the rows from k on (then `first_here`, `first_next`, `first_end`)
 
-pub keyless : (j : Outline) (u v : ℕ) → has_keys j u ≡ false → first_row j u v ≡ none
+pub keyless : (j : Outline) (u v : ℕ) → has_keys j u ≡ false → first_row j u v ≡ None
 unfolding first_row
 keyless j u v e = rw e
 
@@ -48,65 +48,65 @@ keyed j u v e = rw (e, up_to_all (row_count j u))
 
 -- ---- where a row hangs
 
-pub referred_null : (j : Outline) (t r u : ℕ) → j.reference t u r ≡ none → referred j t r u ≡ none
+pub referred_null : (j : Outline) (t r u : ℕ) → j.reference t u r ≡ None → referred j t r u ≡ None
 unfolding referred
 referred_null j t r u e = rw e
 
-pub referred_by : (j : Outline) (t r u v : ℕ) → j.reference t u r ≡ some v → referred j t r u ≡ first_row j u v
+pub referred_by : (j : Outline) (t r u v : ℕ) → j.reference t u r ≡ Some v → referred j t r u ≡ first_row j u v
 unfolding referred
 referred_by j t r u v e = rw e
 
-pub hook_claim : (j : Outline) (t r : ℕ) (k : Claim) → repeated j t ≡ true → claim_in j t r (anchors j t) ≡ some k → hook j t r ≡ settle j k
+pub hook_claim : (j : Outline) (t r : ℕ) (k : Claim) → repeated j t ≡ true → claim_in j t r (anchors j t) ≡ Some k → hook j t r ≡ settle j k
 unfolding hook
 hook_claim j t r k p e = rw (p, e)
 
-pub hook_none : (j : Outline) (t r : ℕ) → repeated j t ≡ true → claim_in j t r (anchors j t) ≡ none → hook j t r ≡ none
+pub hook_none : (j : Outline) (t r : ℕ) → repeated j t ≡ true → claim_in j t r (anchors j t) ≡ None → hook j t r ≡ None
 unfolding hook
 hook_none j t r p e = rw (p, e)
 
-pub hook_plain : (j : Outline) (t r : ℕ) → repeated j t ≡ false → hook j t r ≡ none
+pub hook_plain : (j : Outline) (t r : ℕ) → repeated j t ≡ false → hook j t r ≡ None
 unfolding hook
 hook_plain j t r p = rw p
 
-pub hangs_hooked : (j : Outline) (t r : ℕ) (k : Hook) → repeated j t ≡ true → hook j t r ≡ some k → hangs j t r ≡ some (row_of k.table k.row)
+pub hangs_hooked : (j : Outline) (t r : ℕ) (k : Hook) → repeated j t ≡ true → hook j t r ≡ Some k → hangs j t r ≡ Some (row_of k.table k.row)
 unfolding hangs
 hangs_hooked j t r k p e = rw (p, e)
 
-pub hangs_unhooked : (j : Outline) (t r : ℕ) → repeated j t ≡ true → hook j t r ≡ none → hangs j t r ≡ none
+pub hangs_unhooked : (j : Outline) (t r : ℕ) → repeated j t ≡ true → hook j t r ≡ None → hangs j t r ≡ None
 unfolding hangs
 hangs_unhooked j t r p e = rw (p, e)
 
-pub hangs_top : (j : Outline) (t r : ℕ) → repeated j t ≡ false → table_parent j t ≡ none → hangs j t r ≡ none
+pub hangs_top : (j : Outline) (t r : ℕ) → repeated j t ≡ false → table_parent j t ≡ None → hangs j t r ≡ None
 unfolding hangs
 hangs_top j t r p q = rw (p, q)
 
-pub hangs_referred : (j : Outline) (t r u o : ℕ) → repeated j t ≡ false → table_parent j t ≡ some u → referred j t r u ≡ some o → hangs j t r ≡ some (row_of u o)
+pub hangs_referred : (j : Outline) (t r u o : ℕ) → repeated j t ≡ false → table_parent j t ≡ Some u → referred j t r u ≡ Some o → hangs j t r ≡ Some (row_of u o)
 unfolding hangs
 hangs_referred j t r u o p q e = rw (p, q) (rw e)
 
-pub hangs_lost : (j : Outline) (t r u : ℕ) → repeated j t ≡ false → table_parent j t ≡ some u → referred j t r u ≡ none → hangs j t r ≡ none
+pub hangs_lost : (j : Outline) (t r u : ℕ) → repeated j t ≡ false → table_parent j t ≡ Some u → referred j t r u ≡ None → hangs j t r ≡ None
 unfolding hangs
 hangs_lost j t r u p q e = rw (p, q) (rw e)
 
 -- ---- a row's three numbers
 
-pub record-hooked : (j : Outline) (t r : ℕ) (k : Hook) → repeated j t ≡ true → hook j t r ≡ some k → nest_record j t r ≡ hook_record k
+pub record-hooked : (j : Outline) (t r : ℕ) (k : Hook) → repeated j t ≡ true → hook j t r ≡ Some k → nest_record j t r ≡ hook_record k
 unfolding nest_record
 record-hooked j t r k p e = rw (p, e)
 
-pub record-unhooked : (j : Outline) (t r : ℕ) → repeated j t ≡ true → hook j t r ≡ none → nest_record j t r ≡ loose_record
+pub record-unhooked : (j : Outline) (t r : ℕ) → repeated j t ≡ true → hook j t r ≡ None → nest_record j t r ≡ loose_record
 unfolding nest_record
 record-unhooked j t r p e = rw (p, e)
 
-pub record-top : (j : Outline) (t r : ℕ) → repeated j t ≡ false → table_parent j t ≡ none → nest_record j t r ≡ loose_record
+pub record-top : (j : Outline) (t r : ℕ) → repeated j t ≡ false → table_parent j t ≡ None → nest_record j t r ≡ loose_record
 unfolding nest_record
 record-top j t r p q = rw (p, q)
 
-pub record-referred : (j : Outline) (t r u o : ℕ) → repeated j t ≡ false → table_parent j t ≡ some u → referred j t r u ≡ some o → nest_record j t r ≡ parent_record u o
+pub record-referred : (j : Outline) (t r u o : ℕ) → repeated j t ≡ false → table_parent j t ≡ Some u → referred j t r u ≡ Some o → nest_record j t r ≡ parent_record u o
 unfolding nest_record
 record-referred j t r u o p q e = rw (p, q) (rw e)
 
-pub record-lost : (j : Outline) (t r u : ℕ) → repeated j t ≡ false → table_parent j t ≡ some u → referred j t r u ≡ none → nest_record j t r ≡ loose_record
+pub record-lost : (j : Outline) (t r u : ℕ) → repeated j t ≡ false → table_parent j t ≡ Some u → referred j t r u ≡ None → nest_record j t r ≡ loose_record
 unfolding nest_record
 record-lost j t r u p q e = rw (p, q) (rw e)
 
@@ -115,23 +115,23 @@ unfolding nest_record
 record-three j t r = go (repeated j t)
   where
     hung : (u : ℕ) (x : Option ℕ) → length (on x (parent_record u) loose_record) ≡ 3
-    hung u none = refl
-    hung u (some o) = refl
+    hung u None = refl
+    hung u (Some o) = refl
 
     parented : (x : Option ℕ) → length (on x (λ u. on (referred j t r u) (parent_record u) loose_record) loose_record) ≡ 3
-    parented none = refl
-    parented (some u) = hung u (referred j t r u)
+    parented None = refl
+    parented (Some u) = hung u (referred j t r u)
 
     anchored : (x : Option Hook) → length (on x hook_record loose_record) ≡ 3
-    anchored none = refl
-    anchored (some k) = refl
+    anchored None = refl
+    anchored (Some k) = refl
 
     go : (b : Bool) → length (cond b (on (hook j t r) hook_record loose_record) (on (table_parent j t) (λ u. on (referred j t r u) (parent_record u) loose_record) loose_record)) ≡ 3
     go true = anchored (hook j t r)
     go false = parented (table_parent j t)
 
 -- the first number is the row above plus one, the third its table
-pub record-hangs : (j : Outline) (t r : ℕ) (p : Row) → hangs j t r ≡ some p → (get_or (nest_record j t r) 0 0 ≡ suc p.row) × (get_or (nest_record j t r) 2 0 ≡ p.table)
+pub record-hangs : (j : Outline) (t r : ℕ) (p : Row) → hangs j t r ≡ Some p → (get_or (nest_record j t r) 0 0 ≡ suc p.row) × (get_or (nest_record j t r) 2 0 ≡ p.table)
 unfolding hangs
 record-hangs j t r p e = go (repeated j t) refl
   where
@@ -139,37 +139,37 @@ record-hangs j t r p e = go (repeated j t) refl
     Says = (get_or (nest_record j t r) 0 0 ≡ suc p.row) × (get_or (nest_record j t r) 2 0 ≡ p.table)
 
     by_hook : (x : Option Hook) → hook j t r ≡ x → repeated j t ≡ true → Says
-    by_hook none q f = absurd (none-ne-some p (rw (f, q) at e))
-    by_hook (some k) q f = let z : row_of k.table k.row ≡ p = some-injective (row_of k.table k.row) p (rw (f, q) at e) in rw (record-hooked j t r k f q, ← z) (refl, refl)
+    by_hook None q f = absurd (none-some p (rw (f, q) at e))
+    by_hook (Some k) q f = let z : row_of k.table k.row ≡ p = same_Some (row_of k.table k.row) p (rw (f, q) at e) in rw (record-hooked j t r k f q, ← z) (refl, refl)
 
-    by_row : (u : ℕ) (x : Option ℕ) → referred j t r u ≡ x → table_parent j t ≡ some u → repeated j t ≡ false → Says
-    by_row u none q g f = absurd (none-ne-some p (rw q at (rw (f, g) at e)))
-    by_row u (some o) q g f = let z : row_of u o ≡ p = some-injective (row_of u o) p (rw q at (rw (f, g) at e)) in rw (record-referred j t r u o f g q, ← z) (refl, refl)
+    by_row : (u : ℕ) (x : Option ℕ) → referred j t r u ≡ x → table_parent j t ≡ Some u → repeated j t ≡ false → Says
+    by_row u None q g f = absurd (none-some p (rw q at (rw (f, g) at e)))
+    by_row u (Some o) q g f = let z : row_of u o ≡ p = same_Some (row_of u o) p (rw q at (rw (f, g) at e)) in rw (record-referred j t r u o f g q, ← z) (refl, refl)
 
     by_parent : (x : Option ℕ) → table_parent j t ≡ x → repeated j t ≡ false → Says
-    by_parent none g f = absurd (none-ne-some p (rw (f, g) at e))
-    by_parent (some u) g f = by_row u (referred j t r u) refl g f
+    by_parent None g f = absurd (none-some p (rw (f, g) at e))
+    by_parent (Some u) g f = by_row u (referred j t r u) refl g f
 
     go : (b : Bool) → repeated j t ≡ b → Says
     go true f = by_hook (hook j t r) refl f
     go false f = by_parent (table_parent j t) refl f
 
 -- and all three are 0 where it hangs on none
-pub record-loose : (j : Outline) (t r : ℕ) → hangs j t r ≡ none → nest_record j t r ≡ loose_record
+pub record-loose : (j : Outline) (t r : ℕ) → hangs j t r ≡ None → nest_record j t r ≡ loose_record
 unfolding hangs
 record-loose j t r e = go (repeated j t) refl
   where
     by_hook : (x : Option Hook) → hook j t r ≡ x → repeated j t ≡ true → nest_record j t r ≡ loose_record
-    by_hook none q f = record-unhooked j t r f q
-    by_hook (some k) q f = absurd (none-ne-some (row_of k.table k.row) (sym (rw (f, q) at e)))
+    by_hook None q f = record-unhooked j t r f q
+    by_hook (Some k) q f = absurd (none-some (row_of k.table k.row) (sym (rw (f, q) at e)))
 
-    by_row : (u : ℕ) (x : Option ℕ) → referred j t r u ≡ x → table_parent j t ≡ some u → repeated j t ≡ false → nest_record j t r ≡ loose_record
-    by_row u none q g f = record-lost j t r u f g q
-    by_row u (some o) q g f = absurd (none-ne-some (row_of u o) (sym (rw q at (rw (f, g) at e))))
+    by_row : (u : ℕ) (x : Option ℕ) → referred j t r u ≡ x → table_parent j t ≡ Some u → repeated j t ≡ false → nest_record j t r ≡ loose_record
+    by_row u None q g f = record-lost j t r u f g q
+    by_row u (Some o) q g f = absurd (none-some (row_of u o) (sym (rw q at (rw (f, g) at e))))
 
     by_parent : (x : Option ℕ) → table_parent j t ≡ x → repeated j t ≡ false → nest_record j t r ≡ loose_record
-    by_parent none g f = record-top j t r f g
-    by_parent (some u) g f = by_row u (referred j t r u) refl g f
+    by_parent None g f = record-top j t r f g
+    by_parent (Some u) g f = by_row u (referred j t r u) refl g f
 
     go : (b : Bool) → repeated j t ≡ b → nest_record j t r ≡ loose_record
     go true f = by_hook (hook j t r) refl f
@@ -279,20 +279,20 @@ array_at j t r i h k s =
 -- ---- what the numbers say: the tests of `held` and `repeat_rows`
 
 -- row p of its parent holds it exactly where its first number is p plus one
-pub holds : (j : Outline) (t r u p : ℕ) → repeated j t ≡ false → table_parent j t ≡ some u → is (referred j t r u) p ≡ eqb (get_or (nest_record j t r) 0 0) (suc p)
+pub holds : (j : Outline) (t r u p : ℕ) → repeated j t ≡ false → table_parent j t ≡ Some u → is (referred j t r u) p ≡ eqb (get_or (nest_record j t r) 0 0) (suc p)
 holds j t r u p f q = go (referred j t r u) refl
   where
     go : (x : Option ℕ) → referred j t r u ≡ x → is (referred j t r u) p ≡ eqb (get_or (nest_record j t r) 0 0) (suc p)
-    go none e = rw (record-lost j t r u f q e, e) (sym (ne_eqb 0 (suc p) (λ z. omega (arith, z))))
-    go (some o) e = rw (record-referred j t r u o f q e, e) (same p o)
+    go None e = rw (record-lost j t r u f q e, e) (sym (ne_eqb 0 (suc p) (λ z. omega (arith, z))))
+    go (Some o) e = rw (record-referred j t r u o f q e, e) (same p o)
 
 -- the instance of loop l that row p opens takes a repeat row exactly where its first two numbers are p plus one and l
 pub takes : (j : Outline) (t r l p : ℕ) → repeated j t ≡ true → hooked (hook j t r) l p ≡ eqb (get_or (nest_record j t r) 0 0) (suc p) && eqb (get_or (nest_record j t r) 1 0) l
 takes j t r l p f = go (hook j t r) refl
   where
     go : (x : Option Hook) → hook j t r ≡ x → hooked (hook j t r) l p ≡ eqb (get_or (nest_record j t r) 0 0) (suc p) && eqb (get_or (nest_record j t r) 1 0) l
-    go none e = rw (record-unhooked j t r f e, e) (sym (ap (λ b. b && eqb 0 l) (ne_eqb 0 (suc p) (λ z. omega (arith, z)))))
-    go (some k) e = rw (record-hooked j t r k f e, e) (both (eqb l k.loop) (eqb p k.row) (eqb (suc k.row) (suc p)) (eqb k.loop l) (turn l k.loop) (same p k.row))
+    go None e = rw (record-unhooked j t r f e, e) (sym (ap (λ b. b && eqb 0 l) (ne_eqb 0 (suc p) (λ z. omega (arith, z)))))
+    go (Some k) e = rw (record-hooked j t r k f e, e) (both (eqb l k.loop) (eqb p k.row) (eqb (suc k.row) (suc p)) (eqb k.loop l) (turn l k.loop) (same p k.row))
       where
         both : (a b c d : Bool) → a ≡ d → b ≡ c → a && b ≡ c && d
         both true true c d x y = rw (← x, ← y)

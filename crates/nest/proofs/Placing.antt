@@ -1,46 +1,37 @@
 -- The ways through the search for the row that a row hangs on, and through the rows of all tables.
 use Prim.Native.Nat.{ℕ, zero, suc, ◌+◌, ◌-◌, ◌*◌, ◌≤◌, ◌<◌}
-use mathlib.Core.Path.{◌≡◌, refl, sym, ap, ap₂, ◌∙◌}
-use mathlib.Core.Bool.{Bool, true, false, cond, ◌&&◌}
-use mathlib.Core.List.{List, [], ◌∷◌, ◌++◌}
-use mathlib.Core.Option.{Option, none, some, map}
+use mathlib.Core.Path.{◌≡◌, refl, sym, ap, ◌∙◌}
+use mathlib.Core.Bool.{Bool, true, false, ◌&&◌}
+use mathlib.Core.List.{List, [], ◌∷◌}
 use native.Mathlib.Omega.{arith}
 use native.Mathlib.Numerals.{add-one}
-use lib.ListN.{length, get_or, take, length-append, get_or-eq_default}
+use Rattle.std.specs.Option.{option_map}
+use lib.ListN.{length, get_or, length-append, get_or-eq_default}
 use lib.Seq.{sets, length-sets}
 use lib.Dec.{ltb}
-use borrow.Author.Tests.{ltb-true, ltb-false, lt-ltb, le-ltb}
+use borrow.Author.Tests.{ltb-false}
 use Rattle.codec.specs.Rows.{sets_append}
 use Rattle.format.specs.Spec as S
 use Rattle.format.specs.Data.{TableData, no_table_data}
 use Rattle.format.specs.Job.{Job}
-use Rattle.format.specs.Sections.{job_of}
 use Rattle.format.specs.Refusal.{rows_of_all}
 use Rattle.format.specs.Ask as A
 use Rattle.tables.specs.Parts as T
-use Rattle.spec.specs.Answers.{number_of}
-use Rattle.spec.specs.declared.ids.Number.{Number as Numbered}
-use Rattle.spec.specs.declared.ids.Number.TheVariants as number
 use Rattle.spec.specs.declared.ids.RowId.{RowId}
-use Rattle.spec.specs.declared.ids.LoopId.{LoopId}
 use Rattle.spec.specs.declared.ids.TableId.{TableId}
-use Rattle.nest.specs.declared.Found.{Found}
-use Rattle.nest.specs.declared.Found.TheVariants.{Row, Nothing}
-use Rattle.nest.specs.declared.hang.Anchored.{Anchored}
-use Rattle.nest.specs.declared.hang.Anchored.TheVariants as anchored
+use Rattle.std.specs.Prelude.{Option, Some, None, Result, Ok, Err}
 use Rattle.nest.specs.declared.hang.Claimed.{Claimed}
 use Rattle.nest.specs.declared.hang.Place.{Place}
 use Rattle.nest.specs.Lists.{each, from, up_to}
-use Rattle.nest.specs.Outline.{Outline, table_of, table_parent, row_count, repeated}
-use Rattle.nest.specs.Nest.{Claim, Hook, hook_on, settle, first_row, referred, anchors, claim_in, hook, row_of, hangs, nest_record, table_array, nest_array}
-use Rattle.nest.specs.NestFindings.{last_table}
+use Rattle.nest.specs.Outline.{table_of, table_parent, row_count, repeated}
+use Rattle.nest.specs.Nest.{Claim, hook_on, first_row, referred, anchors, claim_in, hook, nest_record, table_array}
 use Rattle.nest.specs.Found.{found_by}
 use Rattle.nest.specs.Claims.{claim_by, Hung}
-use Rattle.nest.specs.OfJob.{outline_of, table_in}
+use Rattle.nest.specs.OfJob.{outline_of}
 use Rattle.nest.proofs.Scan.{each_next, each_end}
-use Rattle.nest.proofs.NestLaws.{hook_claim, hook_none, hangs_hooked, hangs_unhooked, hangs_top, hangs_referred, hangs_lost, record-hooked, record-unhooked, record-top, record-referred, record-lost, record-three, table_array_all, array_all}
+use Rattle.nest.proofs.NestLaws.{hook_claim, hook_none, hangs_hooked, hangs_unhooked, hangs_top, hangs_referred, hangs_lost, record-hooked, record-unhooked, record-top, record-referred, record-lost, record-three, table_array_all}
 use Rattle.nest.proofs.Hanging.{first_exists, referred_exists}
-use Rattle.nest.proofs.Bridge.{rows_is, table_is, table_count_is, table_parent_is, data-count-is}
+use Rattle.nest.proofs.Bridge.{rows_is, table_is, table_count_is, table_parent_is}
 use Rattle.nest.proofs.Reports.{found_row, found_none}
 
 -- ---- a table of repeat segments
@@ -70,24 +61,24 @@ pub rows_few : (j : Job) (t : ℕ) → rows_of_all j.tables ≤ 4096 → row_cou
 unfolding A.data_of
 rows_few j t h = let e = rows_is j t in let w = rows_within j.tables t in omega (arith, e, w)
 
-pub first_small : (j : Job) (u v : ℕ) (f : Found) (p : RowId) → rows_of_all j.tables ≤ 4096 → f ≡ found_by (first_row (outline_of j) u v) → f ≡ Row p → p.0 < 4096
+pub first_small : (j : Job) (u v : ℕ) (f : Option RowId) (p : RowId) → rows_of_all j.tables ≤ 4096 → f ≡ found_by (first_row (outline_of j) u v) → f ≡ Some p → p.0 < 4096
 first_small j u v f p h e q = let x = first_exists (outline_of j) u v p.0 (found_row _ f p e q) in let y = rows_few j u h in omega (arith, x, y)
 
-pub referred_small : (j : Job) (t r u : ℕ) (f : Found) (p : RowId) → rows_of_all j.tables ≤ 4096 → f ≡ found_by (referred (outline_of j) t r u) → f ≡ Row p → p.0 < 4096
+pub referred_small : (j : Job) (t r u : ℕ) (f : Option RowId) (p : RowId) → rows_of_all j.tables ≤ 4096 → f ≡ found_by (referred (outline_of j) t r u) → f ≡ Some p → p.0 < 4096
 referred_small j t r u f p h e q = let x = referred_exists (outline_of j) t r u p.0 (found_row _ f p e q) in let y = rows_few j u h in omega (arith, x, y)
 
 -- ---- where a row of another table hangs
-module _ (j : Job) (t r : ℕ) (plain : repeated (outline_of j) t ≡ false) (x : Numbered) (e : number_of x ≡ (A.table_of j t).parent) where
-  parent_at : (u : ℕ) → x ≡ number.Is u → table_parent (outline_of j) t ≡ some u
-  parent_at u q = table_parent_is j t ∙ sym e ∙ ap number_of q
+module _ (j : Job) (t r : ℕ) (plain : repeated (outline_of j) t ≡ false) (x : Option ℕ) (e : x ≡ (A.table_of j t).parent) where
+  parent_at : (u : ℕ) → x ≡ Some u → table_parent (outline_of j) t ≡ Some u
+  parent_at u q = table_parent_is j t ∙ sym e ∙ q
 
-  pub hung_top : x ≡ number.None → Hung (outline_of j) t r (record { above = 0; l = record { 0 = 0 }; table = record { 0 = 0 } })
+  pub hung_top : x ≡ None → Hung (outline_of j) t r (record { above = 0; l = record { 0 = 0 }; table = record { 0 = 0 } })
   hung_top q =
-      let p : table_parent (outline_of j) t ≡ none = table_parent_is j t ∙ sym e ∙ ap number_of q in
+      let p : table_parent (outline_of j) t ≡ None = table_parent_is j t ∙ sym e ∙ q in
       record { numbers = sym (record-top (outline_of j) t r plain p); row = sym (hangs_top (outline_of j) t r plain p) }
 
-  module _ (u : ℕ) (q : x ≡ number.Is u) (f : Found) (g : f ≡ found_by (referred (outline_of j) t r u)) where
-    pub hung_parent : (p : RowId) → f ≡ Row p → Hung (outline_of j) t r (record { above = p.0 + 1; l = record { 0 = 0 }; table = record { 0 = u } })
+  module _ (u : ℕ) (q : x ≡ Some u) (f : Option RowId) (g : f ≡ found_by (referred (outline_of j) t r u)) where
+    pub hung_parent : (p : RowId) → f ≡ Some p → Hung (outline_of j) t r (record { above = p.0 + 1; l = record { 0 = 0 }; table = record { 0 = u } })
     hung_parent p z =
         let y = found_row _ f p g z in
         record {
@@ -95,52 +86,52 @@ module _ (j : Job) (t r : ℕ) (plain : repeated (outline_of j) t ≡ false) (x 
           row = rw add-one (sym (hangs_referred (outline_of j) t r u p.0 plain (parent_at u q) y));
         }
 
-    pub hung_lost : f ≡ Nothing → Hung (outline_of j) t r (record { above = 0; l = record { 0 = 0 }; table = record { 0 = 0 } })
+    pub hung_lost : f ≡ None → Hung (outline_of j) t r (record { above = 0; l = record { 0 = 0 }; table = record { 0 = 0 } })
     hung_lost z =
         let y = found_none _ f g z in
         record { numbers = sym (record-lost (outline_of j) t r u plain (parent_at u q) y); row = sym (hangs_lost (outline_of j) t r u plain (parent_at u q) y) }
 
 -- ---- where a repeat row hangs
-abbrev claim_is : Anchored → Option Claim
-claim_is (anchored.Is k) = some (record { loop = k.l.0; table = k.table.0; value = k.value })
-claim_is (anchored.Nothing t) = none
+abbrev claim_is : Result Claimed TableId → Option Claim
+claim_is (Ok k) = Some (record { loop = k.l.0; table = k.table.0; value = k.value })
+claim_is (Err t) = None
 
 claim_is_lem : (x : Option Claim) (last : ℕ) → claim_is (claim_by x last) ≡ x
-claim_is_lem none last = refl
-claim_is_lem (some k) last = refl
+claim_is_lem None last = refl
+claim_is_lem (Some k) last = refl
 
-module _ (j : Job) (t r : ℕ) (again : repeated (outline_of j) t ≡ true) (a : Anchored) (last : ℕ) (e : a ≡ claim_by (claim_in (outline_of j) t r (anchors (outline_of j) t)) last) where
+module _ (j : Job) (t r : ℕ) (again : repeated (outline_of j) t ≡ true) (a : Result Claimed TableId) (last : ℕ) (e : a ≡ claim_by (claim_in (outline_of j) t r (anchors (outline_of j) t)) last) where
   the_claim : claim_in (outline_of j) t r (anchors (outline_of j) t) ≡ claim_is a
   the_claim = sym (claim_is_lem _ last) ∙ ap claim_is (sym e)
 
-  pub claimed_none : (u : TableId) → a ≡ anchored.Nothing u → claim_in (outline_of j) t r (anchors (outline_of j) t) ≡ none
+  pub claimed_none : (u : TableId) → a ≡ Err u → claim_in (outline_of j) t r (anchors (outline_of j) t) ≡ None
   claimed_none u q = the_claim ∙ ap claim_is q
 
-  pub claimed_is : (k : Claimed) → a ≡ anchored.Is k → claim_in (outline_of j) t r (anchors (outline_of j) t) ≡ some (record { loop = k.l.0; table = k.table.0; value = k.value })
+  pub claimed_is : (k : Claimed) → a ≡ Ok k → claim_in (outline_of j) t r (anchors (outline_of j) t) ≡ Some (record { loop = k.l.0; table = k.table.0; value = k.value })
   claimed_is k q = the_claim ∙ ap claim_is q
 
-  pub hung_unclaimed : (u : TableId) → a ≡ anchored.Nothing u → Hung (outline_of j) t r (record { above = 0; l = record { 0 = 0 }; table = record { 0 = 0 } })
+  pub hung_unclaimed : (u : TableId) → a ≡ Err u → Hung (outline_of j) t r (record { above = 0; l = record { 0 = 0 }; table = record { 0 = 0 } })
   hung_unclaimed u q =
       let n = hook_none (outline_of j) t r again (claimed_none u q) in
       record { numbers = sym (record-unhooked (outline_of j) t r again n); row = sym (hangs_unhooked (outline_of j) t r again n) }
 
-  module _ (k : Claimed) (q : a ≡ anchored.Is k) (f : Found) (g : f ≡ found_by (first_row (outline_of j) k.table.0 k.value)) where
+  module _ (k : Claimed) (q : a ≡ Ok k) (f : Option RowId) (g : f ≡ found_by (first_row (outline_of j) k.table.0 k.value)) where
     abbrev the : Claim
     the = record { loop = k.l.0; table = k.table.0; value = k.value }
 
-    claimed : claim_in (outline_of j) t r (anchors (outline_of j) t) ≡ some the
+    claimed : claim_in (outline_of j) t r (anchors (outline_of j) t) ≡ Some the
     claimed = claimed_is k q
 
-    pub hung_hooked : (p : RowId) → f ≡ Row p → Hung (outline_of j) t r (record { above = p.0 + 1; l = k.l; table = k.table })
+    pub hung_hooked : (p : RowId) → f ≡ Some p → Hung (outline_of j) t r (record { above = p.0 + 1; l = k.l; table = k.table })
     hung_hooked p z =
         let y = found_row (first_row (outline_of j) k.table.0 k.value) f p g z in
-        let n : hook (outline_of j) t r ≡ some (record { loop = k.l.0; table = k.table.0; row = p.0 }) = hook_claim (outline_of j) t r the again claimed ∙ ap (map (hook_on the)) y in
+        let n : hook (outline_of j) t r ≡ Some (record { loop = k.l.0; table = k.table.0; row = p.0 }) = hook_claim (outline_of j) t r the again claimed ∙ ap (option_map (hook_on the)) y in
         record { numbers = rw add-one (sym (record-hooked (outline_of j) t r _ again n)); row = rw add-one (sym (hangs_hooked (outline_of j) t r _ again n)) }
 
-    pub hung_unhooked : f ≡ Nothing → Hung (outline_of j) t r (record { above = 0; l = record { 0 = 0 }; table = record { 0 = 0 } })
+    pub hung_unhooked : f ≡ None → Hung (outline_of j) t r (record { above = 0; l = record { 0 = 0 }; table = record { 0 = 0 } })
     hung_unhooked z =
         let y = found_none (first_row (outline_of j) k.table.0 k.value) f g z in
-        let n : hook (outline_of j) t r ≡ none = hook_claim (outline_of j) t r the again claimed ∙ ap (map (hook_on the)) y in
+        let n : hook (outline_of j) t r ≡ None = hook_claim (outline_of j) t r the again claimed ∙ ap (option_map (hook_on the)) y in
         record { numbers = sym (record-unhooked (outline_of j) t r again n); row = sym (hangs_unhooked (outline_of j) t r again n) }
 
 -- ---- pieces of numbers stored one after the other: what is left to store gives the same as the whole

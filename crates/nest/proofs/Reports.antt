@@ -2,18 +2,16 @@
 use Prim.Native.Nat.{ℕ, ◌+◌, ◌≤◌, ◌<◌}
 use mathlib.Core.Path.{◌≡◌, refl, sym, ap, ◌∙◌}
 use mathlib.Core.Bool.{true}
-use mathlib.Core.List.{List, [], ◌∷◌, ◌++◌, append-nil}
-use mathlib.Core.Option.{Option, none, some}
+use mathlib.Core.List.{List, [], ◌∷◌, append-nil}
 use native.Mathlib.Omega.{arith}
-use lib.ListN.{length, take}
+use lib.ListN.{length}
 use Rattle.format.specs.Job.{Job}
 use Rattle.format.specs.Ask as A
 use Rattle.column.specs.Cell.{key_of}
 use Rattle.lent.specs.Fit.{base, wide, more, Noted}
 use Rattle.lent.proofs.Laws.{SoFarAt, stored_none, stored_length, nothing_yet, go_on}
 use Rattle.spec.specs.declared.ids.RowId.{RowId}
-use Rattle.nest.specs.declared.Found.{Found}
-use Rattle.nest.specs.declared.Found.TheVariants.{Row, Nothing}
+use Rattle.std.specs.Prelude.{Option, Some, None}
 use Rattle.nest.specs.Lists.{each, up_to}
 use Rattle.nest.specs.Nest.{has_keys, first_row}
 use Rattle.nest.specs.Finding.{Finding, duplicate, record_of}
@@ -28,18 +26,18 @@ use Rattle.nest.proofs.Bridge.{key_is}
 use Rattle.nest.proofs.Ways.{sought}
 
 -- ---- what an answer stands for
-abbrev pub row_in : Found → Option ℕ
-row_in (Row r) = some r.0
-row_in Nothing = none
+abbrev pub row_in : Option RowId → Option ℕ
+row_in (Some r) = Some r.0
+row_in None = None
 
 row_in_lem : (x : Option ℕ) → row_in (found_by x) ≡ x
-row_in_lem none = refl
-row_in_lem (some r) = refl
+row_in_lem None = refl
+row_in_lem (Some r) = refl
 
-pub found_row : (x : Option ℕ) (f : Found) (r : RowId) → f ≡ found_by x → f ≡ Row r → x ≡ some r.0
+pub found_row : (x : Option ℕ) (f : Option RowId) (r : RowId) → f ≡ found_by x → f ≡ Some r → x ≡ Some r.0
 found_row x f r e q = sym (row_in_lem x) ∙ ap row_in (sym e ∙ q)
 
-pub found_none : (x : Option ℕ) (f : Found) → f ≡ found_by x → f ≡ Nothing → x ≡ none
+pub found_none : (x : Option ℕ) (f : Option RowId) → f ≡ found_by x → f ≡ None → x ≡ None
 found_none x f e q = sym (row_in_lem x) ∙ ap row_in (sym e ∙ q)
 
 -- ---- one finding, or none
@@ -71,20 +69,20 @@ module _ (g : ℕ → List Finding) (n : ℕ) (d₀ : List ℕ) (start : ℕ) wh
   reported_length d at i w = stored_length _ w.so_far.stored
 
 -- ---- duplicate keys
-module _ (j : Job) (t r key : ℕ) (keys : has_keys (outline_of j) t ≡ true) (k : key ≡ key_of (A.data_of j t) r) (f : Found) (e : f ≡ found_by (sought j t key 0)) where
+module _ (j : Job) (t r key : ℕ) (keys : has_keys (outline_of j) t ≡ true) (k : key ≡ key_of (A.data_of j t) r) (f : Option RowId) (e : f ≡ found_by (sought j t key 0)) where
   same_key : (outline_of j).key t r ≡ key
   same_key = key_is j t r ∙ sym k
 
   first_is : first_row (outline_of j) t ((outline_of j).key t r) ≡ sought j t key 0
   first_is = keyed (outline_of j) t _ keys ∙ rw same_key
 
-  pub duplicate_no : f ≡ Nothing → duplicate_at (outline_of j) t r ≡ []
+  pub duplicate_no : f ≡ None → duplicate_at (outline_of j) t r ≡ []
   duplicate_no q = duplicate_none (outline_of j) t r (first_is ∙ found_none _ f e q)
 
-  pub duplicate_own : (o : RowId) → f ≡ Row o → r ≤ o.0 → duplicate_at (outline_of j) t r ≡ []
+  pub duplicate_own : (o : RowId) → f ≡ Some o → r ≤ o.0 → duplicate_at (outline_of j) t r ≡ []
   duplicate_own o q h = duplicate_first (outline_of j) t r o.0 (first_is ∙ found_row _ f o e q) h
 
-  pub duplicate_yes : (o : RowId) → f ≡ Row o → o.0 < r → duplicate_at (outline_of j) t r ≡ duplicate t r key o.0 ∷ []
+  pub duplicate_yes : (o : RowId) → f ≡ Some o → o.0 < r → duplicate_at (outline_of j) t r ≡ duplicate t r key o.0 ∷ []
   duplicate_yes o q h = duplicate_later (outline_of j) t r o.0 (first_is ∙ found_row _ f o e q) h ∙ rw same_key
 
   pub duplicate_words : (o : RowId) → 0 ∷ t ∷ r ∷ key ∷ o.0 ∷ 0 ∷ 0 ∷ 0 ∷ 0 ∷ 0 ∷ [] ≡ record_of (duplicate t r key o.0)

@@ -3,25 +3,25 @@ use Prim.Native.Nat.{ℕ, zero, suc, ◌+◌, ◌≤◌, ◌<◌}
 use mathlib.Core.Path.{◌≡◌, refl, sym, ap, subst, ◌∙◌}
 use mathlib.Core.Bool.{Bool, true, false, cond, false≢true}
 use mathlib.Core.List.{List, []}
-use mathlib.Core.Option.{Option, none, some}
 use native.Mathlib.Omega.{arith}
 use lib.ListN.{length, get_or, set, replicate, length-set, get_or-eq_default}
 use lib.Seq.{get_or-set_same, get_or-set_other}
 use lib.Dec.{eqb, ltb}
 use borrow.Author.Count.{below_more}
-use borrow.Author.Tests.{eq-eqb, ne_eqb, ltb-true, ltb-false}
+use borrow.Author.Tests.{eq-eqb, ne_eqb, ltb-true, ltb-false, lt-ltb}
 use Rattle.format.specs.Job.{Job}
 use Rattle.format.specs.Ask as A
 use Rattle.column.specs.Cell.{key_of}
-use Rattle.nest.specs.declared.Found.{Found}
-use Rattle.nest.specs.declared.Found.TheVariants.{Nothing}
+use Rattle.std.specs.Prelude.{Option, None, Some}
+use Rattle.spec.specs.declared.ids.RowId.{RowId}
 use Rattle.nest.specs.declared.keys.Keys.{Keys}
-use Rattle.nest.specs.declared.keys.Keys.TheVariants.{None, Any, Rising}
+use Rattle.nest.specs.declared.keys.Keys.TheVariants.{None as NoKeys, Any, Rising}
 use Rattle.nest.specs.Lists.{each, keep, first, up_to}
 use Rattle.nest.specs.Outline.{Outline, row_count}
 use Rattle.nest.specs.Nest.{has_keys, first_row}
-use Rattle.nest.specs.NestFindings.{duplicate_at, duplicates}
+use Rattle.nest.specs.NestFindings.{duplicate_at}
 use Rattle.nest.specs.Found.{found_by}
+use Rattle.nest.specs.Seek.{Turns, SplitAt}
 use Rattle.nest.specs.OfJob.{outline_of}
 use Rattle.nest.specs.Keys.{Rises, KeysAre, Keyed, MayRepeat}
 use Rattle.nest.proofs.Scan.{first_here, first_next, first_end, each_next, each_end}
@@ -31,17 +31,17 @@ use Rattle.nest.proofs.Bridge.{key_is, rows_is, data-count-is}
 use Rattle.nest.proofs.Ways.{sought}
 
 -- ---- the first number that passes, by all numbers before it
-pub first_at_lem : (p : ℕ → Bool) (k n : ℕ) → k < n → p k ≡ true → ((i : ℕ) → i < k → p i ≡ false) → first (keep p (up_to 0 n)) ≡ some k
+pub first_at_lem : (p : ℕ → Bool) (k n : ℕ) → k < n → p k ≡ true → ((i : ℕ) → i < k → p i ≡ false) → first (keep p (up_to 0 n)) ≡ Some k
 first_at_lem p k n h e not_so = go k 0 (omega arith)
   where
-    go : (m a : ℕ) → a + m ≡ k → first (keep p (up_to a n)) ≡ some k
+    go : (m a : ℕ) → a + m ≡ k → first (keep p (up_to a n)) ≡ Some k
     go zero a z = let y : a ≡ k = omega (arith, z) in rw y (first_here p k n h e)
     go (suc m) a z = first_next p a n (omega (arith, z)) (not_so a (omega (arith, z))) ∙ go m (a + 1) (omega (arith, z))
 
-pub first_none : (p : ℕ → Bool) (n : ℕ) → ((i : ℕ) → i < n → p i ≡ false) → first (keep p (up_to 0 n)) ≡ none
+pub first_none : (p : ℕ → Bool) (n : ℕ) → ((i : ℕ) → i < n → p i ≡ false) → first (keep p (up_to 0 n)) ≡ None
 first_none p n not_so = go n 0 (omega arith)
   where
-    go : (m a : ℕ) → a + m ≡ n → first (keep p (up_to a n)) ≡ none
+    go : (m a : ℕ) → a + m ≡ n → first (keep p (up_to a n)) ≡ None
     go zero a z = first_end p a n (omega (arith, z))
     go (suc m) a z = first_next p a n (omega (arith, z)) (not_so a (omega (arith, z))) ∙ go m (a + 1) (omega (arith, z))
 
@@ -73,82 +73,68 @@ module _ (j : Job) (u : ℕ) where
   pub climbing_end : (k last n : ℕ) → Climbing (outline_of j) u k last → n ≡ (A.data_of j u).rows → n ≤ k → Rises (outline_of j) u
   climbing_end k last n w c h = record { rise = λ p q s t. w.rise q (omega (arith, t, rows_is j u, c, h)) p s }
 
--- ---- halving: the keys before `low` are below v, those from `high` on above it
-pub record Between (j : Outline) (u v low high : ℕ) : Type 0 where
-  pub below : (p : ℕ) → p < low → j.key u p < v
-  pub above : (p : ℕ) → high ≤ p → p < row_count j u → v < j.key u p
-  pub inside : high ≤ row_count j u
+-- ---- halving
+module _ (j : Job) (u v : ℕ) (r : Rises (outline_of j) u) where
+  abbrev pub lower : ℕ → Bool
+  lower k = ltb ((outline_of j).key u k) v
+
+  pub lower_turns : (n : ℕ) → n ≡ (A.data_of j u).rows → Turns lower n
+  lower_turns n c i k h s e = lt-ltb _ _ (go (ltb i k) refl)
+    where
+      below : (outline_of j).key u k < v
+      below = ltb-true _ _ e
+
+      go : (b : Bool) → ltb i k ≡ b → (outline_of j).key u i < v
+      go true q = omega (arith, below, r.rise i k (ltb-true i k q) (omega (arith, s, c, rows_is j u)))
+      go false q = let y : i ≡ k = omega (arith, h, ltb-false i k q) in rw y below
+
+  pub lower_none : (n at : ℕ) → n ≡ (A.data_of j u).rows → SplitAt lower 0 n at → (at < row_count (outline_of j) u → (outline_of j).key u at ≡ v → ⊥) → found_by None ≡ found_by (sought j u v 0)
+  lower_none n at c w d = ap found_by (sym (first_none (λ p. eqb ((outline_of j).key u p) v) (row_count (outline_of j) u) (λ p k. ne_eqb ((outline_of j).key u p) v (differs p k (ltb p at) refl (ltb at p) refl))))
+    where
+      differs : (p : ℕ) → p < row_count (outline_of j) u → (b : Bool) → ltb p at ≡ b → (b' : Bool) → ltb at p ≡ b' → (outline_of j).key u p ≡ v → ⊥
+      differs p k true q b' q' z = omega (arith, ltb-true _ _ (w.before p (omega arith) (ltb-true p at q)), z)
+      differs p k false q true q' z =
+          let l : at < p = ltb-true at p q' in
+          omega (arith, r.rise at p l k, ltb-false _ _ (w.rest at (omega arith) (omega (arith, l, k, c, rows_is j u))), z)
+      differs p k false q false q' z =
+          let y : p ≡ at = omega (arith, ltb-false p at q, ltb-false at p q') in
+          d (omega (arith, k, y)) (ap (λ (m : ℕ). (outline_of j).key u m) (sym y) ∙ z)
 
 module _ (j : Job) (u v : ℕ) where
-  pub between_all : (n : ℕ) → n ≡ (A.data_of j u).rows → Between (outline_of j) u v 0 n
-  between_all n c = record {
-    below = λ p h. absurd (omega arith);
-    above = λ p h k. absurd (omega (arith, h, k, c, rows_is j u));
-    inside = omega (arith, c, rows_is j u);
-  }
-
-  module _ (low high mid key : ℕ) (r : Rises (outline_of j) u) (w : Between (outline_of j) u v low high) (m : mid < high) (e : key ≡ key_of (A.data_of j u) mid) where
-    same : (outline_of j).key u mid ≡ key
-    same = key_is j u mid ∙ sym e
-
-    before : (p : ℕ) → p < mid → (outline_of j).key u p < key
-    before p h = rw (← same) (r.rise p mid h (omega (arith, m, w.inside)))
-
-    pub between_low : key < v → Between (outline_of j) u v (mid + 1) high
-    between_low h = record {
-      below = below_more (λ p. (outline_of j).key u p < v) mid (λ p s. omega (arith, before p s, h)) (rw same h);
-      above = w.above;
-      inside = w.inside;
-    }
-
-    pub between_high : (key ≡ v → ⊥) → v ≤ key → Between (outline_of j) u v low mid
-    between_high d h = record { below = w.below; above = λ p s k. up p s k (ltb mid p) refl; inside = omega (arith, m, w.inside) }
-      where
-        over : v < key
-        over = omega arith
-
-        up : (p : ℕ) → mid ≤ p → p < row_count (outline_of j) u → (b : Bool) → ltb mid p ≡ b → v < (outline_of j).key u p
-        up p s k true q = omega (arith, over, same, r.rise mid p (ltb-true mid p q) k)
-        up p s k false q = let y : p ≡ mid = omega (arith, s, ltb-false mid p q) in rw (y, same) over
-
-    pub between_here : key ≡ v → found_by (some mid) ≡ found_by (sought j u v 0)
-    between_here q = ap found_by (sym (first_at_lem (λ p. eqb ((outline_of j).key u p) v) mid (row_count (outline_of j) u) (omega (arith, m, w.inside)) (eq-eqb ((outline_of j).key u mid) v (same ∙ q)) (λ p h. ne_eqb ((outline_of j).key u p) v (λ z. omega (arith, before p h, z, q)))))
-
-  pub between_none : (low high : ℕ) → Between (outline_of j) u v low high → high ≤ low → found_by none ≡ found_by (sought j u v 0)
-  between_none low high w h = ap found_by (sym (first_none (λ p. eqb ((outline_of j).key u p) v) (row_count (outline_of j) u) (λ p k. ne_eqb ((outline_of j).key u p) v (differs p k (ltb p low) refl))))
-    where
-      differs : (p : ℕ) → p < row_count (outline_of j) u → (b : Bool) → ltb p low ≡ b → (outline_of j).key u p ≡ v → ⊥
-      differs p k true q z = omega (arith, w.below p (ltb-true p low q), z)
-      differs p k false q z = omega (arith, w.above p (omega (arith, h, ltb-false p low q)) k, z)
-
   -- a row that is looked at first
   pub key_there : (k n key : ℕ) → n ≡ (A.data_of j u).rows → k < n → key ≡ key_of (A.data_of j u) k → key ≡ v → (k < row_count (outline_of j) u) × ((outline_of j).key u k ≡ v)
   key_there k n key c h e q = (omega (arith, c, h, rows_is j u), key_is j u k ∙ sym e ∙ q)
 
-  pub key_here : (k : ℕ) → Rises (outline_of j) u → (k < row_count (outline_of j) u) × ((outline_of j).key u k ≡ v) → found_by (some k) ≡ found_by (sought j u v 0)
-  key_here k r w = between_here 0 (row_count (outline_of j) u) k (key_of (A.data_of j u) k) r (between_all (row_count (outline_of j) u) (rows_is j u)) w.0 refl (sym (key_is j u k) ∙ w.1)
+  pub key_other : (k key : ℕ) → key ≡ key_of (A.data_of j u) k → (key ≡ v → ⊥) → k < row_count (outline_of j) u → (outline_of j).key u k ≡ v → ⊥
+  key_other k key e d h z = d (e ∙ sym (key_is j u k) ∙ z)
+
+  pub key_past : (k n : ℕ) → n ≡ (A.data_of j u).rows → n ≤ k → k < row_count (outline_of j) u → (outline_of j).key u k ≡ v → ⊥
+  key_past k n c h l z = absurd (omega (arith, h, l, c, rows_is j u))
+
+  pub key_here : (k : ℕ) → Rises (outline_of j) u → (k < row_count (outline_of j) u) × ((outline_of j).key u k ≡ v) → found_by (Some k) ≡ found_by (sought j u v 0)
+  key_here k r w = ap found_by (sym (first_at_lem (λ p. eqb ((outline_of j).key u p) v) k (row_count (outline_of j) u) w.0 (eq-eqb ((outline_of j).key u k) v w.1) (λ p h. ne_eqb ((outline_of j).key u p) v (λ z. omega (arith, r.rise p k h w.0, w.1, z)))))
 
 -- ---- what is known of a table's keys
-module _ (j : Outline) (u : ℕ) (ks : List Keys) (k : Keys) (w : Keyed j ks) (e : k ≡ get_or ks u None) where
+module _ (j : Outline) (u : ℕ) (ks : List Keys) (k : Keys) (w : Keyed j ks) (e : k ≡ get_or ks u NoKeys) where
   pub known_are : KeysAre j u k
   known_are = subst (KeysAre j u) (sym e) (w.of u)
 
-  pub known_none : (v : ℕ) → k ≡ None → Nothing ≡ found_by (first_row j u v)
+  pub known_none : (v : ℕ) → k ≡ NoKeys → found_by None ≡ found_by (first_row j u v)
   known_none v q = ap found_by (sym (subst (KeysAre j u) q known_are v))
 
-  pub known_any : (v : ℕ) (f : Found) → k ≡ Any → f ≡ found_by (first (keep (λ p. eqb (j.key u p) v) (up_to 0 (row_count j u)))) → f ≡ found_by (first_row j u v)
+  pub known_any : (v : ℕ) (f : Option RowId) → k ≡ Any → f ≡ found_by (first (keep (λ p. eqb (j.key u p) v) (up_to 0 (row_count j u)))) → f ≡ found_by (first_row j u v)
   known_any v f q h = h ∙ ap found_by (sym (keyed j u v (subst (KeysAre j u) q known_are)))
 
   pub known_rises : k ≡ Rising → Rises j u
   known_rises q = let z : KeysAre j u Rising = subst (KeysAre j u) q known_are in z.1
 
-  pub known_rising : (v : ℕ) (f : Found) → k ≡ Rising → f ≡ found_by (first (keep (λ p. eqb (j.key u p) v) (up_to 0 (row_count j u)))) → f ≡ found_by (first_row j u v)
+  pub known_rising : (v : ℕ) (f : Option RowId) → k ≡ Rising → f ≡ found_by (first (keep (λ p. eqb (j.key u p) v) (up_to 0 (row_count j u)))) → f ≡ found_by (first_row j u v)
   known_rising v f q h = let z : KeysAre j u Rising = subst (KeysAre j u) q known_are in h ∙ ap found_by (sym (keyed j u v z.0))
 
 -- ---- of all tables: of the first n it is, the others are still without
 pub record Marked (j : Outline) (n : ℕ) (ks : List Keys) : Type 0 where
-  pub done : (p : ℕ) → p < n → KeysAre j p (get_or ks p None)
-  pub rest : (p : ℕ) → n ≤ p → get_or ks p None ≡ None
+  pub done : (p : ℕ) → p < n → KeysAre j p (get_or ks p NoKeys)
+  pub rest : (p : ℕ) → n ≤ p → get_or ks p NoKeys ≡ NoKeys
   pub size : length ks ≡ 16
 
 get_d_all : {A : Type 0} (n i : ℕ) (a : A) → get_or (replicate n a) i a ≡ a
@@ -156,23 +142,23 @@ get_d_all zero i a = refl
 get_d_all (suc n) zero a = refl
 get_d_all (suc n) (suc i) a = get_d_all n i a
 
-pub marked_none : (j : Outline) → Marked j 0 (replicate 16 None)
-marked_none j = record { done = λ p h. absurd (omega arith); rest = λ p h. get_d_all 16 p None; size = refl }
+pub marked_none : (j : Outline) → Marked j 0 (replicate 16 NoKeys)
+marked_none j = record { done = λ p h. absurd (omega arith); rest = λ p h. get_d_all 16 p NoKeys; size = refl }
 
 pub marked_next : (j : Outline) (n : ℕ) (ks : List Keys) (k : Keys) → n < 16 → Marked j n ks → KeysAre j n k → Marked j (n + 1) (set ks n k)
 marked_next j n ks k h w s = record {
-  done = below_more (λ p. KeysAre j p (get_or (set ks n k) p None)) n
-      (λ p l. subst (KeysAre j p) (sym (get_or-set_other ks n p k None (λ z. omega (arith, l, z)))) (w.done p l))
-      (subst (KeysAre j n) (sym (get_or-set_same ks n k None (omega (arith, h, w.size)))) s);
-  rest = λ p l. get_or-set_other ks n p k None (λ z. omega (arith, l, z)) ∙ w.rest p (omega arith);
+  done = below_more (λ p. KeysAre j p (get_or (set ks n k) p NoKeys)) n
+      (λ p l. subst (KeysAre j p) (sym (get_or-set_other ks n p k NoKeys (λ z. omega (arith, l, z)))) (w.done p l))
+      (subst (KeysAre j n) (sym (get_or-set_same ks n k NoKeys (omega (arith, h, w.size)))) s);
+  rest = λ p l. get_or-set_other ks n p k NoKeys (λ z. omega (arith, l, z)) ∙ w.rest p (omega arith);
   size = (simp length-set) ∙ w.size;
 }
 
-empty : (j : Outline) (u v : ℕ) → row_count j u ≡ 0 → first_row j u v ≡ none
+empty : (j : Outline) (u v : ℕ) → row_count j u ≡ 0 → first_row j u v ≡ None
 unfolding first_row
 empty j u v e = rw e (go (has_keys j u))
   where
-    go : (b : Bool) → cond {A = Option ℕ} b none none ≡ none
+    go : (b : Bool) → cond {A = Option ℕ} b None None ≡ None
     go true = refl
     go false = refl
 
@@ -183,7 +169,7 @@ no_table_lem j u h = get_or-eq_default j.row_counts 0 h
 pub marked_end : (j : Job) (n m : ℕ) (ks : List Keys) → Marked (outline_of j) n ks → m ≡ length j.tables → m ≤ n → Keyed (outline_of j) ks
 marked_end j n m ks w c h = record { of = λ u. go u (ltb u n) refl }
   where
-    go : (u : ℕ) (b : Bool) → ltb u n ≡ b → KeysAre (outline_of j) u (get_or ks u None)
+    go : (u : ℕ) (b : Bool) → ltb u n ≡ b → KeysAre (outline_of j) u (get_or ks u NoKeys)
     go u true q = w.done u (ltb-true u n q)
     go u false q =
         let l : n ≤ u = ltb-false u n q in
@@ -191,9 +177,9 @@ marked_end j n m ks w c h = record { of = λ u. go u (ltb u n) refl }
 
 -- ---- duplicates
 module _ (j : Outline) (t : ℕ) (k : Keys) (w : KeysAre j t k) where
-  pub may_none : k ≡ None → MayRepeat j t false
+  pub may_none : k ≡ NoKeys → MayRepeat j t false
   may_none q =
-      let e : (v : ℕ) → first_row j t v ≡ none = subst (KeysAre j t) q w in
+      let e : (v : ℕ) → first_row j t v ≡ None = subst (KeysAre j t) q w in
       record { keyed = λ z. absurd (false≢true z); single = λ z. duplicates_all j t ∙ each_none (duplicate_at j t) (row_count j t) (λ r h. duplicate_none j t r (e _)) }
 
   pub may_any : k ≡ Any → MayRepeat j t true
@@ -206,5 +192,5 @@ module _ (j : Outline) (t : ℕ) (k : Keys) (w : KeysAre j t k) where
       risen : KeysAre j t Rising
       risen = subst (KeysAre j t) q w
 
-      own : (r : ℕ) → r < row_count j t → first_row j t (j.key t r) ≡ some r
+      own : (r : ℕ) → r < row_count j t → first_row j t (j.key t r) ≡ Some r
       own r h = keyed j t (j.key t r) risen.0 ∙ first_at_lem (λ p. eqb (j.key t p) (j.key t r)) r (row_count j t) h (eq-eqb (j.key t r) (j.key t r) refl) (λ p s. ne_eqb (j.key t p) (j.key t r) (λ z. omega (arith, risen.1.rise p r s h, z)))

@@ -8,7 +8,7 @@ use native.Mathlib.Decide.{dec_lt}
 use lib.ListN.{length, get_or}
 use lib.Seq.{sets, length-sets}
 use lib.Dec.{ltb}
-use borrow.Author.Tests.{ltb-false, lt-ltb, le-ltb}
+use borrow.Author.Tests.{ltb-true, ltb-false, lt-ltb, le-ltb}
 use Rattle.codec.specs.Rows.{get_d_sets_out, get_d_sets_in}
 use Rattle.format.specs.Job.{Job}
 use Rattle.format.specs.Refusal.{rows_of_all}
@@ -16,8 +16,8 @@ use Rattle.format.specs.Ask as A
 use Rattle.tables.specs.Parts as T
 use Rattle.nest.specs.Lists.{once, each, some_of, from, up_to}
 use Rattle.nest.specs.Outline.{Outline, row_count}
-use Rattle.nest.specs.Nest.{nest_array}
 use Rattle.nest.specs.Found.{nest_at, ArrayIs}
+use Rattle.nest.specs.Seek.{Turns, SplitAt}
 use Rattle.nest.specs.OfJob.{outline_of}
 use Rattle.nest.specs.Rising.{above_of, falls_at, falls, rising_flag, rising_flags, Climbs, Parted}
 use Rattle.nest.proofs.Bridge.{rows_is}
@@ -138,40 +138,16 @@ never_falls o t e i k h l = let z : i + (k - i) ≡ k = omega arith in rw (← z
     go zero s = let z : i + 0 ≡ i = omega arith in rw z (omega arith)
     go (suc m) s = let z : i + suc m ≡ i + m + 1 = omega arith in rw z (omega (arith, go m (omega arith), step (i + m) (omega arith)))
 
--- ---- halving: of the rows from `from` on, those before `low` have numbers below `above`, and those from `high` on have not
+-- ---- halving
+module _ (n : List ℕ) (base rows above : ℕ) where
+  abbrev pub before_at : ℕ → Bool
+  before_at k = ltb (nest_at n base k 0) above
 
-pub record Between (n : List ℕ) (base from rows above low high : ℕ) : Type 0 where
-  pub after : from ≤ low
-  pub order : low ≤ high
-  pub within : high ≤ rows
-  pub below : (r : ℕ) → from ≤ r → r < low → nest_at n base r 0 < above
-  pub rest : (r : ℕ) → high ≤ r → r < rows → above ≤ nest_at n base r 0
+  pub number_first : (k : ℕ) → get_or n ((base + k) * 3) 0 ≡ nest_at n base k 0
+  number_first k = let z : (base + k) * 3 ≡ (base + k) * 3 + 0 = omega arith in ap (λ i. get_or n i 0) z
 
-module _ (n : List ℕ) (base from rows above : ℕ) where
-  pub between_all : from ≤ rows → Between n base from rows above from rows
-  between_all h = record { after = omega arith; order = h; within = omega arith; below = λ r p q. absurd (omega arith); rest = λ r p q. absurd (omega arith) }
+  pub before_turns : Climbs n base rows → Turns before_at rows
+  before_turns u i k h l e = lt-ltb _ _ (omega (arith, u.climb i k h l, ltb-true _ _ e))
 
-  module _ (low high mid i : ℕ) (u : Climbs n base rows) (w : Between n base from rows above low high) (at : i ≡ (base + mid) * 3) (m : mid < high) (l : low ≤ mid) where
-    number : get_or n i 0 ≡ nest_at n base mid 0
-    number = let z : i ≡ (base + mid) * 3 + 0 = omega (arith, at) in ap (λ k. get_or n k 0) z
-
-    pub between_low : get_or n i 0 < above → Between n base from rows above (mid + 1) high
-    between_low h = record {
-      after = omega (arith, w.after);
-      order = omega arith;
-      within = w.within;
-      below = λ r p q. omega (arith, u.climb r mid (omega arith) (omega (arith, w.within)), number, h);
-      rest = w.rest;
-    }
-
-    pub between_high : above ≤ get_or n i 0 → Between n base from rows above low mid
-    between_high h = record {
-      after = w.after;
-      order = l;
-      within = omega (arith, w.within);
-      below = w.below;
-      rest = λ r p q. omega (arith, u.climb mid r p q, number, h);
-    }
-
-  pub parted : (low high : ℕ) → Between n base from rows above low high → high ≤ low → Parted n base from rows above low
-  parted low high w h = record { after = w.after; within = omega (arith, w.order, w.within); below = w.below; rest = λ r p q. w.rest r (omega arith) q }
+  pub parted : (from k : ℕ) → SplitAt before_at from rows k → Parted n base from rows above k
+  parted from k w = record { after = w.after; within = w.within; below = λ r p q. ltb-true _ _ (w.before r p q); rest = λ r p q. ltb-false _ _ (w.rest r p q) }

@@ -1,11 +1,11 @@
 -- The words on lists by position, as a loop takes them: what is left from a place on is the element there, and what is left from the next place on.
 use Prim.Native.Nat.{ℕ, zero, suc, ◌+◌, ◌-◌, ◌≤◌, ◌<◌, max}
 use mathlib.Core.Path.{◌≡◌, refl, sym, ap, ap₂, ◌∙◌}
-use mathlib.Core.Bool.{Bool, true, false, cond, ◌||◌}
+use mathlib.Core.Bool.{Bool, true, false, cond}
 use mathlib.Core.List.{List, [], ◌∷◌, ◌++◌, map, append_assoc}
-use mathlib.Core.Option.{Option, none, some}
 use native.Mathlib.Numerals.{add-one}
 use native.Mathlib.Omega.{arith}
+use Rattle.std.specs.Prelude.{None, Some}
 use lib.ListN.{length, take, drop, get_or, drop_of_length-le}
 use lib.Seq.{drop-cons, take-nil, drop-nil}
 use Rattle.nest.specs.Lists.{each, keep, some_of, first, from, up_to, sum, part}
@@ -95,13 +95,13 @@ keep_cut p a k (suc m) h f =
     ap (λ b. keep p (up_to a b)) z ∙ keep_same p a (k + m) (omega arith) (f (k + m) (omega arith) (omega arith)) ∙ keep_cut p a k m h (λ r q s. f r q (omega arith))
 
 -- the first that passes
-pub first_here : (p : ℕ → Bool) (k n : ℕ) → k < n → p k ≡ true → first (keep p (up_to k n)) ≡ some k
+pub first_here : (p : ℕ → Bool) (k n : ℕ) → k < n → p k ≡ true → first (keep p (up_to k n)) ≡ Some k
 first_here p k n h e = ap first (keep_yes p k n h e)
 
 pub first_next : (p : ℕ → Bool) (k n : ℕ) → k < n → p k ≡ false → first (keep p (up_to k n)) ≡ first (keep p (up_to (k + 1) n))
 first_next p k n h e = ap first (keep_no p k n h e)
 
-pub first_end : (p : ℕ → Bool) (k n : ℕ) → n ≤ k → first (keep p (up_to k n)) ≡ none
+pub first_end : (p : ℕ → Bool) (k n : ℕ) → n ≤ k → first (keep p (up_to k n)) ≡ None
 first_end p k n h = ap first (keep_end p k n h)
 
 -- whether one passes

@@ -1,19 +1,19 @@
 -- How many findings nest reports at most: one a row for its key, and for the row itself one or as many as its parent's table has ancestors.
 use Prim.Native.Nat.{ℕ, zero, suc, ◌+◌, ◌-◌, ◌*◌, ◌≤◌, ◌<◌}
-use mathlib.Core.Path.{◌≡◌, refl, sym, ap, ◌∙◌}
+use mathlib.Core.Path.{◌≡◌, ap}
 use mathlib.Core.Bool.{Bool, true, false, cond}
-use mathlib.Core.List.{List, [], ◌∷◌, ◌++◌}
-use mathlib.Core.Option.{Option, none, some}
+use mathlib.Core.List.{List, [], ◌∷◌}
 use native.Mathlib.Nat.{add-mul, mul-le-mul_right}
 use native.Mathlib.Numerals.{add-one}
 use native.Mathlib.Omega.{arith}
 use native.Mathlib.Decide.{dec_lt}
+use Rattle.std.specs.Prelude.{Option, None, Some}
 use lib.ListN.{length, length-append, get_or-eq_default}
 use lib.Dec.{eqb, ltb}
 use Rattle.nest.specs.Lists.{each, on, from, sum}
 use Rattle.nest.specs.Outline.{Outline, table_of, table_parent, row_count, repeated}
 use Rattle.nest.specs.Nest.{Row, first_row, hangs}
-use Rattle.nest.specs.Finding.{Finding, duplicate, missing, mismatch}
+use Rattle.nest.specs.Finding.{duplicate, missing, mismatch}
 use Rattle.nest.specs.NestFindings.{duplicate_at, duplicates, differing, contradiction_at, contradictions, missing_anchor, missing_at, row_findings, table_findings, nest_findings}
 use Rattle.nest.proofs.NestLaws.{length_each, rows_before, before_none, before_next}
 
@@ -63,8 +63,8 @@ module _ (j : Outline) where
       earlier f false = omega arith
 
       go : (x : Option ℕ) → length (on x (λ f. cond (ltb f r) (duplicate t r (j.key t r) f ∷ []) []) []) ≤ 1
-      go none = omega arith
-      go (some f) = earlier f (ltb f r)
+      go None = omega arith
+      go (Some f) = earlier f (ltb f r)
 
   contradiction_most : (t r : ℕ) (p : Row) (a : ℕ) → length (contradiction_at j t r p a) ≤ 1
   unfolding contradiction_at
@@ -75,17 +75,17 @@ module _ (j : Outline) where
       unlike v e false = omega arith
 
       go : (x y : Option ℕ) → length (differing x y (λ v e. mismatch t r a v p.table p.row e ∷ [])) ≤ 1
-      go none y = omega arith
-      go (some v) none = omega arith
-      go (some v) (some e) = unlike v e (eqb v e)
+      go None y = omega arith
+      go (Some v) None = omega arith
+      go (Some v) (Some e) = unlike v e (eqb v e)
 
   missing_most : (t r : ℕ) → length (missing_at j t r) ≤ 1
   unfolding missing_at
   missing_most t r = go (repeated j t)
     where
       parented : (x : Option ℕ) → length (on x (λ u. missing t r u (j.reference t u r) ∷ []) []) ≤ 1
-      parented none = omega arith
-      parented (some u) = omega arith
+      parented None = omega arith
+      parented (Some u) = omega arith
 
       go : (b : Bool) → length (cond b (missing_anchor j t r ∷ []) (on (table_parent j t) (λ u. missing t r u (j.reference t u r) ∷ []) [])) ≤ 1
       go true = omega arith
@@ -97,8 +97,8 @@ module _ (j : Outline) where
     row_most t r = go (hangs j t r)
       where
         go : (x : Option Row) → length (on x (contradictions j t r) (missing_at j t r)) ≤ suc A
-        go none = omega (arith, missing_most t r)
-        go (some p) =
+        go None = omega (arith, missing_most t r)
+        go (Some p) =
             omega (
               arith,
               length_each (contradiction_at j t r p) (table_of j p.table).ancestors,

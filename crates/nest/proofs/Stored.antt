@@ -1,12 +1,12 @@
 -- A lent list that holds nest's numbers says where each row hangs, and so what is found of it.
-use Prim.Native.Nat.{ℕ, zero, suc, ◌+◌, ◌-◌, ◌*◌, ◌≤◌, ◌<◌}
+use Prim.Native.Nat.{ℕ, zero, suc, ◌+◌, ◌*◌, ◌≤◌, ◌<◌}
 use mathlib.Core.Path.{◌≡◌, refl, sym, ap, ap₂, ◌∙◌}
 use mathlib.Core.List.{List, [], ◌∷◌, ◌++◌, map}
-use mathlib.Core.Option
-use mathlib.Core.Option.{Option, none, some, some-injective, none-ne-some}
 use native.Mathlib.Omega.{arith}
 use native.Mathlib.Decide.{dec_lt}
 use native.Mathlib.Numerals.{add-one}
+use Rattle.std.proofs.lemmas.Option.{same_Some, none-some}
+use Rattle.std.specs.Option.{option_map}
 use lib.ListN.{length, get_or, drop, get_or-append}
 use lib.Seq.{sets, sets-eq, length-sets}
 use Rattle.format.specs.Data.{TableData}
@@ -17,8 +17,7 @@ use Rattle.tables.specs.Parts as T
 use Rattle.nest.specs.Lists.{from, sum}
 use Rattle.nest.specs.Outline.{Outline, row_count}
 use Rattle.nest.specs.Nest.{Row, row_of, hangs, nest_record, nest_array}
-use Rattle.nest.specs.declared.Found.{Found}
-use Rattle.nest.specs.declared.Found.TheVariants as found
+use Rattle.std.specs.Prelude.{Option, Some, None}
 use Rattle.spec.specs.declared.ids.RowId.{RowId}
 use Rattle.spec.specs.declared.ids.TableId.{TableId}
 use Rattle.nest.specs.Found.{row_place, nest_at, row_above, ArrayIs}
@@ -109,27 +108,27 @@ module _ (j : Job) (n : List ℕ) (w : ArrayIs (outline_of j) n) (t r base : ℕ
   number_of_lem i k = rw (e ∙ before_is j t) (number_in (outline_of j) n w t r i h k)
 
   abbrev Above : Option Row → Type 0
-  Above x = row_place (nest_at n base r 0) ≡ Option.map (λ (p : Row). p.row) x
+  Above x = row_place (nest_at n base r 0) ≡ option_map (λ (p : Row). p.row) x
 
   above_of : (x : Option Row) → hangs (outline_of j) t r ≡ x → Above x
-  above_of none q = ap row_place (number_of_lem 0 (omega arith) ∙ ap (λ (xs : List ℕ). get_or xs 0 0) (record-loose (outline_of j) t r q))
-  above_of (some p) q = ap row_place (number_of_lem 0 (omega arith) ∙ (record-hangs (outline_of j) t r p q).0)
+  above_of None q = ap row_place (number_of_lem 0 (omega arith) ∙ ap (λ (xs : List ℕ). get_or xs 0 0) (record-loose (outline_of j) t r q))
+  above_of (Some p) q = ap row_place (number_of_lem 0 (omega arith) ∙ (record-hangs (outline_of j) t r p q).0)
 
-  module _ (f : Found) (g : f ≡ row_above n base r) where
-    pub row_placed_lem : (p : RowId) (u : TableId) → f ≡ found.Row p → u.0 ≡ nest_at n base r 2 → row_findings (outline_of j) t r ≡ contradictions (outline_of j) t r (row_of u.0 p.0)
+  module _ (f : Option RowId) (g : f ≡ row_above n base r) where
+    pub row_placed_lem : (p : RowId) (u : TableId) → f ≡ Some p → u.0 ≡ nest_at n base r 2 → row_findings (outline_of j) t r ≡ contradictions (outline_of j) t r (row_of u.0 p.0)
     unfolding row_above
     row_placed_lem p u z y = go (hangs (outline_of j) t r) refl
       where
         go : (x : Option Row) → hangs (outline_of j) t r ≡ x → row_findings (outline_of j) t r ≡ contradictions (outline_of j) t r (row_of u.0 p.0)
-        go none q = absurd (none-ne-some p.0 (sym (above_of none q) ∙ found_row _ f p g z))
-        go (some a) q =
+        go None q = absurd (none-some p.0 (sym (above_of None q) ∙ found_row _ f p g z))
+        go (Some a) q =
             row_hangs (outline_of j) t r a q
-            ∙ ap₂ (λ v o. contradictions (outline_of j) t r (row_of v o)) (sym (y ∙ number_of_lem 2 (omega arith) ∙ (record-hangs (outline_of j) t r a q).1)) (some-injective a.row p.0 (sym (above_of (some a) q) ∙ found_row _ f p g z))
+            ∙ ap₂ (λ v o. contradictions (outline_of j) t r (row_of v o)) (sym (y ∙ number_of_lem 2 (omega arith) ∙ (record-hangs (outline_of j) t r a q).1)) (same_Some a.row p.0 (sym (above_of (Some a) q) ∙ found_row _ f p g z))
 
-    pub row_unplaced : f ≡ found.Nothing → row_findings (outline_of j) t r ≡ missing_at (outline_of j) t r
+    pub row_unplaced : f ≡ None → row_findings (outline_of j) t r ≡ missing_at (outline_of j) t r
     unfolding row_above
     row_unplaced z = go (hangs (outline_of j) t r) refl
       where
         go : (x : Option Row) → hangs (outline_of j) t r ≡ x → row_findings (outline_of j) t r ≡ missing_at (outline_of j) t r
-        go none q = row_loose (outline_of j) t r q
-        go (some a) q = absurd (none-ne-some a.row (sym (found_none _ f g z) ∙ above_of (some a) q))
+        go None q = row_loose (outline_of j) t r q
+        go (Some a) q = absurd (none-some a.row (sym (found_none _ f g z) ∙ above_of (Some a) q))

@@ -1,6 +1,5 @@
 -- Findings, and each as a flat record of ten numbers (write/finding.rs; the values and their order are those of document 01's listing).
-use Rattle.std.specs.Prelude.{ℕ, suc, ◌+◌, ◌*◌, ◌≤◌, ◌<◌, List, [], ◌∷◌}
-use Rattle.std.proofs.Math.Option.{Option, none, some}
+use Rattle.std.specs.Prelude.{ℕ, suc, ◌+◌, ◌*◌, ◌<◌, List, [], ◌∷◌, Option, None, Some}
 use Rattle.nest.specs.Lists.{on, All}
 
 -- where a text comes from: a cell, or a field of the envelope by its case in `Field`
@@ -40,8 +39,8 @@ of_text kind (cell t r c) p a b = kind ∷ 0 ∷ t ∷ r ∷ c ∷ number_from 0
 of_text kind (field f) p a b = kind ∷ 1 ∷ f ∷ 0 ∷ 0 ∷ number_from 0 p.identifier ∷ p.element ∷ or_zero p.component ∷ a ∷ b ∷ []
 
 abbrev pub of_value : ℕ → ℕ → ℕ → Option ℕ → List ℕ
-of_value t r u none = 1 ∷ t ∷ r ∷ u ∷ 0 ∷ 0 ∷ 0 ∷ 0 ∷ 0 ∷ 0 ∷ []
-of_value t r u (some v) = 1 ∷ t ∷ r ∷ u ∷ 1 ∷ v ∷ 0 ∷ 0 ∷ 0 ∷ 0 ∷ []
+of_value t r u None = 1 ∷ t ∷ r ∷ u ∷ 0 ∷ 0 ∷ 0 ∷ 0 ∷ 0 ∷ 0 ∷ []
+of_value t r u (Some v) = 1 ∷ t ∷ r ∷ u ∷ 1 ∷ v ∷ 0 ∷ 0 ∷ 0 ∷ 0 ∷ []
 
 unfoldable pub record_of : Finding → List ℕ
 record_of (duplicate t r k f) = 0 ∷ t ∷ r ∷ k ∷ f ∷ 0 ∷ 0 ∷ 0 ∷ 0 ∷ 0 ∷ []

@@ -1,27 +1,24 @@
 -- A row that may be there, as an answer of code; and the rows that hang on a row, by nest's numbers.
-use Rattle.std.specs.Prelude.{ℕ, zero, suc, ◌+◌, ◌*◌, ◌≤◌, ◌<◌, ◌≡◌, Bool, ◌&&◌, List, length, get_or, eqb}
-use Rattle.std.proofs.Math.Option.{Option, none, some}
+use Rattle.std.specs.Prelude.{ℕ, zero, suc, ◌+◌, ◌*◌, ◌≤◌, ◌<◌, ◌≡◌, Bool, ◌&&◌, List, length, get_or, eqb, Option, Some, None}
 use Rattle.spec.specs.declared.ids.RowId.{RowId}
 use Rattle.nest.specs.Outline.{Outline}
 use Rattle.nest.specs.Nest.{nest_array}
-use Rattle.nest.specs.declared.Found.{Found}
-use Rattle.nest.specs.declared.Found.TheVariants.{Row, Nothing}
 
-abbrev pub found_by : Option ℕ → Found
-found_by none = Nothing
-found_by (some r) = Row (record { 0 = r })
+abbrev pub found_by : Option ℕ → Option RowId
+found_by None = None
+found_by (Some r) = Some (record { 0 = r })
 
 -- a row plus one, or 0
 abbrev pub row_place : ℕ → Option ℕ
-row_place zero = none
-row_place (suc r) = some r
+row_place zero = None
+row_place (suc r) = Some r
 
 -- number i of row r of a table whose rows start at `base`
 abbrev pub nest_at : List ℕ → ℕ → ℕ → ℕ → ℕ
 nest_at nest base r i = get_or nest ((base + r) * 3 + i) 0
 
 -- the row that it hangs on
-unfoldable pub row_above : List ℕ → ℕ → ℕ → Found
+unfoldable pub row_above : List ℕ → ℕ → ℕ → Option RowId
 row_above nest base r = found_by (row_place (nest_at nest base r 0))
 
 -- whether it hangs on row p of its parent

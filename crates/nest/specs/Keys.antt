@@ -1,8 +1,7 @@
 -- What is known of the keys of tables and of the depths of loops, told once for all rows.
-use Rattle.std.specs.Prelude.{ℕ, ◌+◌, ◌≤◌, ◌<◌, ◌≡◌, Bool, true, false, List, [], ◌∷◌, drop, get_or}
-use Rattle.std.proofs.Math.Option.{none}
+use Rattle.std.specs.Prelude.{ℕ, ◌+◌, ◌≤◌, ◌<◌, ◌≡◌, Bool, true, false, List, [], ◌∷◌, drop, get_or, None}
 use Rattle.nest.specs.declared.keys.Keys.{Keys}
-use Rattle.nest.specs.declared.keys.Keys.TheVariants.{None, Any, Rising}
+use Rattle.nest.specs.declared.keys.Keys.TheVariants.{None as NoKeys, Any, Rising}
 use Rattle.nest.specs.declared.hang.AnchorLoop.{AnchorLoop}
 use Rattle.nest.specs.declared.hang.Line.{Line}
 use Rattle.nest.specs.Outline.{Outline, table_of, row_count}
@@ -15,13 +14,13 @@ pub record Rises (j : Outline) (u : ℕ) : Type 0 where
 
 -- no row is found by a key; u has keys; u has keys that rise
 abbrev pub KeysAre : Outline → ℕ → Keys → Type 0
-KeysAre j u None = (v : ℕ) → first_row j u v ≡ none
+KeysAre j u NoKeys = (v : ℕ) → first_row j u v ≡ None
 KeysAre j u Any = has_keys j u ≡ true
 KeysAre j u Rising = (has_keys j u ≡ true) × Rises j u
 
 -- of all tables, those past the list too
 pub record Keyed (j : Outline) (ks : List Keys) : Type 0 where
-  pub of : (u : ℕ) → KeysAre j u (get_or ks u None)
+  pub of : (u : ℕ) → KeysAre j u (get_or ks u NoKeys)
 
 -- where two rows of t may have one key it has keys; else it has no duplicates
 pub record MayRepeat (j : Outline) (t : ℕ) (r : Bool) : Type 0 where
@@ -42,8 +41,8 @@ anchor_of a = record { loop = a.l.0; table = a.table.0 }
 abbrev pub no_anchor : AnchorLoop
 no_anchor = record { l = record { 0 = 0 }; table = record { 0 = 0 } }
 
--- the anchors of table t one after the other, if they are whole
+-- the anchors of table t one after the other
 pub record Lined (j : Outline) (t : ℕ) (s : Line) : Type 0 where
-  pub few : s.whole ≡ true → s.n ≤ 8
-  pub next : s.whole ≡ true → (k : ℕ) → k < s.n → drop k (anchors j t) ≡ anchor_of (get_or s.anchors k no_anchor) ∷ drop (k + 1) (anchors j t)
-  pub all : s.whole ≡ true → drop s.n (anchors j t) ≡ []
+  pub few : s.n ≤ 8
+  pub next : (k : ℕ) → k < s.n → drop k (anchors j t) ≡ anchor_of (get_or s.anchors k no_anchor) ∷ drop (k + 1) (anchors j t)
+  pub all : drop s.n (anchors j t) ≡ []

@@ -4,6 +4,7 @@ pub mod Nest
 pub mod Finding
 pub mod NestFindings
 pub mod Found
+pub mod Seek
 pub mod OfJob
 pub mod Ready
 pub mod Claims

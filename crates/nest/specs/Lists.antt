@@ -1,6 +1,5 @@
 -- Small words on lists, numbers and tests that the definitions below share.
-use Rattle.std.specs.Prelude.{ℕ, zero, suc, ◌+◌, ◌-◌, Bool, true, false, cond, ◌||◌, List, [], ◌∷◌, ◌++◌, take, drop, eqb}
-use Rattle.std.proofs.Math.Option.{Option, none, some}
+use Rattle.std.specs.Prelude.{ℕ, zero, suc, ◌+◌, ◌-◌, Bool, true, false, cond, ◌||◌, List, [], ◌∷◌, ◌++◌, take, drop, eqb, Option, None, Some}
 
 -- a test as a number: 1 where it passes
 abbrev pub once : Bool → ℕ
@@ -28,12 +27,12 @@ is_empty_list (x ∷ xs) = false
 
 -- f of what is there, or else d
 abbrev pub on : {A B : Type 0} → Option A → (A → B) → B → B
-on none f d = d
-on (some a) f d = f a
+on None f d = d
+on (Some a) f d = f a
 
 abbrev pub first : {A : Type 0} → List A → Option A
-first [] = none
-first (x ∷ xs) = some x
+first [] = None
+first (x ∷ xs) = Some x
 
 -- n numbers from a on
 abbrev pub from : ℕ → ℕ → List ℕ
@@ -46,8 +45,8 @@ up_to k n = from k (n - k)
 
 -- whether a number is there and is k
 abbrev pub is : Option ℕ → ℕ → Bool
-is none k = false
-is (some n) k = eqb k n
+is None k = false
+is (Some n) k = eqb k n
 
 -- places a up to b of a list
 abbrev pub part : {A : Type 0} → ℕ → ℕ → List A → List A

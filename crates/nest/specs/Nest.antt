@@ -1,7 +1,7 @@
 -- Where each row hangs (write/nest.rs; document 01, "A row hangs on the first row whose key is its reference").
-use Rattle.std.specs.Prelude.{ℕ, zero, suc, ◌≡◌, Bool, true, false, cond, ◌&&◌, ◌||◌, length, eqb, leb}
+use Rattle.std.specs.Prelude.{ℕ, zero, suc, ◌≡◌, Bool, true, false, cond, ◌&&◌, ◌||◌, length, eqb, leb, Option, None, Some}
 use mathlib.Core.List.{List, [], ◌∷◌, foldr}
-use Rattle.std.proofs.Math.Option.{Option, none, some, map}
+use Rattle.std.specs.Option.{option_map}
 use Rattle.nest.specs.Lists.{keep, each, some_of, first, on, from, is}
 use Rattle.nest.specs.Outline.{Outline, Table, Kind, row_table, table_of, kind_of, parent_of, table_parent, row_count, repeated}
 
@@ -13,11 +13,11 @@ has_keys j u = some_of (λ (d : Table). some_of (eqb u) d.ancestors) j.tables
 
 -- the first row of u with this key
 unfoldable pub first_row : Outline → ℕ → ℕ → Option ℕ
-first_row j u v = cond (has_keys j u) (first (keep (λ p. eqb (j.key u p) v) (from 0 (row_count j u)))) none
+first_row j u v = cond (has_keys j u) (first (keep (λ p. eqb (j.key u p) v) (from 0 (row_count j u)))) None
 
 -- the row of u that row r of t refers to
 unfoldable pub referred : Outline → ℕ → ℕ → ℕ → Option ℕ
-referred j t r u = on (j.reference t u r) (first_row j u) none
+referred j t r u = on (j.reference t u r) (first_row j u) None
 
 -- ---- the anchors of a repeat table
 
@@ -58,8 +58,8 @@ claim_on a v = record { loop = a.loop; table = a.table; value = v }
 
 -- the first of these anchors whose reference is present, whether or not a row has that key
 unfoldable pub claim_in : Outline → ℕ → ℕ → List Anchor → Option Claim
-claim_in j t r [] = none
-claim_in j t r (a ∷ more) = on (j.reference t a.table r) (λ v. some (claim_on a v)) (claim_in j t r more)
+claim_in j t r [] = None
+claim_in j t r (a ∷ more) = on (j.reference t a.table r) (λ v. Some (claim_on a v)) (claim_in j t r more)
 
 -- the anchor loop that nest picks for a repeat row, and the row of its table
 pub record Hook : Type 0 where
@@ -71,11 +71,11 @@ abbrev pub hook_on : Claim → ℕ → Hook
 hook_on k p = record { loop = k.loop; table = k.table; row = p }
 
 abbrev pub settle : Outline → Claim → Option Hook
-settle j k = map (hook_on k) (first_row j k.table k.value)
+settle j k = option_map (hook_on k) (first_row j k.table k.value)
 
 -- a repeat row's place; other rows have none
 unfoldable pub hook : Outline → ℕ → ℕ → Option Hook
-hook j t r = cond (repeated j t) (on (claim_in j t r (anchors j t)) (settle j) none) none
+hook j t r = cond (repeated j t) (on (claim_in j t r (anchors j t)) (settle j) None) None
 
 -- a row of a table
 pub record Row : Type 0 where
@@ -87,7 +87,7 @@ row_of u p = record { table = u; row = p }
 
 -- the row that row r of t hangs on
 unfoldable pub hangs : Outline → ℕ → ℕ → Option Row
-hangs j t r = cond (repeated j t) (map (λ k. row_of k.table k.row) (hook j t r)) (on (table_parent j t) (λ u. map (row_of u) (referred j t r u)) none)
+hangs j t r = cond (repeated j t) (option_map (λ k. row_of k.table k.row) (hook j t r)) (on (table_parent j t) (λ u. option_map (row_of u) (referred j t r u)) None)
 
 -- a row of a repeat table, or of a table with a parent, must hang on one
 unfoldable pub needs_parent : Outline → ℕ → Bool
@@ -96,12 +96,12 @@ needs_parent j t = repeated j t || on (table_parent j t) (λ u. true) false
 -- "lacks its parent exactly when it hangs on none; no other row lacks one"
 pub record Lacks (j : Outline) (t r : ℕ) : Type 0 where
   pub needs : needs_parent j t ≡ true
-  pub none_there : hangs j t r ≡ none
+  pub none_there : hangs j t r ≡ None
 
 -- it, or a row above it, lacks its parent
 pub data Adrift (j : Outline) : ℕ → ℕ → Type 0 where
   it : {t r : ℕ} → Lacks j t r → Adrift j t r
-  above : {t r : ℕ} {a : Row} → hangs j t r ≡ some a → Adrift j a.table a.row → Adrift j t r
+  above : {t r : ℕ} {a : Row} → hangs j t r ≡ Some a → Adrift j a.table a.row → Adrift j t r
 
 -- ---- the rows that a row holds, in order
 

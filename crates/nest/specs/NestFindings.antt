@@ -1,6 +1,5 @@
 -- What nest reports (write/nest.rs; document 01: "duplicate keys come first, table by table; then each row in table order").
-use Rattle.std.specs.Prelude.{ℕ, ◌<◌, ◌≡◌, cond, ◌&&◌, List, [], ◌∷◌, ◌++◌, length, eqb, ltb}
-use Rattle.std.proofs.Math.Option.{Option, none, some}
+use Rattle.std.specs.Prelude.{ℕ, ◌<◌, ◌≡◌, cond, ◌&&◌, List, [], ◌∷◌, ◌++◌, length, eqb, ltb, Option, None, Some}
 use Rattle.nest.specs.Lists.{once, each, on, from, sum}
 use Rattle.nest.specs.Outline.{Outline, table_of, table_parent, row_count, repeated}
 use Rattle.nest.specs.Nest.{Anchor, Row, Lacks, first_row, anchors, claim_in, hangs}
@@ -37,7 +36,7 @@ last_table t (a ∷ more) = last_table a.table more
 
 -- a repeat row names the anchor that it goes by and its reference; where it has none the last anchor tried. Its table's parent isn't used
 abbrev pub missing_anchor : Outline → ℕ → ℕ → Finding
-missing_anchor j t r = on (claim_in j t r (anchors j t)) (λ k. missing t r k.table (some k.value)) (missing t r (last_table t (anchors j t)) none)
+missing_anchor j t r = on (claim_in j t r (anchors j t)) (λ k. missing t r k.table (Some k.value)) (missing t r (last_table t (anchors j t)) None)
 
 unfoldable pub missing_at : Outline → ℕ → ℕ → List Finding
 missing_at j t r = cond (repeated j t) (missing_anchor j t r ∷ []) (on (table_parent j t) (λ u. missing t r u (j.reference t u r) ∷ []) [])

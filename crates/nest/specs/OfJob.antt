@@ -1,6 +1,5 @@
 -- The outline of a job: what nesting and walking look at, read off its sections. Cells are looked at through the functions alone.
-use Rattle.std.specs.Prelude.{ℕ, Bool, true, false, not, ◌&&◌, List, [], ◌∷◌, map, length}
-use Rattle.std.proofs.Math.Option.{Option, none, some}
+use Rattle.std.specs.Prelude.{ℕ, Bool, true, false, not, ◌&&◌, List, [], ◌∷◌, map, length, Option}
 use Rattle.format.specs.Spec as S
 use Rattle.format.specs.Plan as P
 use Rattle.format.specs.Layout as L

@@ -1,7 +1,6 @@
 -- A job's outline: the job as far as nesting and walking look at it (document 01, "The job"). What depends on cells is a function here:
 -- the job gives it from its columns.
-use Rattle.std.specs.Prelude.{ℕ, Bool, false, ◌&&◌, not, List, [], ◌∷◌, length, get_or, ltb}
-use Rattle.std.proofs.Math.Option.{Option, none, some}
+use Rattle.std.specs.Prelude.{ℕ, Bool, false, ◌&&◌, not, List, [], ◌∷◌, length, get_or, ltb, Option, None, Some}
 
 -- spec/loops.rs
 pub record Loop : Type 0 where
@@ -26,21 +25,21 @@ pub data Kind : Type 0 where
 
 -- the table whose rows a `Rows` loop enters
 abbrev pub row_table : Kind → Option ℕ
-row_table absent = none
-row_table envelope = none
-row_table implied = none
-row_table (rows t) = some t
-row_table (inside t) = none
-row_table (groups t) = none
+row_table absent = None
+row_table envelope = None
+row_table implied = None
+row_table (rows t) = Some t
+row_table (inside t) = None
+row_table (groups t) = None
 
 -- the table whose row an `Inside` loop stands in
 abbrev pub inside_table : Kind → Option ℕ
-inside_table absent = none
-inside_table envelope = none
-inside_table implied = none
-inside_table (rows t) = none
-inside_table (inside t) = some t
-inside_table (groups t) = none
+inside_table absent = None
+inside_table envelope = None
+inside_table implied = None
+inside_table (rows t) = None
+inside_table (inside t) = Some t
+inside_table (groups t) = None
 
 -- write/plan.rs, `SegmentSource`
 pub data Source : Type 0 where
@@ -49,9 +48,9 @@ pub data Source : Type 0 where
 
 -- the table whose row a `Row` segment writes
 abbrev pub source_table : Source → Option ℕ
-source_table of_envelope = none
-source_table (of_row t) = some t
-source_table (of_repeat t) = none
+source_table of_envelope = None
+source_table (of_row t) = Some t
+source_table (of_repeat t) = None
 
 pub record Planned : Type 0 where
   pub occurrence : ℕ
@@ -82,10 +81,10 @@ pub record Outline : Type 0 where
 
 -- Reading a list at a number that it lacks gives what the Rust does there: nothing.
 abbrev pub no_loop : Loop
-no_loop = record { parent = none; children = []; occurrences = 0; required = false; ends = false; controlled = false }
+no_loop = record { parent = None; children = []; occurrences = 0; required = false; ends = false; controlled = false }
 
 abbrev pub no_table : Table
-no_table = record { loops = []; repeats = false; parent = none; ancestors = [] }
+no_table = record { loops = []; repeats = false; parent = None; ancestors = [] }
 
 abbrev pub no_plan : Plan
 no_plan = record { instances = absent; segments = [] }

@@ -8,7 +8,6 @@ ghost use Rattle.nest.specs.NestFindings.{duplicate_at, duplicates};
 ghost use Rattle.nest.specs.Keys.{Keyed};
 ghost use Rattle.nest.specs.Ready.{Ready, outline_at, words};
 
-use crate::Found;
 use crate::keys::{Keys, first_with, may_repeat};
 use spec::ids::{RowId, TableId};
 
@@ -27,7 +26,7 @@ pub fn duplicate_at(
     let key = tables::data::key(job, index, t, r);
     let found = first_with(job, index, t, key);
     match found {
-        Found::Row(f) => {
+        Some(f) => {
             if f.0 < r.0 {
                 return lent::note_words(
                     findings,
@@ -38,7 +37,7 @@ pub fn duplicate_at(
             }
             return lent::more(at, 0);
         }
-        Found::Nothing => {
+        None => {
             return lent::more(at, 0);
         }
     }
@@ -60,10 +59,8 @@ pub fn table_duplicates(
     let mut next = lent::more(at, 0);
     if doubtful {
         let n = tables::data::row_count(job, index, t);
-        let mut r: u32 = 0;
-        while r < n {
+        for r in 0..n {
             next = duplicate_at(job, index, findings, next, t, RowId(r));
-            r = r + 1;
         }
         return next;
     }
@@ -83,10 +80,8 @@ pub fn all_duplicates(
 {
     let count = tables::data::data_count(job, index);
     let mut next = lent::more(at, 0);
-    let mut t: u32 = 0;
-    while t < count {
+    for t in 0..count {
         next = table_duplicates(job, index, keys, findings, next, TableId(t));
-        t = t + 1;
     }
     next
 }

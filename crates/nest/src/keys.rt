@@ -1,5 +1,5 @@
 // Keys and the rows that they name. Only tables in some ancestor list have keys.
-ghost use Rattle.std.specs.Prelude.{◌≡◌, true, ◌<◌, eqb, get_or};
+ghost use Rattle.std.specs.Prelude.{◌≡◌, true, false, ◌<◌, eqb, get_or};
 ghost use Rattle.nest.specs.Lists.{keep, first, up_to, some_of};
 ghost use Rattle.nest.specs.Outline.{Outline, table_of, row_count};
 ghost use Rattle.nest.specs.Nest.{has_keys, first_row, referred};
@@ -7,8 +7,7 @@ ghost use Rattle.nest.specs.Found.{found_by};
 ghost use Rattle.nest.specs.Keys.{Rises, KeysAre, Keyed, MayRepeat};
 ghost use Rattle.nest.specs.Ready.{Ready, outline_at};
 
-use crate::Found;
-use column::OptInt;
+use crate::seek::{first_row_where, halve};
 use spec::ids::{RowId, TableId};
 
 // What is known of a table's keys: no row is found by one; or its rows are gone through; or its keys rise, and halving finds a row.
@@ -25,13 +24,10 @@ pub fn names(job: &[u8], index: &[u16], d: TableId, u: u32) -> bool
     ensures { result ≡ some_of (eqb u) (table_of (outline_at job.now) d.0).ancestors }
 {
     let n = spec::tables::ancestor_count(job, index, d);
-    let mut k: u32 = 0;
-    while k < n {
-        let a = spec::tables::ancestor(job, index, d, k);
-        if a == u {
+    for k in 0..n {
+        if spec::tables::ancestor(job, index, d, k) == u {
             return true;
         }
-        k = k + 1;
     }
     false
 }
@@ -42,32 +38,25 @@ pub fn has_keys(job: &[u8], index: &[u16], u: TableId) -> bool
     ensures { result ≡ has_keys (outline_at job.now) u.0 }
 {
     let n = spec::tables::table_count(job, index);
-    let mut i: u32 = 0;
-    while i < n {
-        let named = names(job, index, TableId(i), u.0);
-        if named {
+    for i in 0..n {
+        if names(job, index, TableId(i), u.0) {
             return true;
         }
-        i = i + 1;
     }
     false
 }
 
 // The first row of u whose key is v, whether or not u has keys.
-pub fn first_with(job: &[u8], index: &[u16], u: TableId, v: u64) -> Found
+pub fn first_with(job: &[u8], index: &[u16], u: TableId, v: u64) -> Option<RowId>
     requires { Ready job.now index.now }
     ensures { result ≡ found_by (first (keep (λ p. eqb ((outline_at job.now).key u.0 p) v) (up_to 0 (row_count (outline_at job.now) u.0)))) }
 {
     let n = tables::data::row_count(job, index, u);
-    let mut k: u32 = 0;
-    while k < n {
-        let key = tables::data::key(job, index, u, RowId(k));
-        if key == v {
-            return Found::Row(RowId(k));
-        }
-        k = k + 1;
-    }
-    Found::Nothing
+    first_row_where(
+        0,
+        n as usize,
+        |k| tables::data::key(job, index, u, RowId(k as u32)) == v,
+    )
 }
 
 // Whether the keys of u rise from row to row, as unsigned numbers.
@@ -77,14 +66,12 @@ pub fn ascends(job: &[u8], index: &[u16], u: TableId) -> bool
 {
     let n = tables::data::row_count(job, index, u);
     let mut last = tables::data::key(job, index, u, RowId(0));
-    let mut k: u32 = 1;
-    while k < n {
+    for k in 1..n {
         let key = tables::data::key(job, index, u, RowId(k));
         if key <= last {
             return false;
         }
         last = key;
-        k = k + 1;
     }
     true
 }
@@ -112,42 +99,37 @@ pub fn all_keys(job: &[u8], index: &[u16]) -> [Keys; 16]
 {
     let mut keys = [Keys::None; 16];
     let count = tables::data::data_count(job, index);
-    let mut u: u32 = 0;
-    while u < count {
+    for u in 0..count {
         let k = keys_of(job, index, TableId(u));
         let i = u as usize;
         keys[i] = k;
-        u = u + 1;
     }
     keys
 }
 
 // The row of u whose key is v, where the keys of u rise: each turn halves the rows that are left.
-pub fn search(job: &[u8], index: &[u16], u: TableId, v: u64) -> Found
+pub fn search(job: &[u8], index: &[u16], u: TableId, v: u64) -> Option<RowId>
     requires { Ready job.now index.now × Rises (outline_at job.now) u.0 }
     ensures { result ≡ found_by (first (keep (λ p. eqb ((outline_at job.now).key u.0 p) v) (up_to 0 (row_count (outline_at job.now) u.0)))) }
 {
-    let mut low: u32 = 0;
-    let mut high = tables::data::row_count(job, index, u);
-    while low < high {
-        let mid = low + (high - low) / 2;
-        let key = tables::data::key(job, index, u, RowId(mid));
-        if key == v {
-            return Found::Row(RowId(mid));
-        }
-        if key < v {
-            low = mid + 1;
-        } else {
-            high = mid;
-        }
+    let n = tables::data::row_count(job, index, u);
+    let at = halve(
+        0,
+        n as usize,
+        |k| tables::data::key(job, index, u, RowId(k as u32)) < v,
+    );
+    let k = at as u32;
+    if is_key(job, index, u, v, k) {
+        return Some(RowId(k));
     }
-    Found::Nothing
+    None
 }
 
 // Whether u has a row k and v is its key.
 pub fn is_key(job: &[u8], index: &[u16], u: TableId, v: u64, k: u32) -> bool
     requires { Ready job.now index.now }
-    ensures { result ≡ true → (k < row_count (outline_at job.now) u.0) × ((outline_at job.now).key u.0 k ≡ v) }
+    ensures there { result ≡ true → (k < row_count (outline_at job.now) u.0) × ((outline_at job.now).key u.0 k ≡ v) }
+    ensures not_there { result ≡ false → k < row_count (outline_at job.now) u.0 → (outline_at job.now).key u.0 k ≡ v → ⊥ }
 {
     let n = tables::data::row_count(job, index, u);
     if k < n {
@@ -160,19 +142,19 @@ pub fn is_key(job: &[u8], index: &[u16], u: TableId, v: u64, k: u32) -> bool
 }
 
 // The row of u whose key is v, where the keys of u rise: the rows before and at `near` are looked at first.
-pub fn search_near(job: &[u8], index: &[u16], u: TableId, v: u64, near: u32) -> Found
+pub fn search_near(job: &[u8], index: &[u16], u: TableId, v: u64, near: u32) -> Option<RowId>
     requires { Ready job.now index.now × Rises (outline_at job.now) u.0 }
     ensures { result ≡ found_by (first (keep (λ p. eqb ((outline_at job.now).key u.0 p) v) (up_to 0 (row_count (outline_at job.now) u.0)))) }
 {
     if 0 < near {
         let same = is_key(job, index, u, v, near - 1);
         if same {
-            return Found::Row(RowId(near - 1));
+            return Some(RowId(near - 1));
         }
     }
     let next = is_key(job, index, u, v, near);
     if next {
-        return Found::Row(RowId(near));
+        return Some(RowId(near));
     }
     search(job, index, u, v)
 }
@@ -196,13 +178,13 @@ pub fn first_row(
     u: TableId,
     v: u64,
     near: u32,
-) -> Found
+) -> Option<RowId>
     requires { Ready job.now index.now × Keyed (outline_at job.now) keys }
     ensures { result ≡ found_by (first_row (outline_at job.now) u.0 v) }
 {
     let k = known(keys, u);
     match k {
-        Keys::None => Found::Nothing,
+        Keys::None => None,
         Keys::Any => first_with(job, index, u, v),
         Keys::Rising => search_near(job, index, u, v, near),
     }
@@ -217,14 +199,14 @@ pub fn referred(
     r: RowId,
     u: TableId,
     near: u32,
-) -> Found
+) -> Option<RowId>
     requires { Ready job.now index.now × Keyed (outline_at job.now) keys }
     ensures { result ≡ found_by (referred (outline_at job.now) t.0 r.0 u.0) }
 {
     let value = tables::data::reference(job, index, t, u.0, r);
     match value {
-        OptInt::Number(v) => first_row(job, index, keys, u, v, near),
-        OptInt::NoNumber => Found::Nothing,
+        Some(v) => first_row(job, index, keys, u, v, near),
+        None => None,
     }
 }
 

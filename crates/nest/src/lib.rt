@@ -16,6 +16,7 @@ use crate::duplicates::all_duplicates;
 use crate::keys::all_keys;
 use crate::report::all_findings;
 use crate::rows::nest_rows;
+use crate::seek::first_row_where;
 use spec::ids::{LoopId, RowId, TableId};
 
 pub mod duplicates;
@@ -24,13 +25,7 @@ pub mod keys;
 pub mod order;
 pub mod report;
 pub mod rows;
-
-// A row, if there is one.
-#[derive(Clone, Copy)]
-pub enum Found {
-    Row(RowId),
-    Nothing,
-}
+pub mod seek;
 
 // Nest's numbers, three a row: the rows of a table stand from `base` on, the rows of all tables numbered through.
 
@@ -48,16 +43,16 @@ pub fn put_record(nest: &mut [u32], n: usize, above: u32, l: LoopId, t: TableId)
 }
 
 // The row that row r of a table hangs on.
-pub fn row_above(nest: &[u32], base: usize, r: RowId) -> Found
+pub fn row_above(nest: &[u32], base: usize, r: RowId) -> Option<RowId>
     requires { (base + r.0) * 3 < length nest.now }
     ensures { result ≡ row_above nest.now base r.0 }
 {
     let i = (base + r.0 as usize) * 3;
     let p = nest[i];
     if p == 0 {
-        return Found::Nothing;
+        return None;
     }
-    Found::Row(RowId(p - 1))
+    Some(RowId(p - 1))
 }
 
 // The table of that row.
@@ -74,11 +69,7 @@ pub fn held_at(nest: &[u32], base: usize, k: usize, p: RowId) -> bool
     requires { ((base + k) * 3 + 2 < length nest.now) × (p.0 < 4096) }
     ensures { result ≡ held_at nest.now base p.0 k }
 {
-    let i = (base + k) * 3;
-    if nest[i] == p.0 + 1 {
-        return true;
-    }
-    false
+    nest[(base + k) * 3] == p.0 + 1
 }
 
 // Whether row k of a repeat table goes into the instance of loop l that row p opens.
@@ -86,31 +77,15 @@ pub fn hooked_at(nest: &[u32], base: usize, k: usize, l: LoopId, p: RowId) -> bo
     requires { ((base + k) * 3 + 2 < length nest.now) × (p.0 < 4096) }
     ensures { result ≡ hooked_at nest.now base l.0 p.0 k }
 {
-    let held = held_at(nest, base, k, p);
-    if held {
-        let i = (base + k) * 3 + 1;
-        if nest[i] == l.0 {
-            return true;
-        }
-        return false;
-    }
-    false
+    held_at(nest, base, k, p) && nest[(base + k) * 3 + 1] == l.0
 }
 
 // The next of a table's rows, from `from` on, that hang on row p of its parent.
-pub fn next_held(nest: &[u32], base: usize, rows: usize, from: usize, p: RowId) -> Found
+pub fn next_held(nest: &[u32], base: usize, rows: usize, from: usize, p: RowId) -> Option<RowId>
     requires { ((base + rows) * 3 ≤ length nest.now) × (rows ≤ 4096) × (p.0 < 4096) }
     ensures { result ≡ found_by (first (keep (held_at nest.now base p.0) (up_to from rows))) }
 {
-    let mut k = from;
-    while k < rows {
-        let held = held_at(nest, base, k, p);
-        if held {
-            return Found::Row(RowId(k as u32));
-        }
-        k += 1;
-    }
-    Found::Nothing
+    first_row_where(from, rows, |k| held_at(nest, base, k, p))
 }
 
 // The next of a repeat table's rows, from `from` on, that go into the instance of loop l that row p opens.
@@ -121,19 +96,11 @@ pub fn next_hooked(
     from: usize,
     l: LoopId,
     p: RowId,
-) -> Found
+) -> Option<RowId>
     requires { ((base + rows) * 3 ≤ length nest.now) × (rows ≤ 4096) × (p.0 < 4096) }
     ensures { result ≡ found_by (first (keep (hooked_at nest.now base l.0 p.0) (up_to from rows))) }
 {
-    let mut k = from;
-    while k < rows {
-        let hooked = hooked_at(nest, base, k, l, p);
-        if hooked {
-            return Found::Row(RowId(k as u32));
-        }
-        k += 1;
-    }
-    Found::Nothing
+    first_row_where(from, rows, |k| hooked_at(nest, base, k, l, p))
 }
 
 // Where each row hangs, three numbers a row, and what is found of the rows: duplicate keys first, then row by row.

@@ -8,6 +8,7 @@ ghost use Rattle.format.specs.Sections.{job_of};
 ghost use Rattle.nest.specs.Rising.{falls, rising_flags, rises, Climbs, Parted};
 ghost use Rattle.nest.specs.Ready.{Ready, outline_at};
 
+use crate::seek::halve;
 use spec::ids::TableId;
 
 // Whether some row of table t hangs on an earlier row than the row before it.
@@ -17,14 +18,12 @@ pub fn falls(job: &[u8], index: &[u16], nest: &[u32], t: TableId) -> bool
 {
     let base = tables::data::first_row(job, index, t) as usize;
     let rows = tables::data::row_count(job, index, t) as usize;
-    let mut k: usize = 1;
-    while k < rows {
+    for k in 1..rows {
         let i = (base + k) * 3;
         let before = i - 3;
         if nest[i] < nest[before] {
             return true;
         }
-        k = k + 1;
     }
     false
 }
@@ -48,11 +47,9 @@ pub fn mark_rising(job: &[u8], index: &[u16], nest: &mut [u32])
 {
     let count = tables::data::data_count(job, index);
     let flags = nest.len() - 16;
-    let mut t: u32 = 0;
-    while t < count {
+    for t in 0..count {
         let down = falls(job, index, nest, TableId(t));
         put_flag(nest, flags + t as usize, down);
-        t = t + 1;
     }
 }
 
@@ -68,21 +65,10 @@ pub fn rises(nest: &[u32], t: TableId) -> bool
     false
 }
 
-// Where the rows climb: the first from `from` on that hangs on the row `above` less one or on a later row; `rows` where there is none.
+// Where the rows climb: the end of those from `from` on that hang on a row before the row `above` less one. No Option: both callers take it as an end of a range.
 pub fn first_at(nest: &[u32], base: usize, from: usize, rows: usize, above: u32) -> usize
     requires { ((base + rows) * 3 ≤ length nest.now) × (rows ≤ 4096) × (from ≤ rows) × Climbs nest.now base rows }
     ensures { Parted nest.now base from rows above result }
 {
-    let mut low = from;
-    let mut high = rows;
-    while low < high {
-        let mid = low + (high - low) / 2;
-        let i = (base + mid) * 3;
-        if nest[i] < above {
-            low = mid + 1;
-        } else {
-            high = mid;
-        }
-    }
-    low
+    halve(from, rows, |k| nest[(base + k) * 3] < above)
 }

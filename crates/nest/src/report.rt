@@ -11,10 +11,9 @@ ghost use Rattle.nest.specs.Keys.{Deep};
 ghost use Rattle.nest.specs.Found.{ArrayIs};
 ghost use Rattle.nest.specs.Ready.{Ready, outline_at, words};
 
-use crate::hang::{Anchored, all_depths, claim};
-use crate::{Found, row_above, table_above};
-use column::OptInt;
-use spec::ids::{Number, RowId, TableId};
+use crate::hang::{all_depths, claim};
+use crate::{row_above, table_above};
+use spec::ids::{RowId, TableId};
 
 // The finding of ancestor a, if row r of t and the row p of u that it hangs on refer to different rows of it.
 pub fn contradiction_at(
@@ -34,9 +33,9 @@ pub fn contradiction_at(
     let own = tables::data::reference(job, index, t, a, r);
     let above = tables::data::reference(job, index, u, a, p);
     match own {
-        OptInt::Number(v) => {
+        Some(v) => {
             match above {
-                OptInt::Number(w) => {
+                Some(w) => {
                     if v == w {
                         return lent::more(at, 0);
                     }
@@ -49,12 +48,12 @@ pub fn contradiction_at(
                         10,
                     );
                 }
-                OptInt::NoNumber => {
+                None => {
                     return lent::more(at, 0);
                 }
             }
         }
-        OptInt::NoNumber => {
+        None => {
             return lent::more(at, 0);
         }
     }
@@ -76,11 +75,9 @@ pub fn contradictions(
 {
     let count = spec::tables::ancestor_count(job, index, u);
     let mut next = lent::more(at, 0);
-    let mut k: u32 = 0;
-    while k < count {
+    for k in 0..count {
         let a = spec::tables::ancestor(job, index, u, k);
         next = contradiction_at(job, index, findings, next, t, r, u, p, a);
-        k = k + 1;
     }
     next
 }
@@ -100,7 +97,7 @@ pub fn repeat_missing(
 {
     let anchored = claim(job, index, depths, t, r);
     match anchored {
-        Anchored::Is(k) => {
+        Ok(k) => {
             let table = k.table;
             return lent::note_words(
                 findings,
@@ -120,7 +117,7 @@ pub fn repeat_missing(
                 10,
             );
         }
-        Anchored::Nothing(last) => {
+        Err(last) => {
             return lent::note_words(
                 findings,
                 at,
@@ -145,10 +142,10 @@ pub fn parent_missing(
 {
     let parent = spec::tables::table_parent(job, index, t);
     match parent {
-        Number::Is(u) => {
+        Some(u) => {
             let value = tables::data::reference(job, index, t, u, r);
             match value {
-                OptInt::Number(v) => {
+                Some(v) => {
                     return lent::note_words(
                         findings,
                         at,
@@ -156,7 +153,7 @@ pub fn parent_missing(
                         10,
                     );
                 }
-                OptInt::NoNumber => {
+                None => {
                     return lent::note_words(
                         findings,
                         at,
@@ -166,7 +163,7 @@ pub fn parent_missing(
                 }
             }
         }
-        Number::None => {
+        None => {
             return lent::more(at, 0);
         }
     }
@@ -209,11 +206,11 @@ pub fn row_findings(
 {
     let above = row_above(nest, base, r);
     match above {
-        Found::Row(p) => {
+        Some(p) => {
             let table = table_above(nest, base, r);
             return contradictions(job, index, findings, at, t, r, table, p);
         }
-        Found::Nothing => {
+        None => {
             return missing(job, index, findings, at, depths, t, r);
         }
     }
@@ -235,10 +232,8 @@ pub fn table_findings(
     let base = tables::data::first_row(job, index, t) as usize;
     let n = tables::data::row_count(job, index, t);
     let mut next = lent::more(at, 0);
-    let mut r: u32 = 0;
-    while r < n {
+    for r in 0..n {
         next = row_findings(job, index, nest, findings, next, depths, t, base, RowId(r));
-        r = r + 1;
     }
     next
 }
@@ -257,10 +252,8 @@ pub fn all_findings(
     let depths = all_depths(job, index);
     let count = spec::tables::table_count(job, index);
     let mut next = lent::more(at, 0);
-    let mut t: u32 = 0;
-    while t < count {
+    for t in 0..count {
         next = table_findings(job, index, nest, findings, next, depths, TableId(t));
-        t = t + 1;
     }
     next
 }

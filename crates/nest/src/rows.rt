@@ -29,14 +29,12 @@ pub fn nest_table(
     let n = tables::data::row_count(job, index, t);
     let line = line_of(job, index, depths, t);
     let mut near: u32 = 0;
-    let mut r: u32 = 0;
-    while r < n {
+    for r in 0..n {
         let p = place_of(job, index, keys, depths, line, t, RowId(r), near);
         let l = p.l;
         let table = p.table;
         put_record(nest, first as usize + r as usize, p.above, l, table);
         near = p.above;
-        r = r + 1;
     }
 }
 
@@ -48,9 +46,7 @@ pub fn nest_rows(job: &[u8], index: &[u16], nest: &mut [u32])
     let keys = all_keys(job, index);
     let depths = all_depths(job, index);
     let count = tables::data::data_count(job, index);
-    let mut t: u32 = 0;
-    while t < count {
+    for t in 0..count {
         nest_table(job, index, nest, keys, depths, TableId(t));
-        t = t + 1;
     }
 }

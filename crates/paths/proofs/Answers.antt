@@ -1,11 +1,11 @@
 -- The ways through the small questions: tables, kinds, orders, sources, a step upwards, entries.
-use Prim.Native.Nat.{ℕ, zero, suc, ◌-◌, ◌≤◌, ◌<◌}
+use Prim.Native.Nat.{ℕ, zero, suc, ◌+◌, ◌-◌, ◌≤◌, ◌<◌}
 use mathlib.Core.Path.{◌≡◌, refl, sym, ap, ap₂, ◌∙◌}
 use mathlib.Core.Bool.{Bool, true, false, not, ◌&&◌, ◌||◌, true≢false}
 use mathlib.Core.List.{List}
-use mathlib.Core.Option.{Option, none, some}
 use native.Mathlib.Omega.{arith}
 use native.Mathlib.Numerals.{sub-one}
+use Rattle.std.specs.Prelude.{Option, None, Some}
 use lib.ListN.{length, get_or}
 use lib.Dec.{eqb, ltb}
 use borrow.Author.Tests.{lt-ltb, le-ltb, not-true, not-false}
@@ -16,9 +16,6 @@ use Rattle.format.specs.Layout.{segment_item, loop_item}
 use Rattle.format.specs.Job.{Job}
 use Rattle.format.specs.Sections.{job_of}
 use Rattle.format.specs.Ask as A
-use Rattle.spec.specs.Answers.{number_of}
-use Rattle.spec.specs.declared.ids.Number.{Number}
-use Rattle.spec.specs.declared.ids.Number.TheVariants.{None, Is}
 use Rattle.spec.specs.declared.ids.TableId.{TableId}
 use Rattle.plan.specs.Answers.{instances_of, source_of}
 use Rattle.plan.specs.declared.answers.Instances.{Instances}
@@ -30,13 +27,13 @@ use Rattle.nest.specs.Lists.{once, on, is, sum, times}
 use Rattle.nest.specs.Outline.{Outline, Table, Planned, Kind, row_table, loop_of, table_of, kind_of, order_of, segment_of, table_parent, plain, repeated, item_loops, item_segments}
 use Rattle.nest.specs.OfJob.{outline_of, kind_in, source_in}
 use Rattle.nest.proofs.Bridge.{table_is, kind_is, parent_is, planned_is, segment_is, order_is, children_is, occurrences_is, table_parent_is, loops_is}
-use Rattle.walk.specs.Check.{each_below, each_of, rows_of, named, repeat_table, planned, if_there, past, fits}
+use Rattle.walk.specs.Check.{each_below, each_of, how_many, rows_of, named, repeat_table, planned, if_there, past, fits}
 use Rattle.complete.specs.Decides.{Decides}
 use Rattle.paths.specs.Tests.{same_item, segment_below, each_loop, order_right, only_planned, row_fits, row_loops, repeats_in, planned_once, anchors_in, names_plain, segment_ordered, loop_ordered}
 use Rattle.paths.specs.Upward.{outcome}
 use Rattle.paths.specs.declared.up.Up.{Up}
 use Rattle.paths.specs.declared.up.Up.TheVariants.{No, Top, On}
-use Rattle.paths.proofs.Tests.{Counting, count_start, count_done, Summing, sum_done, every, unlike, some_times, each_every, loop_times, segment_times, segments_below}
+use Rattle.paths.proofs.Tests.{Summing, sum_done, every, unlike, some_times, each_every, loop_times, segment_times, segments_below}
 
 -- ---- tests put together
 
@@ -115,27 +112,27 @@ pub planned_in_lem : (j : Job) (l n : ℕ) → n ≡ length (A.plan_of j l).segm
 planned_in_lem j l n e = e ∙ sym (planned_is j l)
 
 -- the table's parent, as its accessor answers
-module _ (j : Job) (t : ℕ) (v : Number) (e : number_of v ≡ (A.table_of j t).parent) where
-  parent_by : (o : Option ℕ) → number_of v ≡ o → table_parent (outline_of j) t ≡ o
+module _ (j : Job) (t : ℕ) (v : Option ℕ) (e : v ≡ (A.table_of j t).parent) where
+  parent_by : (o : Option ℕ) → v ≡ o → table_parent (outline_of j) t ≡ o
   parent_by o q = table_parent_is j t ∙ sym e ∙ q
 
-  pub parent_there : (u : ℕ) (x : Bool) → v ≡ Is u → x ≡ plain (outline_of j) u → x ≡ if_there (table_parent (outline_of j) t) (plain (outline_of j))
-  parent_there u x q p = rw (parent_by (some u) (ap number_of q)) p
+  pub parent_there : (u : ℕ) (x : Bool) → v ≡ Some u → x ≡ plain (outline_of j) u → x ≡ if_there (table_parent (outline_of j) t) (plain (outline_of j))
+  parent_there u x q p = rw (parent_by (Some u) q) p
 
   pub parent_none : v ≡ None → true ≡ if_there (table_parent (outline_of j) t) (plain (outline_of j))
-  parent_none q = rw (parent_by none (ap number_of q))
+  parent_none q = rw (parent_by None q)
 
-  pub parent_same : (u w : ℕ) → v ≡ Is u → eqb w u ≡ is (table_parent (outline_of j) t) w
-  parent_same u w q = rw (parent_by (some u) (ap number_of q))
+  pub parent_same : (u w : ℕ) → v ≡ Some u → eqb w u ≡ is (table_parent (outline_of j) t) w
+  parent_same u w q = rw (parent_by (Some u) q)
 
   pub parent_none_is : (w : ℕ) → v ≡ None → false ≡ is (table_parent (outline_of j) t) w
-  parent_none_is w q = rw (parent_by none (ap number_of q))
+  parent_none_is w q = rw (parent_by None q)
 
-  pub top_no : (u : ℕ) → v ≡ Is u → (h : ℕ) → on (table_parent (outline_of j) t) (λ w. false) true ≡ false
-  top_no u q h = rw (parent_by (some u) (ap number_of q))
+  pub top_no : (u : ℕ) → v ≡ Some u → (h : ℕ) → on (table_parent (outline_of j) t) (λ w. false) true ≡ false
+  top_no u q h = rw (parent_by (Some u) q)
 
   pub top_yes : v ≡ None → (h : ℕ) → on (table_parent (outline_of j) t) (λ w. false) true ≡ true
-  top_yes q h = rw (parent_by none (ap number_of q))
+  top_yes q h = rw (parent_by None q)
 
 -- ---- kinds and sources
 
@@ -154,25 +151,13 @@ rows_at j t l = rows_of t (kind_of j l)
 abbrev pub repeats_at : Outline → ℕ → ℕ → ℕ → Bool
 repeats_at j t l i = is (repeat_table (segment_of j l i).source) t
 
-pub rows_seen : (j : Outline) (t l : ℕ) (k : Kind) (x : ℕ) (m : Bool) → x ≡ once m → m ≡ rows_of t k → k ≡ kind_of j l → x ≡ once (rows_at j t l)
-rows_seen j t l k x m e f g = e ∙ ap once (f ∙ ap (rows_of t) g)
-
-pub rows_done : (j : Outline) (t m seen : ℕ) → Counting (rows_at j t) (length j.loops) m seen → m ≤ 0 → seen ≡ row_loops j t
+pub rows_done : (j : Outline) (t : ℕ) → how_many (length j.loops) (rows_at j t) ≡ row_loops j t
 unfolding row_loops
-rows_done j t m seen d h = count_done (rows_at j t) (length j.loops) m seen d h
+rows_done j t = refl
 
-pub repeats_start : (j : Job) (t l n : ℕ) → n ≡ length (A.plan_of j l).segments → Counting (repeats_at (outline_of j) t l) (planned (outline_of j) l) n 0
-repeats_start j t l n e = count_start (repeats_at (outline_of j) t l) (planned (outline_of j) l) n (planned_in_lem j l n e)
-
-pub planned_few : (b idx : List ℕ) → PlanIndexed b idx → (l : ℕ) → planned (outline_of (job_of b)) l ≤ 32
-planned_few b idx x l = omega (arith, planned_is (job_of b) l, x.few l)
-
-pub repeat_seen : (j : Job) (t l i : ℕ) (s : P.Source) (x : ℕ) (m : Bool) → x ≡ once m → m ≡ is (repeat_table (source_in s)) t → s ≡ (A.planned_of j l i).source → x ≡ once (repeats_at (outline_of j) t l i)
-repeat_seen j t l i s x m e f g = e ∙ ap once (f ∙ ap (λ v. is (repeat_table v) t) (source_in_lem j l i s g))
-
-pub repeats_done : (j : Outline) (t l m seen : ℕ) → Counting (repeats_at j t l) (planned j l) m seen → m ≤ 0 → seen ≡ repeats_in j t l
+pub repeats_done : (j : Outline) (t l : ℕ) → how_many (planned j l) (repeats_at j t l) ≡ repeats_in j t l
 unfolding repeats_in
-repeats_done j t l m seen d h = count_done (repeats_at j t l) (planned j l) m seen d h
+repeats_done j t l = refl
 
 -- ---- children, and loops that a table lists
 
@@ -212,38 +197,38 @@ module _ (j : Job) (l : ℕ) where
 -- ---- upwards
 
 module _ (j : Job) (l w : ℕ) (o : Option ℕ) (e : o ≡ (A.loop_of j l).parent) where
-  pub up_top : (r : Up) → o ≡ none → ((h : ℕ) → on (table_parent (outline_of j) w) (λ u. false) true ≡ outcome (outline_of j) h r) → (h : ℕ) → fits (outline_of j) (suc h) l w ≡ outcome (outline_of j) h r
+  pub up_top : (r : Up) → o ≡ None → ((h : ℕ) → on (table_parent (outline_of j) w) (λ u. false) true ≡ outcome (outline_of j) h r) → (h : ℕ) → fits (outline_of j) (suc h) l w ≡ outcome (outline_of j) h r
   unfolding fits
   up_top r q f h = rw (parent_is j l ∙ sym e ∙ q) (f h)
 
-  pub up_past : (p : ℕ) (r : Up) → o ≡ some p → ((h : ℕ) → past (outline_of j) (fits (outline_of j) h p) w (kind_of (outline_of j) p) ≡ outcome (outline_of j) h r) → (h : ℕ) → fits (outline_of j) (suc h) l w ≡ outcome (outline_of j) h r
+  pub up_past : (p : ℕ) (r : Up) → o ≡ Some p → ((h : ℕ) → past (outline_of j) (fits (outline_of j) h p) w (kind_of (outline_of j) p) ≡ outcome (outline_of j) h r) → (h : ℕ) → fits (outline_of j) (suc h) l w ≡ outcome (outline_of j) h r
   unfolding fits
   up_past p r q f h = rw (parent_is j l ∙ sym e ∙ q) (f h)
 
-pub up_start : (j : Outline) (n l w m : ℕ) → m ≡ n → fits j n l w ≡ fits j m l w
-up_start j n l w m e = ap (λ k. fits j k l w) (sym e)
+pub up_start : (j : Outline) (n l w m : ℕ) → m ≡ n → fits j n l w ≡ fits j (m - 0) l w
+up_start j n l w m e = let z : n ≡ m - 0 = omega (arith, e) in ap (λ k. fits j k l w) z
 
-module _ (j : Outline) (n l w m at last : ℕ) (d : fits j n l w ≡ fits j m at last) where
-  module _ (s : Up) (h : 0 < m) (f : (k : ℕ) → fits j (suc k) at last ≡ outcome j k s) where
-    stepped : fits j n l w ≡ outcome j (m - 1) s
-    stepped = d ∙ go m h
+module _ (j : Outline) (n l w c i at last : ℕ) (d : fits j n l w ≡ fits j (c - i) at last) where
+  module _ (s : Up) (h : i < c) (f : (k : ℕ) → fits j (suc k) at last ≡ outcome j k s) where
+    stepped : fits j n l w ≡ outcome j (c - (i + 1)) s
+    stepped = let z : c - (i + 1) ≡ c - i - 1 = omega arith in rw z (d ∙ go (c - i) (omega arith))
       where
         go : (m : ℕ) → 0 < m → fits j m at last ≡ outcome j (m - 1) s
         go zero h = absurd (omega arith)
         go (suc m) h = rw sub-one (f m)
 
-    pub up_on : (p v : ℕ) → s ≡ On p v → fits j n l w ≡ fits j (m - 1) p v
-    up_on p v e = stepped ∙ ap (outcome j (m - 1)) e
+    pub up_on : (p v : ℕ) → s ≡ On p v → fits j n l w ≡ fits j (c - (i + 1)) p v
+    up_on p v e = stepped ∙ ap (outcome j (c - (i + 1))) e
 
     pub up_yes : s ≡ Top → true ≡ fits j n l w
-    up_yes e = sym (stepped ∙ ap (outcome j (m - 1)) e)
+    up_yes e = sym (stepped ∙ ap (outcome j (c - (i + 1))) e)
 
     pub up_no : s ≡ No → false ≡ fits j n l w
-    up_no e = sym (stepped ∙ ap (outcome j (m - 1)) e)
+    up_no e = sym (stepped ∙ ap (outcome j (c - (i + 1))) e)
 
-  pub up_end : m ≤ 0 → false ≡ fits j n l w
+  pub up_end : c ≤ i → false ≡ fits j n l w
   unfolding fits
-  up_end h = sym (d ∙ go m h)
+  up_end h = sym (d ∙ go (c - i) (omega arith))
     where
       go : (m : ℕ) → m ≤ 0 → fits j m at last ≡ false
       go zero h = refl
@@ -264,16 +249,16 @@ module _ (j : Outline) (t l : ℕ) (k : Kind) (x : Bool) (e : k ≡ kind_of j l)
   once_rows n y c = ap (λ m. eqb m 1) c ∙ go (row_table (kind_of j l)) (sym rows_here ∙ y)
     where
       go : (o : Option ℕ) → on o (λ u. true) false ≡ true → eqb (repeats_in j t l) 1 ≡ if_there o (λ u. eqb (repeats_in j t l) 1)
-      go none q = absurd (true≢false (sym q))
-      go (some u) q = refl
+      go None q = absurd (true≢false (sym q))
+      go (Some u) q = refl
 
   pub once_other : x ≡ false → true ≡ planned_once j t l
   unfolding planned_once
   once_other y = go (row_table (kind_of j l)) (sym rows_here ∙ y)
     where
       go : (o : Option ℕ) → on o (λ u. true) false ≡ false → true ≡ if_there o (λ u. eqb (repeats_in j t l) 1)
-      go none q = refl
-      go (some u) q = absurd (true≢false q)
+      go None q = refl
+      go (Some u) q = absurd (true≢false q)
 
   pub anchors_by : (a b : Bool) → a ≡ repeated j t → b ≡ ltb 0 (times l (table_of j t).loops) → not a ≡ false → not b ≡ false → x ≡ anchors_in j l t
   unfolding anchors_in

@@ -3,8 +3,8 @@ use Prim.Native.Nat.{ℕ, ◌<◌}
 use mathlib.Core.Path.{◌≡◌, refl, ap}
 use mathlib.Core.Bool.{Bool, true, false}
 use mathlib.Core.List.{List}
-use mathlib.Core.Option.{none, some}
 use native.Mathlib.Omega.{arith}
+use Rattle.std.specs.Prelude.{None, Some}
 use lib.ListN.{length, get_or, get_or-eq_default}
 use lib.Dec.{ltb}
 use borrow.Author.Tests.{ltb-true, ltb-false, leb-false}
@@ -16,18 +16,18 @@ use Rattle.format.specs.Refusal.{tangled, tangled_loops, outside_loop, outside_t
 use Rattle.format.specs.Passed.{Passed, few}
 use Rattle.format.specs.Ask as A
 
-pub parent_small : (b : List ℕ) → Passed b → (l p : ℕ) → (A.loop_of (job_of b) l).parent ≡ some p → p < 32
+pub parent_small : (b : List ℕ) → Passed b → (l p : ℕ) → (A.loop_of (job_of b) l).parent ≡ Some p → p < 32
 unfolding A.loop_of tangled tangled_loops outside_loop outside
 parent_small b w l p e = go (ltb l (length (job_of b).spec.loops)) refl e
   where
-    go : (u : Bool) → ltb l (length (job_of b).spec.loops) ≡ u → (get_or (job_of b).spec.loops l S.no_loop).parent ≡ some p → p < 32
+    go : (u : Bool) → ltb l (length (job_of b).spec.loops) ≡ u → (get_or (job_of b).spec.loops l S.no_loop).parent ≡ Some p → p < 32
     go true q i =
         let x = none_in (outside_loop (length (job_of b).spec.loops)) (job_of b).spec.loops (none_of _ _ (none_of _ _ w.forest).0).0 l S.no_loop (ltb-true _ _ q) in
         let y : outside (length (job_of b).spec.loops) p ≡ false = none_some (outside (length (job_of b).spec.loops)) (get_or (job_of b).spec.loops l S.no_loop).parent (none_of _ _ x).0 p i in
         let z : p < length (job_of b).spec.loops = leb-false _ _ y in
         omega (arith, z, (few (job_of b) w.limits).loops)
     go false q i =
-        let z : (get_or (job_of b).spec.loops l S.no_loop).parent ≡ none = ap (λ (s : S.Loop). s.parent) (get_or-eq_default (job_of b).spec.loops S.no_loop {n = l} (ltb-false _ _ q)) in
+        let z : (get_or (job_of b).spec.loops l S.no_loop).parent ≡ None = ap (λ (s : S.Loop). s.parent) (get_or-eq_default (job_of b).spec.loops S.no_loop {n = l} (ltb-false _ _ q)) in
         absurd (let y : ◌≡◌ {A = ℕ} 0 1 = cc in omega arith)
 
 pub table_loop_small : (b : List ℕ) → Passed b → (t k n m : ℕ) → n ≡ length (A.table_of (job_of b) t).loops → k < n → m ≡ get_or (A.table_of (job_of b) t).loops k 0 → m < 32

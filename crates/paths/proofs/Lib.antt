@@ -1,3 +1,4 @@
+pub mod BelowLaws
 pub mod Tests
 pub mod Bridge
 pub mod Answers

@@ -1,10 +1,9 @@
 -- Tests over numbers and lists as loops make them: a law for each way through the loop.
-use Prim.Native.Nat.{ℕ, zero, suc, ◌+◌, ◌-◌, ◌≤◌, ◌<◌}
+use Prim.Native.Nat.{ℕ, ◌+◌, ◌≤◌, ◌<◌}
 use mathlib.Core.Path.{◌≡◌, refl, sym, ap, ◌∙◌}
 use mathlib.Core.Bool.{Bool, true, false, not, ◌&&◌}
 use mathlib.Core.List.{List, [], ◌∷◌, map}
 use native.Mathlib.Omega.{arith}
-use native.Mathlib.Numerals.{sub-one}
 use lib.ListN.{length, get_or, drop, drop_of_length-le}
 use lib.Dec.{eqb, ltb}
 use borrow.Author.Tests.{not-true, not-false, lt-ltb, eq-eqb, ne_eqb}
@@ -13,53 +12,8 @@ use Rattle.nest.specs.Outline as O
 use Rattle.nest.specs.OfJob.{item_in}
 use Rattle.nest.proofs.Scan.{drop_next, sum_at, sum_past}
 use Rattle.format.specs.Layout.{Item, segment_item, loop_item}
-use Rattle.walk.specs.Check.{each_below, each_of, how_many}
+use Rattle.walk.specs.Check.{each_of}
 use Rattle.paths.specs.Tests.{same_item, segment_below}
-
--- ---- a test of all numbers below n, of which m are left
-
-pub record Down (p : ℕ → Bool) (n m : ℕ) : Type 0 where
-  pub few : m ≤ n
-  pub rest : each_below n p ≡ each_below m p
-
-module _ (p : ℕ → Bool) where
-  pub down_start : (n m : ℕ) → m ≡ n → Down p n m
-  down_start n m e = record { few = omega (arith, e); rest = ap (λ k. each_below k p) (sym e) }
-
-  below_step : (m : ℕ) → 0 < m → each_below m p ≡ p (m - 1) && each_below (m - 1) p
-  below_step zero h = absurd (omega arith)
-  below_step (suc m) h = rw sub-one
-
-  pub down_bad : (n m : ℕ) (x : Bool) → Down p n m → 0 < m → x ≡ p (m - 1) → not x ≡ true → false ≡ each_below n p
-  down_bad n m x d h e f = sym (d.rest ∙ below_step m h ∙ ap (λ b. b && each_below (m - 1) p) (sym e ∙ not-true x f))
-
-  pub down_on : (n m : ℕ) (x : Bool) → Down p n m → 0 < m → x ≡ p (m - 1) → not x ≡ false → Down p n (m - 1)
-  down_on n m x d h e f = record { few = omega (arith, d.few); rest = d.rest ∙ below_step m h ∙ ap (λ b. b && each_below (m - 1) p) (sym e ∙ not-false x f) }
-
-  pub down_done : (n m : ℕ) → Down p n m → m ≤ 0 → true ≡ each_below n p
-  down_done n zero d h = sym d.rest
-  down_done n (suc m) d h = absurd (omega arith)
-
--- ---- how many below n pass, of which m are left
-
-pub record Counting (p : ℕ → Bool) (n m seen : ℕ) : Type 0 where
-  pub few : seen + m ≤ n
-  pub rest : seen + how_many m p ≡ how_many n p
-
-module _ (p : ℕ → Bool) where
-  pub count_start : (n m : ℕ) → m ≡ n → Counting p n m 0
-  count_start n m e = record { few = omega (arith, e); rest = omega (arith, ap (λ k. how_many k p) e) }
-
-  many_step : (m : ℕ) → 0 < m → how_many m p ≡ once (p (m - 1)) + how_many (m - 1) p
-  many_step zero h = absurd (omega arith)
-  many_step (suc m) h = rw sub-one
-
-  pub count_on : (n m seen x : ℕ) → Counting p n m seen → 0 < m → x ≡ once (p (m - 1)) → x ≤ 1 → Counting p n (m - 1) (seen + x)
-  count_on n m seen x d h e f = record { few = omega (arith, d.few); rest = omega (arith, d.rest, many_step m h, e) }
-
-  pub count_done : (n m seen : ℕ) → Counting p n m seen → m ≤ 0 → seen ≡ how_many n p
-  count_done n zero seen d h = omega (arith, d.rest)
-  count_done n (suc m) seen d h = absurd (omega arith)
 
 -- ---- a sum over a list, from place i on
 

@@ -13,7 +13,7 @@ use Rattle.walk.specs.Check.{each_below, planned, all_pass, plan_tests}
 use Rattle.walk.proofs.Tests.{both, and_true, below_true, true_below, tests_all, that_is_all, ◌⨾◌, all_tests}
 use Rattle.complete.specs.Decides.{Decides}
 use Rattle.paths.proofs.Answers.{first_no, first_yes, decides_no}
-use Rattle.paths.specs.Tests.{row_loops, repeats_in, each_table, each_loop, one_row_loop, names_plain, condition1, parent_plain, order_right, only_planned, segment_ordered, loop_ordered, condition2, row_fits, condition3, anchors_in, planned_once, repeat_planned, segment_anchored, loop_anchored, condition4}
+use Rattle.paths.specs.Tests.{row_loops, repeats_in, each_table, each_loop, one_row_loop, names_plain, condition1, parent_plain, order_right, only_planned, segment_ordered, loop_ordered, condition2, row_fits, condition3, anchors_in, planned_once, repeat_planned, loop_anchored, condition4}
 use Rattle.paths.specs.Entries.{Entries4, Orders}
 
 -- ---- the ways through the conditions

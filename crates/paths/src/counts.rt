@@ -8,7 +8,7 @@ ghost use Rattle.nest.specs.Ready.{Ready, outline_at};
 ghost use Rattle.walk.specs.Check.{rows_of, named, repeat_table, if_there};
 
 use plan::answers::{Instances, Source};
-use spec::ids::{LoopId, Number, TableId};
+use spec::ids::{LoopId, TableId};
 
 pub fn loops(job: &[u8], index: &[u16]) -> u32
     requires { Ready job.now index.now }
@@ -128,7 +128,7 @@ pub fn parent_plain(job: &[u8], index: &[u16], t: TableId) -> bool
 {
     let parent = spec::tables::table_parent(job, index, t);
     match parent {
-        Number::Is(u) => plain(job, index, TableId(u)),
-        Number::None => true,
+        Some(u) => plain(job, index, TableId(u)),
+        None => true,
     }
 }

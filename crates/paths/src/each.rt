@@ -4,6 +4,7 @@ ghost use Rattle.nest.specs.Ready.{Ready, outline_at};
 ghost use Rattle.walk.specs.Check.{each_below, planned};
 ghost use Rattle.paths.specs.Tests.{each_table, each_loop, one_row_loop, names_plain, parent_plain, segment_ordered, loop_ordered, row_fits, repeat_planned, segment_anchored, loop_anchored};
 
+use crate::below::each;
 use crate::counts::{kind, loops, parent_plain, plain_named, tables};
 use crate::order::{occurs, once_ordered, only_planned, order_loops};
 use crate::repeats::{anchored, one_row_loop, repeat_planned};
@@ -15,15 +16,7 @@ pub fn tables_once(job: &[u8], index: &[u16]) -> bool
     requires { Ready job.now index.now }
     ensures { result ≡ each_table (outline_at job.now) (one_row_loop (outline_at job.now)) }
 {
-    let mut left = tables(job, index);
-    while 0 < left {
-        let right = one_row_loop(job, index, TableId(left - 1));
-        if !right {
-            return false;
-        }
-        left = left - 1;
-    }
-    true
+    each(tables(job, index), |t| one_row_loop(job, index, TableId(t)))
 }
 
 fn loop_plain(job: &[u8], index: &[u16], l: LoopId) -> bool
@@ -39,15 +32,7 @@ pub fn loops_plain(job: &[u8], index: &[u16]) -> bool
     requires { Ready job.now index.now }
     ensures { result ≡ each_loop (outline_at job.now) (names_plain (outline_at job.now)) }
 {
-    let mut left = loops(job, index);
-    while 0 < left {
-        let right = loop_plain(job, index, LoopId(left - 1));
-        if !right {
-            return false;
-        }
-        left = left - 1;
-    }
-    true
+    each(loops(job, index), |l| loop_plain(job, index, LoopId(l)))
 }
 
 // 2: every parent has no repeat segment.
@@ -55,15 +40,7 @@ pub fn parents_plain(job: &[u8], index: &[u16]) -> bool
     requires { Ready job.now index.now }
     ensures { result ≡ each_table (outline_at job.now) (parent_plain (outline_at job.now)) }
 {
-    let mut left = tables(job, index);
-    while 0 < left {
-        let right = parent_plain(job, index, TableId(left - 1));
-        if !right {
-            return false;
-        }
-        left = left - 1;
-    }
-    true
+    each(tables(job, index), |t| parent_plain(job, index, TableId(t)))
 }
 
 fn segment_ordered(job: &[u8], index: &[u16], l: LoopId, i: u32) -> bool
@@ -81,15 +58,10 @@ fn segments_ordered(job: &[u8], index: &[u16], l: LoopId) -> bool
     requires { Ready job.now index.now × (l.0 < 32) }
     ensures { result ≡ each_below (planned (outline_at job.now) l.0) (segment_ordered (outline_at job.now) l.0) }
 {
-    let mut left = plan::planned::planned_count(job, index, l);
-    while 0 < left {
-        let right = segment_ordered(job, index, l, left - 1);
-        if !right {
-            return false;
-        }
-        left = left - 1;
-    }
-    true
+    each(
+        plan::planned::planned_count(job, index, l),
+        |i| segment_ordered(job, index, l, i),
+    )
 }
 
 fn loop_ordered(job: &[u8], index: &[u16], l: LoopId) -> bool
@@ -112,15 +84,7 @@ pub fn loops_ordered(job: &[u8], index: &[u16]) -> bool
     requires { Ready job.now index.now }
     ensures { result ≡ each_loop (outline_at job.now) (loop_ordered (outline_at job.now)) }
 {
-    let mut left = loops(job, index);
-    while 0 < left {
-        let right = loop_ordered(job, index, LoopId(left - 1));
-        if !right {
-            return false;
-        }
-        left = left - 1;
-    }
-    true
+    each(loops(job, index), |l| loop_ordered(job, index, LoopId(l)))
 }
 
 // 3: what stands above every row loop fits its table.
@@ -128,15 +92,7 @@ pub fn loops_fit(job: &[u8], index: &[u16]) -> bool
     requires { Ready job.now index.now }
     ensures { result ≡ each_loop (outline_at job.now) (row_fits (outline_at job.now)) }
 {
-    let mut left = loops(job, index);
-    while 0 < left {
-        let right = row_fits(job, index, LoopId(left - 1));
-        if !right {
-            return false;
-        }
-        left = left - 1;
-    }
-    true
+    each(loops(job, index), |l| row_fits(job, index, LoopId(l)))
 }
 
 // 4: every row loop that anchors a repeat table plans one repeat segment of it.
@@ -144,30 +100,20 @@ pub fn tables_planned(job: &[u8], index: &[u16]) -> bool
     requires { Ready job.now index.now }
     ensures { result ≡ each_table (outline_at job.now) (repeat_planned (outline_at job.now)) }
 {
-    let mut left = tables(job, index);
-    while 0 < left {
-        let right = repeat_planned(job, index, TableId(left - 1));
-        if !right {
-            return false;
-        }
-        left = left - 1;
-    }
-    true
+    each(
+        tables(job, index),
+        |t| repeat_planned(job, index, TableId(t)),
+    )
 }
 
 fn segments_anchored(job: &[u8], index: &[u16], l: LoopId) -> bool
     requires { Ready job.now index.now × (l.0 < 32) }
     ensures { result ≡ loop_anchored (outline_at job.now) l.0 }
 {
-    let mut left = plan::planned::planned_count(job, index, l);
-    while 0 < left {
-        let right = anchored(job, index, l, left - 1);
-        if !right {
-            return false;
-        }
-        left = left - 1;
-    }
-    true
+    each(
+        plan::planned::planned_count(job, index, l),
+        |i| anchored(job, index, l, i),
+    )
 }
 
 // 4: no other repeat segment is planned.
@@ -175,13 +121,8 @@ pub fn loops_anchored(job: &[u8], index: &[u16]) -> bool
     requires { Ready job.now index.now }
     ensures { result ≡ each_loop (outline_at job.now) (loop_anchored (outline_at job.now)) }
 {
-    let mut left = loops(job, index);
-    while 0 < left {
-        let right = segments_anchored(job, index, LoopId(left - 1));
-        if !right {
-            return false;
-        }
-        left = left - 1;
-    }
-    true
+    each(
+        loops(job, index),
+        |l| segments_anchored(job, index, LoopId(l)),
+    )
 }

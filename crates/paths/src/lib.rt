@@ -13,6 +13,7 @@ use crate::each::{
     tables_planned,
 };
 
+pub mod below;
 pub mod counts;
 pub mod each;
 pub mod order;

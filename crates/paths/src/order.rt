@@ -10,6 +10,7 @@ ghost use Rattle.nest.specs.Ready.{Ready, outline_at};
 ghost use Rattle.walk.specs.Check.{each_below, planned};
 ghost use Rattle.paths.specs.Tests.{same_item, segment_below, order_right, only_planned};
 
+use crate::below::each;
 use crate::counts::{loops, once};
 use plan::answers::Item;
 use spec::ids::LoopId;
@@ -51,12 +52,10 @@ fn item_times(job: &[u8], index: &[u16], l: LoopId, x: Item) -> u32
 {
     let n = plan::layout::order_count(job, index, l);
     let mut seen: u32 = 0;
-    let mut i: u32 = 0;
-    while i < n {
+    for i in 0..n {
         let v = plan::layout::item(job, index, l, i);
         let more = same_item(x, v);
         seen = seen + more;
-        i = i + 1;
     }
     seen
 }
@@ -68,12 +67,10 @@ fn child_times(job: &[u8], index: &[u16], l: LoopId, k: u32) -> u32
 {
     let n = spec::loops::child_count(job, index, l);
     let mut seen: u32 = 0;
-    let mut i: u32 = 0;
-    while i < n {
+    for i in 0..n {
         let v = spec::loops::child(job, index, l, i);
         let more = once(v.0 == k);
         seen = seen + more;
-        i = i + 1;
     }
     seen
 }
@@ -92,15 +89,7 @@ pub fn order_loops(job: &[u8], index: &[u16], l: LoopId) -> bool
     requires { Ready job.now index.now × (l.0 < 32) }
     ensures { result ≡ each_below (length (outline_at job.now).loops) (order_right (outline_at job.now) l.0) }
 {
-    let mut left = loops(job, index);
-    while 0 < left {
-        let right = order_right(job, index, l, left - 1);
-        if !right {
-            return false;
-        }
-        left = left - 1;
-    }
-    true
+    each(loops(job, index), |k| order_right(job, index, l, k))
 }
 
 // Whether planned segment i stands once in the order of loop l.
@@ -129,14 +118,12 @@ pub fn only_planned(job: &[u8], index: &[u16], l: LoopId) -> bool
 {
     let most = plan::planned::planned_count(job, index, l);
     let n = plan::layout::order_count(job, index, l);
-    let mut i: u32 = 0;
-    while i < n {
+    for i in 0..n {
         let v = plan::layout::item(job, index, l, i);
         let below = segment_below(v, most);
         if !below {
             return false;
         }
-        i = i + 1;
     }
     true
 }

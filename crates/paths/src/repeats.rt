@@ -1,31 +1,39 @@
 // Row loops and repeat segments (conditions 1 and 4).
 ghost use Rattle.std.specs.Prelude.{◌≡◌, ◌<◌, not, ◌||◌, eqb, ltb};
 ghost use Rattle.plan.specs.Answers.{source_of};
-ghost use Rattle.nest.specs.Lists.{times};
-ghost use Rattle.nest.specs.Outline.{table_of, segment_of, plain as plainIn, repeated as repeatedIn};
+ghost use Rattle.nest.specs.Lists.{is, times};
+ghost use Rattle.nest.specs.Outline.{table_of, kind_of, segment_of, plain as plainIn, repeated as repeatedIn};
 ghost use Rattle.nest.specs.OfJob.{source_in};
 ghost use Rattle.nest.specs.Ready.{Ready, outline_at};
-ghost use Rattle.walk.specs.Check.{each_of, repeat_table, if_there};
+ghost use Rattle.walk.specs.Check.{each_of, rows_of, repeat_table, if_there};
 ghost use Rattle.paths.specs.Tests.{row_loops, repeats_in, anchors_in, planned_once};
 
-use crate::counts::{has_rows, is_repeat, is_rows, kind, loops, once, plain, repeated};
+use crate::below::how_many;
+use crate::counts::{has_rows, is_repeat, is_rows, kind, loops, plain, repeated};
 use plan::answers::Source;
 use spec::ids::{LoopId, TableId};
+
+// Whether loop l is a row loop of table t.
+fn enters_rows(job: &[u8], index: &[u16], l: LoopId, t: TableId) -> bool
+    requires { Ready job.now index.now × (l.0 < 32) }
+    ensures { result ≡ rows_of t.0 (kind_of (outline_at job.now) l.0) }
+{
+    is_rows(kind(job, index, l), t)
+}
+
+// Whether planned segment i of loop l repeats table t.
+fn repeats_table(job: &[u8], index: &[u16], l: LoopId, i: u32, t: TableId) -> bool
+    requires { Ready job.now index.now × (l.0 < 32) }
+    ensures { result ≡ is (repeat_table (segment_of (outline_at job.now) l.0 i).source) t.0 }
+{
+    is_repeat(plan::planned::source(job, index, l, i), t)
+}
 
 fn row_loops(job: &[u8], index: &[u16], t: TableId) -> u32
     requires { Ready job.now index.now }
     ensures { result ≡ row_loops (outline_at job.now) t.0 }
 {
-    let mut left = loops(job, index);
-    let mut seen: u32 = 0;
-    while 0 < left {
-        let k = kind(job, index, LoopId(left - 1));
-        let mine = is_rows(k, t);
-        let more = once(mine);
-        seen = seen + more;
-        left = left - 1;
-    }
-    seen
+    how_many(loops(job, index), |l| enters_rows(job, index, LoopId(l), t))
 }
 
 // Whether a table without repeat segment has one row loop.
@@ -45,16 +53,8 @@ fn repeats_in(job: &[u8], index: &[u16], t: TableId, l: LoopId) -> u32
     requires { Ready job.now index.now × (l.0 < 32) }
     ensures { result ≡ repeats_in (outline_at job.now) t.0 l.0 }
 {
-    let mut left = plan::planned::planned_count(job, index, l);
-    let mut seen: u32 = 0;
-    while 0 < left {
-        let s = plan::planned::source(job, index, l, left - 1);
-        let mine = is_repeat(s, t);
-        let more = once(mine);
-        seen = seen + more;
-        left = left - 1;
-    }
-    seen
+    let n = plan::planned::planned_count(job, index, l);
+    how_many(n, |i| repeats_table(job, index, l, i, t))
 }
 
 // Whether loop l, if it is a row loop, plans one repeat segment of table t.
@@ -76,14 +76,12 @@ fn all_planned(job: &[u8], index: &[u16], t: TableId) -> bool
     ensures { result ≡ each_of (table_of (outline_at job.now) t.0).loops (planned_once (outline_at job.now) t.0) }
 {
     let n = spec::tables::table_loop_count(job, index, t);
-    let mut i: u32 = 0;
-    while i < n {
+    for i in 0..n {
         let l = spec::tables::table_loop(job, index, t, i);
         let right = planned_once(job, index, t, l);
         if !right {
             return false;
         }
-        i = i + 1;
     }
     true
 }
@@ -106,13 +104,11 @@ fn lists(job: &[u8], index: &[u16], l: LoopId, t: TableId) -> bool
     ensures { result ≡ ltb 0 (times l.0 (table_of (outline_at job.now) t.0).loops) }
 {
     let n = spec::tables::table_loop_count(job, index, t);
-    let mut i: u32 = 0;
-    while i < n {
+    for i in 0..n {
         let k = spec::tables::table_loop(job, index, t, i);
         if k.0 == l.0 {
             return true;
         }
-        i = i + 1;
     }
     false
 }

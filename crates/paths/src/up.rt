@@ -11,9 +11,9 @@ ghost use Rattle.paths.specs.Tests.{row_fits};
 
 use crate::counts::{kind, loops};
 use plan::answers::Instances;
-use spec::ids::{LoopId, Number, TableId};
+use spec::ids::{LoopId, TableId};
 
-// What a step upwards gives: an end, or the loop above and the table whose row loop came last.
+// What a step upwards gives: an end, well or not, or the loop above and the table whose row loop came last. Three ways, so neither Option nor Result is plainer.
 #[derive(Clone, Copy)]
 pub enum Up {
     No,
@@ -27,8 +27,8 @@ fn parent_is(job: &[u8], index: &[u16], w: TableId, v: TableId) -> bool
 {
     let parent = spec::tables::table_parent(job, index, w);
     match parent {
-        Number::Is(u) => v.0 == u,
-        Number::None => false,
+        Some(u) => v.0 == u,
+        None => false,
     }
 }
 
@@ -39,8 +39,8 @@ fn top(job: &[u8], index: &[u16], w: TableId) -> Up
 {
     let parent = spec::tables::table_parent(job, index, w);
     match parent {
-        Number::Is(_) => Up::No,
-        Number::None => Up::Top,
+        Some(_) => Up::No,
+        None => Up::Top,
     }
 }
 
@@ -92,8 +92,8 @@ fn step_up(job: &[u8], index: &[u16], l: LoopId, w: TableId) -> Up
 {
     let parent = spec::loops::loop_parent(job, index, l);
     match parent {
-        Number::Is(p) => past_loop(job, index, LoopId(p), w),
-        Number::None => top(job, index, w),
+        Some(p) => past_loop(job, index, LoopId(p), w),
+        None => top(job, index, w),
     }
 }
 
@@ -101,16 +101,14 @@ fn fits(job: &[u8], index: &[u16], l: LoopId, w: TableId) -> bool
     requires { Ready job.now index.now }
     ensures { result ≡ fitsIn (outline_at job.now) (length (outline_at job.now).loops) l.0 w.0 }
 {
-    let mut left = loops(job, index);
+    let n = loops(job, index);
     let mut at = l.0;
     let mut last = w.0;
-    while 0 < left {
-        let s = step_up(job, index, LoopId(at), TableId(last));
-        match s {
+    for _i in 0..n {
+        match step_up(job, index, LoopId(at), TableId(last)) {
             Up::On(p, v) => {
                 at = p;
                 last = v;
-                left = left - 1;
             }
             Up::Top => {
                 return true;

@@ -2,11 +2,11 @@
 use Prim.Native.Nat.{ℕ, suc, ◌*◌, ◌≤◌, ◌<◌}
 use mathlib.Core.Path.{◌≡◌, refl, sym, ap}
 use mathlib.Core.Logic.{◌≢◌, ◌⊎◌, inl, inr}
-use mathlib.Core.List.{List, [], ◌∷◌}
-use mathlib.Core.Option.{Option, none, some}
+use mathlib.Core.List.{List}
 use mathlib.Core.Bool.{Bool, true, false, not}
 use native.Mathlib.Omega.{arith}
 use native.Mathlib.Nat.{le-max_left, zero-mul}
+use Rattle.std.specs.Prelude.{Option, None, Some}
 use lib.Dec.{ltb, eqb}
 use borrow.Author.Tests.{eqb-true, eqb-false, ltb-true, ltb-false}
 use Rattle.codec.specs.Codec.{pick}
@@ -49,14 +49,14 @@ reach_one room h (from_code c) = omega arith
 
 -- ---- plain and component
 rank_same : (o p : Option ℕ) → rank o ≡ rank p → o ≡ p
-rank_same none none h = refl
-rank_same none (some c) h = absurd (omega arith)
-rank_same (some c) none h = absurd (omega arith)
-rank_same (some c) (some d) h = let z : c ≡ d = omega arith in rw z
+rank_same None None h = refl
+rank_same None (Some c) h = absurd (omega arith)
+rank_same (Some c) None h = absurd (omega arith)
+rank_same (Some c) (Some d) h = let z : c ≡ d = omega arith in rw z
 
-rank_plain : (o : Option ℕ) → rank o ≡ 0 → o ≡ none
-rank_plain none h = refl
-rank_plain (some c) h = absurd (omega arith)
+rank_plain : (o : Option ℕ) → rank o ≡ 0 → o ≡ None
+rank_plain None h = refl
+rank_plain (Some c) h = absurd (omega arith)
 
 mixed_right : (x y : Spot) → Refutes (mixed x y) ((x.rank ≡ 0 → y.rank ≡ 0) × (y.rank ≡ 0 → x.rank ≡ 0))
 unfolding mixed
@@ -140,8 +140,8 @@ clash_refuted j s a b = refute_as _ (PairFits j s a b × ((Unmixed j s a b × Un
 
 -- ---- one planned element
 component_refuted : (o : Option ℕ) → Refutes (eqb (rank o) 1) (IfThere (λ c. 1 ≤ c) o)
-component_refuted none = (λ i. tt, λ i. no_way (sym i))
-component_refuted (some c) =
+component_refuted None = (λ i. tt, λ i. no_way (sym i))
+component_refuted (Some c) =
     (λ i. let z : suc c ≢ 1 = eqb-false _ _ i in omega arith, λ i h. let z : suc c ≡ 1 = eqb-true _ _ i in omega arith)
 
 own_refuted : (j : Job) (s : Source) (a : ElementPlan) → Refutes (pick (eqb (step_in j s) 0) (ltb 1 (reach_of (room_in j s) a.value)) false) (OwnApart j s a)

@@ -1,22 +1,20 @@
 -- What stands at a place, read there: values and sources of the plan.
-use Prim.Native.Nat.{ℕ, ◌+◌, ◌<◌, ◌≤◌}
+use Prim.Native.Nat.{ℕ, ◌+◌}
 use mathlib.Core.Path.{◌≡◌, refl, sym, ◌∙◌}
 use mathlib.Core.List.{List, [], ◌∷◌}
-use mathlib.Core.Option.{none, some}
 use mathlib.Core.Bool.{Bool, true, false, not}
 use native.Mathlib.Omega.{arith}
-use lib.ListN.{get_or}
+use Rattle.std.specs.Prelude.{None, Some}
 use lib.Dec.{eqb}
 use borrow.Author.Tests.{eq-eqb, ne_eqb}
 use Rattle.codec.specs.Codec.{le_c, pick}
-use Rattle.codec.specs.Forms.{bytes_c, num_c, opt_c}
-use Rattle.codec.specs.Skip.{skip, count_at, tag_at, Is, skip_le}
+use Rattle.codec.specs.Forms.{num_c, opt_c}
+use Rattle.codec.specs.Skip.{skip, count_at, tag_at, Is}
 use Rattle.codec.specs.Field.{is_in, is_none, is_some}
-use Rattle.codec.specs.Ways.{tag_in, tag_case}
 use Rattle.codec.specs.Limits.{any_of}
 use Rattle.format.specs.Job.{Job}
 use Rattle.format.specs.Plan.{Source, from_envelope, from_row, from_repeat, source_c, from_column, from_group, from_code, value_c, ElementPlan, element_plan_c, SegmentPlan}
-use Rattle.format.specs.Fields.{source_tag, is_from_row, is_from_repeat, value_tag, is_from_group, is_from_code}
+use Rattle.format.specs.Fields.{source_tag, is_from_row, is_from_repeat, value_tag, is_from_group}
 use Rattle.complete.specs.Complete.{step_in}
 use Rattle.segment.specs.Parts.{rank}
 use Rattle.says.specs.Says.{Says, SaysRest, SaysBefore}
@@ -38,14 +36,14 @@ module _ (b : List ℕ) (e at t room : ℕ) (h : t ≡ tag_at b at e) where
 
 module _ (b : List ℕ) (e at t : ℕ) (h : t ≡ tag_at b at e) where
   pub rank_some : (p n : ℕ) → t ≡ 1 → p ≡ skip (le_c 1) b at e → n ≡ count_at b p e → Says (opt_c num_c) b e at rank (n + 1)
-  rank_some p n i j k none u = absurd (omega (arith, is_none num_c b e at u, there b e at t h 1 i (omega arith)))
-  rank_some p n i j k (some v) u =
+  rank_some p n i j k None u = absurd (omega (arith, is_none num_c b e at u, there b e at t h 1 i (omega arith)))
+  rank_some p n i j k (Some v) u =
       let z : n ≡ v = number_is b e n p (at + 1) v k (behind b e at t h 1 i (omega arith) p j) (is_some num_c b e at v u).1 in
       omega arith
 
   pub rank_none : (t ≡ 1 → ⊥) → Says (opt_c num_c) b e at rank 0
-  rank_none i none u = refl
-  rank_none i (some v) u =
+  rank_none i None u = refl
+  rank_none i (Some v) u =
       let m = is_some num_c b e at v u in
       absurd (i (sym (within b e at t h (is_in num_c b e (at + 1) v m.1)) ∙ m.0))
 

@@ -2,9 +2,9 @@
 use Prim.Native.Nat.{ℕ, ◌<◌}
 use mathlib.Core.Path.{◌≡◌, refl, sym, ap, ◌∙◌}
 use mathlib.Core.List.{List, [], ◌∷◌}
-use mathlib.Core.Option.{Option, none, some}
 use mathlib.Core.Bool.{Bool, true, false, not}
 use native.Mathlib.Omega.{arith}
+use Rattle.std.specs.Prelude.{Option, None, Some}
 use lib.ListN.{length}
 use lib.Dec.{eqb}
 use borrow.Author.Tests.{eq-eqb, ne_eqb}
@@ -22,15 +22,10 @@ use Rattle.format.specs.Fields.{source_tag}
 use Rattle.format.specs.Job.{Job}
 use Rattle.format.specs.Ask.{loop_of, segment_def, depth_of}
 use Rattle.spec.specs.Found.{StandsAt}
-use Rattle.spec.specs.Answers.{control_of, number_of, rule_of}
+use Rattle.spec.specs.Answers.{control_of, rule_of}
 use Rattle.spec.specs.declared.ids.ControlRule.{ControlRule}
-use Rattle.spec.specs.declared.ids.Controls.{Controls}
-use Rattle.spec.specs.declared.ids.Controls.TheVariants as control
-use Rattle.spec.specs.declared.ids.Number.{Number}
-use Rattle.spec.specs.declared.ids.Number.TheVariants as number
 use Rattle.emit.specs.Table.{held_field}
-use Rattle.emit.specs.declared.envelope.Held.{Held}
-use Rattle.emit.specs.declared.envelope.Held.TheVariants as held
+use Rattle.std.specs.Prelude as Rust
 use Rattle.segment.specs.Parts.{is_empty}
 use Rattle.emit.specs.Envelope.{field_at}
 use Rattle.places.specs.declared.triggers.Trigger.{Trigger}
@@ -101,47 +96,47 @@ none_wrong t (p ∷ ps) = go (is_envelope p.source) (none_wrong t ps)
     go false h = h
 
 module _ (j : Job) (l opener : ℕ) (p : LoopPlan) where
-  pub ruled_nowhere : (id : List ℕ) → id ≡ (loop_of j l).trigger → segment_def j id ≡ none → false ≡ wrong_ruled j l opener p
+  pub ruled_nowhere : (id : List ℕ) → id ≡ (loop_of j l).trigger → segment_def j id ≡ None → false ≡ wrong_ruled j l opener p
   unfolding wrong_ruled
-  ruled_nowhere id h i = let z : segment_def j (loop_of j l).trigger ≡ none = rw h at i in sym (rw z (none_wrong (trigger_of j l opener) p.segments))
+  ruled_nowhere id h i = let z : segment_def j (loop_of j l).trigger ≡ None = rw h at i in sym (rw z (none_wrong (trigger_of j l opener) p.segments))
 
   pub ruled_there : (id : List ℕ) (b : List ℕ) (e e' q : ℕ) (t : Trigger) (r : Bool) → id ≡ (loop_of j l).trigger → StandsAt segment_c b e q (segment_def j id) → t ≡ trigger_of j l opener → e' ≡ e
       → ((xs : SegmentDef) → Is (list_c (num_c ⊗ element_c)) b e' q xs → r ≡ any_of (wrong_trigger t xs) p.segments) → r ≡ wrong_ruled j l opener p
   unfolding wrong_ruled
   ruled_there id b e e' q t r h s i k f =
-      let z : segment_def j (loop_of j l).trigger ≡ some s.value = rw h at s.there in
+      let z : segment_def j (loop_of j l).trigger ≡ Some s.value = rw h at s.there in
       let w : r ≡ any_of (wrong_trigger t s.value) p.segments = f s.value (rw k (is_num_map _ _ _ _ _ s.is).0) in
       w ∙ rw (z, i)
 
 -- r is what the loop's rule was read as
-module _ (j : Job) (l : ℕ) (p : LoopPlan) (r : Controls) (h : control_of r ≡ (loop_of j l).control) where
-  pub loop_free : r ≡ control.None → false ≡ wrong_loop_at j l p
+module _ (j : Job) (l : ℕ) (p : LoopPlan) (r : Option ControlRule) (h : control_of r ≡ (loop_of j l).control) where
+  pub loop_free : r ≡ None → false ≡ wrong_loop_at j l p
   unfolding wrong_loop_at if_some
-  loop_free i = let z : (loop_of j l).control ≡ none = sym h ∙ ap control_of i in sym (rw z)
+  loop_free i = let z : (loop_of j l).control ≡ None = sym h ∙ ap control_of i in sym (rw z)
 
-  pub loop_ruled : (c : ControlRule) (t : Bool) → r ≡ control.Is c → t ≡ wrong_ruled j l c.opener p → t ≡ wrong_loop_at j l p
+  pub loop_ruled : (c : ControlRule) (t : Bool) → r ≡ Some c → t ≡ wrong_ruled j l c.opener p → t ≡ wrong_loop_at j l p
   unfolding wrong_loop_at if_some
-  loop_ruled c t i k = let z : (loop_of j l).control ≡ some (rule_of c) = sym h ∙ ap control_of i in k ∙ sym (rw z)
+  loop_ruled c t i k = let z : (loop_of j l).control ≡ Some (rule_of c) = sym h ∙ ap control_of i in k ∙ sym (rw z)
 
 -- h is what the field of an element was found as
-module _ (g : ℕ → Bool) (h : Held) (depth position : ℕ) (e : held_field h ≡ field_at depth position) where
-  pub held_nothing : h ≡ held.Nothing → false ≡ if_some g (field_at depth position)
+module _ (g : ℕ → Bool) (h : Rust.Option ℕ) (depth position : ℕ) (e : held_field h ≡ field_at depth position) where
+  pub held_nothing : h ≡ Rust.None → false ≡ if_some g (field_at depth position)
   unfolding if_some
-  held_nothing i = let z : field_at depth position ≡ none = sym e ∙ ap held_field i in sym (rw z)
+  held_nothing i = let z : field_at depth position ≡ None = sym e ∙ ap held_field i in sym (rw z)
 
-  pub held_field_lem : (f : ℕ) (r : Bool) → h ≡ held.Field f → r ≡ g f → r ≡ if_some g (field_at depth position)
+  pub held_field_lem : (f : ℕ) (r : Bool) → h ≡ Rust.Some f → r ≡ g f → r ≡ if_some g (field_at depth position)
   unfolding if_some
-  held_field_lem f r i k = let z : field_at depth position ≡ some f = sym e ∙ ap held_field i in k ∙ sym (rw z)
+  held_field_lem f r i k = let z : field_at depth position ≡ Some f = sym e ∙ ap held_field i in k ∙ sym (rw z)
 
 -- n is what the repetition separator was read as
-module _ (j : Job) (l opener d : ℕ) (n : Number) (h : d ≡ depth_of j l) (k : number_of n ≡ j.envelope.repetition) where
+module _ (j : Job) (l opener d : ℕ) (n : Option ℕ) (h : d ≡ depth_of j l) (k : n ≡ j.envelope.repetition) where
   trigger_is : (r : Bool) → r ≡ present j.envelope.repetition → record { opener = opener; depth = d; repetition = r } ≡ trigger_of j l opener
   trigger_is r i = rw (h, i)
 
-  pub trigger_none : n ≡ number.None → record { opener = opener; depth = d; repetition = false } ≡ trigger_of j l opener
+  pub trigger_none : n ≡ None → record { opener = opener; depth = d; repetition = false } ≡ trigger_of j l opener
   unfolding present
-  trigger_none i = let z : j.envelope.repetition ≡ none = sym k ∙ ap number_of i in trigger_is false (sym (ap (λ (o : Option ℕ). present o) z))
+  trigger_none i = let z : j.envelope.repetition ≡ None = sym k ∙ i in trigger_is false (sym (ap (λ (o : Option ℕ). present o) z))
 
-  pub trigger_some : (v : ℕ) → n ≡ number.Is v → record { opener = opener; depth = d; repetition = true } ≡ trigger_of j l opener
+  pub trigger_some : (v : ℕ) → n ≡ Some v → record { opener = opener; depth = d; repetition = true } ≡ trigger_of j l opener
   unfolding present
-  trigger_some v i = let z : j.envelope.repetition ≡ some v = sym k ∙ ap number_of i in trigger_is true (sym (ap (λ (o : Option ℕ). present o) z))
+  trigger_some v i = let z : j.envelope.repetition ≡ Some v = sym k ∙ i in trigger_is true (sym (ap (λ (o : Option ℕ). present o) z))

@@ -12,6 +12,7 @@ ghost use Rattle.complete.specs.Complete.{SeparatorsAlone};
 ghost use Rattle.nest.specs.Ready.{Ready};
 ghost use Rattle.places.specs.Fits.{Fits5, SegmentsFit};
 
+use codec::Section;
 use codes::{codes_clear, maps_fit, rules_fit, start};
 
 fn both(x: bool, y: bool) -> bool
@@ -30,7 +31,14 @@ pub fn segments_fit(job: &[u8], index: &[u16]) -> bool
 {
     let plan = start(job, 4);
     let layout = start(job, 8);
-    !spots::plans_wrong(job, index, plan as usize, layout)
+    !spots::plans_wrong(
+        Section {
+            bytes: job,
+            end: layout,
+        },
+        index,
+        plan as usize,
+    )
 }
 
 // Envelope fields that give a separator.
@@ -40,7 +48,14 @@ pub fn separators_alone(job: &[u8], index: &[u16]) -> bool
 {
     let plan = start(job, 4);
     let layout = start(job, 8);
-    !triggers::loops_wrong(job, index, plan as usize, layout)
+    !triggers::loops_wrong(
+        Section {
+            bytes: job,
+            end: layout,
+        },
+        index,
+        plan as usize,
+    )
 }
 
 // Condition 5, where the plan has one entry a loop.

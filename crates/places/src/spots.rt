@@ -13,6 +13,8 @@ ghost use Rattle.says.specs.Says.{Says, SaysRest};
 ghost use Rattle.places.specs.Spots.{wrong_spot, clash, front, hits, meet, misplaced, mixed, reach_of, spot_of, wrong_plan, wrong_segment, wrong_spots};
 
 use crate::both;
+use codec::{Form, Section};
+use format::{Instances, LoopPlan, SegmentPlan, Source};
 use spec::ids::TableId;
 
 // The place of a planned element: rank is 0 for no component, else one more than it; reach is how many rows fill it.
@@ -112,36 +114,33 @@ fn spot_wrong(step: usize, x: Spot) -> bool
 
 // ---- what stands in the plan
 
-fn rank_at(b: &[u8], at: usize, end: u32) -> usize
-    requires { end ≤ length b.now }
-    ensures { Says (opt_c num_c) b.now end at rank result }
+fn rank_at(s: Section, at: usize) -> usize
+    ensures { Says (opt_c num_c) s.entry.bytes.now s.entry.end at rank result }
 {
-    if codec::tag_at(b, at, end) == 1 {
-        let p = codec::le_at(b, 1, at, end);
-        return codec::count_at(b, p, end) + 1;
+    if s.tag_at(at) == 1 {
+        let p = s.le_at(1, at);
+        return s.count_at(p) + 1;
     }
     0
 }
 
-fn reach_at(b: &[u8], at: usize, end: u32, room: usize) -> usize
-    requires { end ≤ length b.now }
-    ensures { Says value_c b.now end at (reach_of room) result }
+fn reach_at(s: Section, at: usize, room: usize) -> usize
+    ensures { Says value_c s.entry.bytes.now s.entry.end at (reach_of room) result }
 {
-    if codec::tag_at(b, at, end) == 1 {
+    if s.tag_at(at) == 1 {
         return room;
     }
     1
 }
 
-fn spot_at(b: &[u8], at: usize, end: u32, room: usize) -> Spot
-    requires { end ≤ length b.now }
-    ensures { Says element_plan_c b.now end at (spot_of room) result }
+fn spot_at(s: Section, at: usize, room: usize) -> Spot
+    ensures { Says element_plan_c s.entry.bytes.now s.entry.end at (spot_of room) result }
 {
-    let component = codec::le_at(b, 4, at, end);
-    let value = codec::opt_num_at(b, component, end);
-    let element = codec::count_at(b, at, end);
-    let rank = rank_at(b, component, end);
-    let reach = reach_at(b, value, end, room);
+    let component = s.le_at(4, at);
+    let value = s.opt_num_at(component);
+    let element = s.count_at(at);
+    let rank = rank_at(s, component);
+    let reach = reach_at(s, value, room);
     Spot {
         element: element,
         rank: rank,
@@ -149,56 +148,49 @@ fn spot_at(b: &[u8], at: usize, end: u32, room: usize) -> Spot
     }
 }
 
-fn clashes_at(b: &[u8], at: usize, end: u32, kind: u8, step: usize, room: usize, x: Spot) -> bool
-    requires { end ≤ length b.now }
-    ensures { Says element_plan_c b.now end at (λ (e : ElementPlan). clash kind step x (spot_of room e)) result }
+fn clashes_at(s: Section, at: usize, kind: u8, step: usize, room: usize, x: Spot) -> bool
+    ensures { Says element_plan_c s.entry.bytes.now s.entry.end at (λ (e : ElementPlan). clash kind step x (spot_of room e)) result }
 {
-    let y = spot_at(b, at, end, room);
+    let y = spot_at(s, at, room);
     clashes(kind, step, x, y)
 }
 
 // Whether x clashes with one of the rest.
 fn clash_behind(
-    b: &[u8],
+    s: Section,
     at: usize,
-    end: u32,
     rest: usize,
     kind: u8,
     step: usize,
     room: usize,
     x: Spot,
 ) -> bool
-    requires { end ≤ length b.now }
-    ensures { SaysRest element_plan_c b.now end rest at (any_of (λ (e : ElementPlan). clash kind step x (spot_of room e))) result }
+    ensures { SaysRest element_plan_c s.entry.bytes.now s.entry.end rest at (any_of (λ (e : ElementPlan). clash kind step x (spot_of room e))) result }
 {
-    let mut left = rest;
     let mut p = at;
-    while 0 < left {
-        if clashes_at(b, p, end, kind, step, room, x) {
+    for _i in 0..rest {
+        if clashes_at(s, p, kind, step, room, x) {
             return true;
         }
-        p = format::element_plan_at(b, p, end);
-        left = left - 1;
+        p = format::ElementPlan::ends_at(s, p);
     }
     false
 }
 
-fn spots_wrong(b: &[u8], at: usize, end: u32, kind: u8, step: usize, room: usize) -> bool
-    requires { end ≤ length b.now }
-    ensures { Says (list_c element_plan_c) b.now end at (wrong_spots kind step room) result }
+fn spots_wrong(s: Section, at: usize, kind: u8, step: usize, room: usize) -> bool
+    ensures { Says (list_c element_plan_c) s.entry.bytes.now s.entry.end at (wrong_spots kind step room) result }
 {
-    let mut left = codec::count_at(b, at, end);
-    let mut p = codec::le_at(b, 4, at, end);
-    while 0 < left {
-        let x = spot_at(b, p, end, room);
-        let q = format::element_plan_at(b, p, end);
+    let n = s.count_at(at);
+    let mut p = s.le_at(4, at);
+    for i in 0..n {
+        let x = spot_at(s, p, room);
+        let q = format::ElementPlan::ends_at(s, p);
         let a = spot_wrong(step, x);
-        let c = clash_behind(b, q, end, left - 1, kind, step, room, x);
+        let c = clash_behind(s, q, n - i - 1, kind, step, room, x);
         if codec::either(a, c) {
             return true;
         }
         p = q;
-        left = left - 1;
     }
     false
 }
@@ -213,70 +205,52 @@ fn at_least_1(n: u32) -> usize
 }
 
 // The elements of a repeat segment of table t.
-fn repeat_wrong(job: &[u8], index: &[u16], at: usize, end: u32, t: TableId) -> bool
-    requires { SpecIndexed job.now index.now × PlanIndexed job.now index.now × (end ≤ length job.now) }
-    ensures { Says (list_c element_plan_c) job.now end at (wrong_spots 2 (step_of (job_of job.now) t.0) (max 1 (capacity_of (job_of job.now) t.0))) result }
+fn repeat_wrong(s: Section, index: &[u16], at: usize, t: TableId) -> bool
+    requires { SpecIndexed s.bytes.now index.now × PlanIndexed s.bytes.now index.now }
+    ensures { Says (list_c element_plan_c) s.entry.bytes.now s.entry.end at (wrong_spots 2 (step_of (job_of s.entry.bytes.now) t.0) (max 1 (capacity_of (job_of s.entry.bytes.now) t.0))) result }
 {
-    let step = spec::tables::step(job, index, t);
-    let capacity = plan::layout::capacity(job, index, t);
+    let step = spec::tables::step(s.bytes, index, t);
+    let capacity = plan::layout::capacity(s.bytes, index, t);
     let room = at_least_1(capacity);
-    spots_wrong(job, at, end, 2, step as usize, room)
+    spots_wrong(s, at, 2, step as usize, room)
 }
 
-fn segment_wrong(job: &[u8], index: &[u16], at: usize, end: u32) -> bool
-    requires { SpecIndexed job.now index.now × PlanIndexed job.now index.now × (end ≤ length job.now) }
-    ensures { Says segment_plan_c job.now end at (wrong_segment (job_of job.now)) result }
+fn segment_wrong(s: Section, index: &[u16], at: usize) -> bool
+    requires { SpecIndexed s.bytes.now index.now × PlanIndexed s.bytes.now index.now }
+    ensures { Says segment_plan_c s.entry.bytes.now s.entry.end at (wrong_segment (job_of s.entry.bytes.now)) result }
 {
-    let source = codec::le_at(job, 4, at, end);
-    let elements = format::source_at(job, source, end);
-    let t = codec::tag_at(job, source, end);
+    let source = s.le_at(4, at);
+    let elements = Source::ends_at(s, source);
+    let t = s.tag_at(source);
     if t == 2 {
-        let p = codec::le_at(job, 1, source, end);
-        let table = codec::count_at(job, p, end) as u32;
-        return repeat_wrong(job, index, elements, end, TableId(table));
+        let p = s.le_at(1, source);
+        let table = s.count_at(p) as u32;
+        return repeat_wrong(s, index, elements, TableId(table));
     }
     if t == 1 {
-        return spots_wrong(job, elements, end, 1, 0, 1);
+        return spots_wrong(s, elements, 1, 0, 1);
     }
-    spots_wrong(job, elements, end, 0, 0, 1)
+    spots_wrong(s, elements, 0, 0, 1)
 }
 
-fn segments_wrong(job: &[u8], index: &[u16], at: usize, end: u32) -> bool
-    requires { SpecIndexed job.now index.now × PlanIndexed job.now index.now × (end ≤ length job.now) }
-    ensures { Says (list_c segment_plan_c) job.now end at (any_of (wrong_segment (job_of job.now))) result }
+fn segments_wrong(s: Section, index: &[u16], at: usize) -> bool
+    requires { SpecIndexed s.bytes.now index.now × PlanIndexed s.bytes.now index.now }
+    ensures { Says (list_c segment_plan_c) s.entry.bytes.now s.entry.end at (any_of (wrong_segment (job_of s.entry.bytes.now))) result }
 {
-    let mut left = codec::count_at(job, at, end);
-    let mut p = codec::le_at(job, 4, at, end);
-    while 0 < left {
-        if segment_wrong(job, index, p, end) {
-            return true;
-        }
-        p = format::segment_plan_at(job, p, end);
-        left = left - 1;
-    }
-    false
+    says::lists::any_at::<SegmentPlan, _>(s, at, |p| segment_wrong(s, index, p))
 }
 
-fn plan_wrong(job: &[u8], index: &[u16], at: usize, end: u32) -> bool
-    requires { SpecIndexed job.now index.now × PlanIndexed job.now index.now × (end ≤ length job.now) }
-    ensures { Says loop_plan_c job.now end at (wrong_plan (job_of job.now)) result }
+fn plan_wrong(s: Section, index: &[u16], at: usize) -> bool
+    requires { SpecIndexed s.bytes.now index.now × PlanIndexed s.bytes.now index.now }
+    ensures { Says loop_plan_c s.entry.bytes.now s.entry.end at (wrong_plan (job_of s.entry.bytes.now)) result }
 {
-    let segments = format::instances_at(job, at, end);
-    segments_wrong(job, index, segments, end)
+    let segments = Instances::ends_at(s, at);
+    segments_wrong(s, index, segments)
 }
 
-pub fn plans_wrong(job: &[u8], index: &[u16], at: usize, end: u32) -> bool
-    requires { SpecIndexed job.now index.now × PlanIndexed job.now index.now × (end ≤ length job.now) }
-    ensures { Says (list_c loop_plan_c) job.now end at (any_of (wrong_plan (job_of job.now))) result }
+pub fn plans_wrong(s: Section, index: &[u16], at: usize) -> bool
+    requires { SpecIndexed s.bytes.now index.now × PlanIndexed s.bytes.now index.now }
+    ensures { Says (list_c loop_plan_c) s.entry.bytes.now s.entry.end at (any_of (wrong_plan (job_of s.entry.bytes.now))) result }
 {
-    let mut left = codec::count_at(job, at, end);
-    let mut p = codec::le_at(job, 4, at, end);
-    while 0 < left {
-        if plan_wrong(job, index, p, end) {
-            return true;
-        }
-        p = format::loop_plan_at(job, p, end);
-        left = left - 1;
-    }
-    false
+    says::lists::any_at::<LoopPlan, _>(s, at, |p| plan_wrong(s, index, p))
 }

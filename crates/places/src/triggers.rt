@@ -14,8 +14,10 @@ ghost use Rattle.says.specs.Says.{Says};
 ghost use Rattle.places.specs.Triggers.{crowded, field_gives, gives, part_of, trigger_of, wrong_element, wrong_loop_at, wrong_ruled, wrong_trigger};
 
 use crate::both;
-use emit::envelope::Held;
-use spec::ids::{Controls, LoopId, Number, Place};
+use codec::forms::{Le, NumMap};
+use codec::{Form, Section};
+use format::{Component, Element, Instances, Kind, LoopPlan, SegmentPlan, Source};
+use spec::ids::{ControlRule, LoopId};
 
 // What an element of a trigger is judged by: the element of the control number, the depth, and whether there is a repetition separator.
 #[derive(Clone, Copy)]
@@ -44,25 +46,24 @@ fn position_gives(depth: usize, repeated: bool, plain: bool, position: u32) -> b
 {
     let h = emit::envelope::field_at(depth, position);
     match h {
-        Held::Nothing => false,
-        Held::Field(f) => field_gives(repeated, plain, f),
+        None => false,
+        Some(f) => field_gives(repeated, plain, f),
     }
 }
 
-fn element_gives(b: &[u8], at: usize, end: u32, t: Trigger) -> bool
-    requires { end ≤ length b.now }
-    ensures { Says (num_c ⊗ element_c) b.now end at (gives t) result }
+fn element_gives(s: Section, at: usize, t: Trigger) -> bool
+    ensures { Says (num_c ⊗ element_c) s.entry.bytes.now s.entry.end at (gives t) result }
 {
     let opener = t.opener;
     let depth = t.depth;
     let repeated = t.repetition;
-    let value = codec::le_at(b, 4, at, end);
-    let kind = format::kind_at(b, value, end);
-    let min = codec::opt_num_at(b, kind, end);
-    let max = codec::opt_num_at(b, min, end);
-    let codes = format::components_at(b, max, end);
-    let n = codec::count_at(b, at, end);
-    let m = codec::count_at(b, codes, end);
+    let value = s.le_at(4, at);
+    let kind = Kind::ends_at(s, value);
+    let min = s.opt_num_at(kind);
+    let max = s.opt_num_at(min);
+    let codes = NumMap::<Component>::ends_at(s, max);
+    let n = s.count_at(at);
+    let m = s.count_at(codes);
     if n == opener {
         return false;
     }
@@ -71,102 +72,67 @@ fn element_gives(b: &[u8], at: usize, end: u32, t: Trigger) -> bool
 
 // ---- elements with components
 
-fn part_at(b: &[u8], at: usize, end: u32, n: usize) -> bool
-    requires { end ≤ length b.now }
-    ensures { Says element_plan_c b.now end at (part_of n) result }
+fn part_at(s: Section, at: usize, n: usize) -> bool
+    ensures { Says element_plan_c s.entry.bytes.now s.entry.end at (part_of n) result }
 {
-    let component = codec::le_at(b, 4, at, end);
-    let e = codec::count_at(b, at, end);
-    let t = codec::tag_at(b, component, end);
+    let component = s.le_at(4, at);
+    let e = s.count_at(at);
+    let t = s.tag_at(component);
     both(e == n, t == 1)
 }
 
-fn parts_at(b: &[u8], at: usize, end: u32, n: usize) -> bool
-    requires { end ≤ length b.now }
-    ensures { Says (list_c element_plan_c) b.now end at (any_of (part_of n)) result }
+fn parts_at(s: Section, at: usize, n: usize) -> bool
+    ensures { Says (list_c element_plan_c) s.entry.bytes.now s.entry.end at (any_of (part_of n)) result }
 {
-    let mut left = codec::count_at(b, at, end);
-    let mut p = codec::le_at(b, 4, at, end);
-    while 0 < left {
-        if part_at(b, p, end, n) {
-            return true;
-        }
-        p = format::element_plan_at(b, p, end);
-        left = left - 1;
-    }
-    false
+    says::lists::any_at::<format::ElementPlan, _>(s, at, |p| part_at(s, p, n))
 }
 
 // The planned elements stand at own.
-fn crowded_at(b: &[u8], at: usize, end: u32, own: usize, bound: u32) -> bool
-    requires { (end ≤ length b.now) × (bound ≤ length b.now) }
-    ensures { (es : List ElementPlan) → Is (list_c element_plan_c) b.now bound own es → Says (num_c ⊗ element_c) b.now end at (crowded es) result }
+fn crowded_at(s: Section, at: usize, own: usize, plan: Section) -> bool
+    ensures { (es : List ElementPlan) → Is (list_c element_plan_c) plan.entry.bytes.now plan.entry.end own es → Says (num_c ⊗ element_c) s.entry.bytes.now s.entry.end at (crowded es) result }
 {
-    let value = codec::le_at(b, 4, at, end);
-    let kind = format::kind_at(b, value, end);
-    let min = codec::opt_num_at(b, kind, end);
-    let max = codec::opt_num_at(b, min, end);
-    let m = codec::count_at(b, max, end);
-    let n = codec::count_at(b, at, end);
-    let x = parts_at(b, own, bound, n);
+    let value = s.le_at(4, at);
+    let kind = Kind::ends_at(s, value);
+    let min = s.opt_num_at(kind);
+    let max = s.opt_num_at(min);
+    let m = s.count_at(max);
+    let n = s.count_at(at);
+    let x = parts_at(plan, own, n);
     codec::either(m != 0, x)
 }
 
-fn element_wrong(b: &[u8], at: usize, end: u32, t: Trigger, own: usize, bound: u32) -> bool
-    requires { (end ≤ length b.now) × (bound ≤ length b.now) }
-    ensures { (es : List ElementPlan) → Is (list_c element_plan_c) b.now bound own es → Says (num_c ⊗ element_c) b.now end at (wrong_element t es) result }
+fn element_wrong(s: Section, at: usize, t: Trigger, own: usize, plan: Section) -> bool
+    ensures { (es : List ElementPlan) → Is (list_c element_plan_c) plan.entry.bytes.now plan.entry.end own es → Says (num_c ⊗ element_c) s.entry.bytes.now s.entry.end at (wrong_element t es) result }
 {
-    let x = element_gives(b, at, end, t);
-    let y = crowded_at(b, at, end, own, bound);
+    let x = element_gives(s, at, t);
+    let y = crowded_at(s, at, own, plan);
     both(x, y)
 }
 
-fn elements_wrong(b: &[u8], at: usize, end: u32, t: Trigger, own: usize, bound: u32) -> bool
-    requires { (end ≤ length b.now) × (bound ≤ length b.now) }
-    ensures { (es : List ElementPlan) → Is (list_c element_plan_c) b.now bound own es → Says (list_c (num_c ⊗ element_c)) b.now end at (any_of (wrong_element t es)) result }
+fn elements_wrong(s: Section, at: usize, t: Trigger, own: usize, plan: Section) -> bool
+    ensures { (es : List ElementPlan) → Is (list_c element_plan_c) plan.entry.bytes.now plan.entry.end own es → Says (list_c (num_c ⊗ element_c)) s.entry.bytes.now s.entry.end at (any_of (wrong_element t es)) result }
 {
-    let mut left = codec::count_at(b, at, end);
-    let mut p = codec::le_at(b, 4, at, end);
-    while 0 < left {
-        if element_wrong(b, p, end, t, own, bound) {
-            return true;
-        }
-        let value = codec::le_at(b, 4, p, end);
-        p = format::element_at(b, value, end);
-        left = left - 1;
-    }
-    false
+    says::lists::any_at::<(Le<4>, Element), _>(s, at, |p| element_wrong(s, p, t, own, plan))
 }
 
 // ---- planned segments: the definitions of the trigger's elements stand at defs
 
-fn trigger_wrong(b: &[u8], at: usize, end: u32, t: Trigger, defs: usize, bound: u32) -> bool
-    requires { (end ≤ length b.now) × (bound ≤ length b.now) }
-    ensures { (xs : SegmentDef) → Is (list_c (num_c ⊗ element_c)) b.now bound defs xs → Says segment_plan_c b.now end at (wrong_trigger t xs) result }
+fn trigger_wrong(s: Section, at: usize, t: Trigger, defs: usize, spec: Section) -> bool
+    ensures { (xs : SegmentDef) → Is (list_c (num_c ⊗ element_c)) spec.entry.bytes.now spec.entry.end defs xs → Says segment_plan_c s.entry.bytes.now s.entry.end at (wrong_trigger t xs) result }
 {
-    let source = codec::le_at(b, 4, at, end);
-    let elements = format::source_at(b, source, end);
-    let k = codec::tag_at(b, source, end);
+    let source = s.le_at(4, at);
+    let elements = Source::ends_at(s, source);
+    let k = s.tag_at(source);
     if k == 0 {
-        return elements_wrong(b, defs, bound, t, elements, end);
+        return elements_wrong(spec, defs, t, elements, s);
     }
     false
 }
 
-fn triggers_wrong(b: &[u8], at: usize, end: u32, t: Trigger, defs: usize, bound: u32) -> bool
-    requires { (end ≤ length b.now) × (bound ≤ length b.now) }
-    ensures { (xs : SegmentDef) → Is (list_c (num_c ⊗ element_c)) b.now bound defs xs → Says (list_c segment_plan_c) b.now end at (any_of (wrong_trigger t xs)) result }
+fn triggers_wrong(s: Section, at: usize, t: Trigger, defs: usize, spec: Section) -> bool
+    ensures { (xs : SegmentDef) → Is (list_c (num_c ⊗ element_c)) spec.entry.bytes.now spec.entry.end defs xs → Says (list_c segment_plan_c) s.entry.bytes.now s.entry.end at (any_of (wrong_trigger t xs)) result }
 {
-    let mut left = codec::count_at(b, at, end);
-    let mut p = codec::le_at(b, 4, at, end);
-    while 0 < left {
-        if trigger_wrong(b, p, end, t, defs, bound) {
-            return true;
-        }
-        p = format::segment_plan_at(b, p, end);
-        left = left - 1;
-    }
-    false
+    says::lists::any_at::<SegmentPlan, _>(s, at, |p| trigger_wrong(s, p, t, defs, spec))
 }
 
 // ---- loops
@@ -178,12 +144,12 @@ fn trigger_of(job: &[u8], index: &[u16], l: LoopId, opener: usize) -> Trigger
     let depth = plan::layout::depth(job, index, l) as usize;
     let repetition = spec::envelope::repetition(job, index);
     match repetition {
-        Number::None => Trigger {
+        None => Trigger {
             opener: opener,
             depth: depth,
             repetition: false,
         },
-        Number::Is(b) => Trigger {
+        Some(b) => Trigger {
             opener: opener,
             depth: depth,
             repetition: true,
@@ -191,46 +157,46 @@ fn trigger_of(job: &[u8], index: &[u16], l: LoopId, opener: usize) -> Trigger
     }
 }
 
-fn ruled_wrong(job: &[u8], index: &[u16], at: usize, end: u32, l: LoopId, opener: usize) -> bool
-    requires { Ready job.now index.now × (l.0 < 32) × (end ≤ length job.now) }
-    ensures { Says loop_plan_c job.now end at (wrong_ruled (job_of job.now) l.0 opener) result }
+fn ruled_wrong(s: Section, index: &[u16], at: usize, l: LoopId, opener: usize) -> bool
+    requires { Ready s.bytes.now index.now × (l.0 < 32) }
+    ensures { Says loop_plan_c s.entry.bytes.now s.entry.end at (wrong_ruled (job_of s.entry.bytes.now) l.0 opener) result }
 {
-    let t = trigger_of(job, index, l, opener);
-    let bound = spec::read::spec_end(job);
-    let segments = format::instances_at(job, at, end);
-    let name = spec::loops::trigger(job, index, l);
-    let place = spec::segments::elements_of(job, index, name);
+    let t = trigger_of(s.bytes, index, l, opener);
+    let spec = Section {
+        bytes: s.bytes,
+        end: spec::read::spec_end(s.bytes),
+    };
+    let segments = Instances::ends_at(s, at);
+    let name = spec::loops::trigger(s.bytes, index, l);
+    let place = spec::segments::elements_of(s.bytes, index, name);
     match place {
-        Place::Nowhere => false,
-        Place::At(q) => triggers_wrong(job, segments, end, t, q, bound),
+        None => false,
+        Some(q) => triggers_wrong(s, segments, t, q, spec),
     }
 }
 
-fn loop_wrong(job: &[u8], index: &[u16], at: usize, end: u32, l: LoopId) -> bool
-    requires { Ready job.now index.now × (l.0 < 32) × (end ≤ length job.now) }
-    ensures { Says loop_plan_c job.now end at (wrong_loop_at (job_of job.now) l.0) result }
+fn loop_wrong(s: Section, index: &[u16], at: usize, l: LoopId) -> bool
+    requires { Ready s.bytes.now index.now × (l.0 < 32) }
+    ensures { Says loop_plan_c s.entry.bytes.now s.entry.end at (wrong_loop_at (job_of s.entry.bytes.now) l.0) result }
 {
-    let c = spec::loops::control(job, index, l);
+    let c = spec::loops::control(s.bytes, index, l);
     match c {
-        Controls::None => false,
-        Controls::Is(rule) => ruled_wrong(job, index, at, end, l, rule.opener as usize),
+        None => false,
+        Some(rule) => ruled_wrong(s, index, at, l, rule.opener as usize),
     }
 }
 
-pub fn loops_wrong(job: &[u8], index: &[u16], at: usize, end: u32) -> bool
-    requires { Ready job.now index.now × (count_at job.now at end ≤ 32) × (end ≤ length job.now) }
-    ensures { Says (list_c loop_plan_c) job.now end at (any_from (wrong_loop_at (job_of job.now)) 0) result }
+pub fn loops_wrong(s: Section, index: &[u16], at: usize) -> bool
+    requires { Ready s.bytes.now index.now × (count_at s.bytes.now at s.end ≤ 32) }
+    ensures { Says (list_c loop_plan_c) s.entry.bytes.now s.entry.end at (any_from (wrong_loop_at (job_of s.entry.bytes.now)) 0) result }
 {
-    let mut left = codec::count_at(job, at, end);
-    let mut p = codec::le_at(job, 4, at, end);
-    let mut k: u32 = 0;
-    while 0 < left {
-        if loop_wrong(job, index, p, end, LoopId(k)) {
+    let n = s.count_at(at) as u32;
+    let mut p = s.le_at(4, at);
+    for k in 0..n {
+        if loop_wrong(s, index, p, LoopId(k)) {
             return true;
         }
-        p = format::loop_plan_at(job, p, end);
-        k = k + 1;
-        left = left - 1;
+        p = LoopPlan::ends_at(s, p);
     }
     false
 }

@@ -2,9 +2,9 @@
 use Prim.Native.Nat.{ℕ, ◌+◌, ◌*◌, ◌≤◌, ◌<◌}
 use mathlib.Core.Path.{◌≡◌, refl, sym, ap, subst, ◌∙◌}
 use mathlib.Core.List.{List, []}
-use mathlib.Core.Option.{Option, none, some}
 use mathlib.Core.Bool.{Bool, true, false}
 use native.Mathlib.Omega.{arith}
+use Rattle.std.specs.Prelude.{Option, None, Some}
 use lib.ListN.{length, get_or, get_or-eq_default}
 use lib.Dec.{leb, ltb, eqb}
 use borrow.Author.Tests.{le-leb, lt-leb, le-ltb, lt-ltb, leb-true, leb-false, ltb-true, ltb-false}
@@ -156,27 +156,27 @@ module _ (b idx : List ℕ) (x : PlanIndexed b idx) where
 
       pub depth_lacks : n ≤ l → 0 ≡ depth_of (job_of b) l
       unfolding depth_of
-      depth_lacks q = rw (get_or-eq_default (job_of b).layout.depth none {n = l} (rw (← depth_count) q))
+      depth_lacks q = rw (get_or-eq_default (job_of b).layout.depth None {n = l} (rw (← depth_count) q))
 
       module _ (q t : ℕ) (o : l < n) (j : q ≡ get_or idx (1157 + l) 0) (k : t ≡ get_or b q 0) where
-        depth_there : Is (opt_c num_c) b (envelope_start b) q (get_or (job_of b).layout.depth l none)
-        depth_there = is_at (opt_c num_c) b (envelope_start b) q _ _ j (x.depth.item l none (rw (← depth_count) o) m)
+        depth_there : Is (opt_c num_c) b (envelope_start b) q (get_or (job_of b).layout.depth l None)
+        depth_there = is_at (opt_c num_c) b (envelope_start b) q _ _ j (x.depth.item l None (rw (← depth_count) o) m)
 
         pub depth_none : t ≡ 0 → 0 ≡ depth_of (job_of b) l
         unfolding depth_of
-        depth_none z = go (get_or (job_of b).layout.depth l none) depth_there
+        depth_none z = go (get_or (job_of b).layout.depth l None) depth_there
           where
             go : (d : Option ℕ) → Is (opt_c num_c) b (envelope_start b) q d → 0 ≡ on d (λ c. c) 0
-            go none s = refl
-            go (some c) s = absurd (omega (arith, (is_some num_c b (envelope_start b) q c s).0))
+            go None s = refl
+            go (Some c) s = absurd (omega (arith, (is_some num_c b (envelope_start b) q c s).0))
 
         pub depth_some : (t ≡ 0 → ⊥) → (r : ℕ) → r ≡ le 4 b (q + 1) → r ≡ depth_of (job_of b) l
         unfolding depth_of
-        depth_some z r w = go (get_or (job_of b).layout.depth l none) depth_there
+        depth_some z r w = go (get_or (job_of b).layout.depth l None) depth_there
           where
             go : (d : Option ℕ) → Is (opt_c num_c) b (envelope_start b) q d → r ≡ on d (λ c. c) 0
-            go none s = absurd (z (k ∙ is_none num_c b (envelope_start b) q s))
-            go (some c) s = number_is b (envelope_start b) (q + 1) r c w (is_some num_c b (envelope_start b) q c s).1
+            go None s = absurd (z (k ∙ is_none num_c b (envelope_start b) q s))
+            go (Some c) s = number_is b (envelope_start b) (q + 1) r c w (is_some num_c b (envelope_start b) q c s).1
 
   module _ (t p n : ℕ) (h : p ≡ get_or idx 1189 0) (i : n ≡ le 4 b p) where
     capacity_count : n ≡ length (job_of b).layout.capacity

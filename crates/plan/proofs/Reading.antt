@@ -2,10 +2,10 @@
 use Prim.Native.Nat.{ℕ, zero, suc, ◌+◌, ◌*◌, ◌-◌, ◌≤◌, ◌<◌}
 use mathlib.Core.Path.{◌≡◌, refl, sym, ap, ◌∙◌}
 use mathlib.Core.List.{List}
-use mathlib.Core.Option.{Option, none, some}
 use mathlib.Core.Bool.{Bool, true, false}
 use native.Mathlib.Omega.{arith}
 use native.Mathlib.Nat.{add-zero, zero-mul, suc-mul}
+use Rattle.std.specs.Prelude.{Option, None, Some}
 use lib.ListN.{length, get_or, take, drop, length-drop}
 use lib.Seq.{ext_get_or, get_or-take, get_or-drop, length-take-le}
 use lib.Dec.{eqb}
@@ -19,9 +19,7 @@ use Rattle.format.specs.Plan.{Instances, absent, enveloped, rows_of, inside, gro
 use Rattle.format.specs.Layout.{Item, segment_item, loop_item, item_c}
 use Rattle.format.specs.Fields.{instances_tag, is_rows_of, is_inside, is_groups_of, source_tag, is_from_row, is_from_repeat, value_tag, is_from_column, is_from_group, is_from_code, item_tag, is_segment_item, is_loop_item, ElementPlanIs, is_element_plan, SegmentPlanIs, is_segment_plan, LoopPlanIs}
 use Rattle.format.specs.Ends.{instances_low, instances_high, source_low, source_table_lem, value_column, value_code, item_is}
-use Rattle.spec.specs.Answers.{stretch_of, number_of}
-use Rattle.spec.specs.declared.ids.Number.{Number}
-use Rattle.spec.specs.declared.ids.Number.TheVariants.{None, Is as IsNumber}
+use Rattle.spec.specs.Answers.{stretch_of}
 use Rattle.plan.specs.declared.answers.ElementPlan.{ElementPlan}
 use Rattle.plan.specs.declared.answers.ValueSource.TheVariants.{Column, Group, Code}
 use Rattle.plan.specs.declared.answers.Planned.{Planned}
@@ -42,13 +40,13 @@ opt_room : (b : List ℕ) (e at : ℕ) (o : Option ℕ) → Is (opt_c num_c) b e
 unfolding opt_c
 opt_room b e at o h = (is_enum _ b e at _ (is_map _ _ _ _ _ b e at o h)).room
 
-skip_none : (b : List ℕ) (e at : ℕ) → Is (opt_c num_c) b e at none → skip (opt_c num_c) b at e ≡ at + 1
-skip_none b e at h = skip_opt num_c b at e ∙ opt_none b at e _ (tag_in b at e (opt_room b e at none h) ∙ is_none num_c b e at h)
+skip_none : (b : List ℕ) (e at : ℕ) → Is (opt_c num_c) b e at None → skip (opt_c num_c) b at e ≡ at + 1
+skip_none b e at h = skip_opt num_c b at e ∙ opt_none b at e _ (tag_in b at e (opt_room b e at None h) ∙ is_none num_c b e at h)
 
-skip_some : (b : List ℕ) (e at x : ℕ) → Is (opt_c num_c) b e at (some x) → skip (opt_c num_c) b at e ≡ at + 5
+skip_some : (b : List ℕ) (e at x : ℕ) → Is (opt_c num_c) b e at (Some x) → skip (opt_c num_c) b at e ≡ at + 5
 skip_some b e at x h =
     let s = is_some num_c b e at x h in
-    let m : at < e = opt_room b e at (some x) h in
+    let m : at < e = opt_room b e at (Some x) h in
     let r : at + 1 + 4 ≡ at + 5 = omega arith in
     skip_opt num_c b at e ∙ opt_some b at e _ (tag_in b at e m ∙ s.0) ∙ rw (skip_le 1 b at e (omega arith)) (skip_number b e (at + 1) x s.1 ∙ r)
 
@@ -254,7 +252,7 @@ module _ (b : List ℕ) (at o t x : ℕ) (h : o ≡ le 4 b at) (i : t ≡ get_or
     segment_2 p q e v m j = segment_read _ (at + 9) n refl refl refl (omega arith) c e v (source_2 b (at + 4) t x i number_behind p q e _ (elements_behind b at t i e v j).0) (elements_1 b at t i p e v j) j
 
 -- ---- values
-module _ (b : List ℕ) (at t n element : ℕ) (component : Number) (h : t ≡ get_or b at 0) (i : n ≡ le 4 b (at + 1)) where
+module _ (b : List ℕ) (at t n element : ℕ) (component : Option ℕ) (h : t ≡ get_or b at 0) (i : n ≡ le 4 b (at + 1)) where
   pub value_0 : t ≡ 0 → (e : ℕ) (v : Value) → e ≤ length b → Is value_c b e at v → ValueRead b e at v (record { element = element; component = component; value = Column n; next = at + 5 })
   value_0 q e (from_column x) m j =
       let k = is_from_column b e at x j in
@@ -304,8 +302,8 @@ element_room : (b : List ℕ) (e at : ℕ) (v : ElementPlanIn) → Is element_pl
 element_room b e at v j = let f = element_behind b e at v j in go v.component f.0 (value_room b e _ v.value f.1)
   where
     go : (o : Option ℕ) → Is (opt_c num_c) b e (at + 4) o → skip (opt_c num_c) b (at + 4) e + 5 ≤ e → (at + 10 ≤ e) × ((get_or b (at + 4) 0 ≡ 0 → ⊥) → at + 14 ≤ e)
-    go none z m = let s = skip_none b e (at + 4) z in (omega arith, λ q. absurd (q (is_none num_c b e (at + 4) z)))
-    go (some y) z m = let s = skip_some b e (at + 4) y z in (omega arith, λ q. omega arith)
+    go None z m = let s = skip_none b e (at + 4) z in (omega arith, λ q. absurd (q (is_none num_c b e (at + 4) z)))
+    go (Some y) z m = let s = skip_some b e (at + 4) y z in (omega arith, λ q. omega arith)
 
 -- there is none where fewer are left
 pub element_past : (b : List ℕ) (at : ℕ) (r : ElementPlan) → length b < at + 10 → (e : ℕ) (v : ElementPlanIn) → e ≤ length b → Is element_plan_c b e at v → ElementRead b e at v r
@@ -315,7 +313,7 @@ pub element_cut : (b : List ℕ) (at t : ℕ) (r : ElementPlan) → t ≡ get_or
 element_cut b at t r i q h e v m j = absurd (omega (arith, (element_room b e at v j).1 (λ z. q (i ∙ z))))
 
 module _ (b : List ℕ) (at n t : ℕ) (r : ElementPlan) (h : n ≡ le 4 b at) (i : t ≡ get_or b (at + 4) 0) (k : r.element ≡ n) where
-  joined : (e p : ℕ) (v : ElementPlanIn) → Is element_plan_c b e at v → number_of r.component ≡ v.component → skip (opt_c num_c) b (at + 4) e ≡ p → ((w : Value) → Is value_c b e p w → ValueRead b e p w r) → ElementRead b e at v r
+  joined : (e p : ℕ) (v : ElementPlanIn) → Is element_plan_c b e at v → r.component ≡ v.component → skip (opt_c num_c) b (at + 4) e ≡ p → ((w : Value) → Is value_c b e p w → ValueRead b e p w r) → ElementRead b e at v r
   unfolding element_plan_c
   joined e p v j c s f =
       let g : ElementPlanIs b e at v = is_element_plan b e at v j in
@@ -329,21 +327,21 @@ module _ (b : List ℕ) (at n t : ℕ) (r : ElementPlan) (h : n ≡ le 4 b at) (
   element_0 q c f e v m j = go v.component refl (element_behind b e at v j).0
     where
       go : (o : Option ℕ) → v.component ≡ o → Is (opt_c num_c) b e (at + 4) o → ElementRead b e at v r
-      go none p z =
+      go None p z =
           let d : at + 4 + 1 ≡ at + 5 = omega arith in
-          joined e (at + 5) v j (ap number_of c ∙ sym p) (skip_none b e (at + 4) z ∙ d) (λ w. f e w m)
-      go (some x) p z = absurd (omega (arith, (is_some num_c b e (at + 4) x z).0))
+          joined e (at + 5) v j (c ∙ sym p) (skip_none b e (at + 4) z ∙ d) (λ w. f e w m)
+      go (Some x) p z = absurd (omega (arith, (is_some num_c b e (at + 4) x z).0))
 
-  pub element_1 : (t ≡ 0 → ⊥) → (x : ℕ) → x ≡ le 4 b (at + 5) → r.component ≡ IsNumber x → ((e : ℕ) (w : Value) → e ≤ length b → Is value_c b e (at + 9) w → ValueRead b e (at + 9) w r) → (e : ℕ) (v : ElementPlanIn) → e ≤ length b → Is element_plan_c b e at v → ElementRead b e at v r
+  pub element_1 : (t ≡ 0 → ⊥) → (x : ℕ) → x ≡ le 4 b (at + 5) → r.component ≡ Some x → ((e : ℕ) (w : Value) → e ≤ length b → Is value_c b e (at + 9) w → ValueRead b e (at + 9) w r) → (e : ℕ) (v : ElementPlanIn) → e ≤ length b → Is element_plan_c b e at v → ElementRead b e at v r
   element_1 q x a c f e v m j = go v.component refl (element_behind b e at v j).0
     where
       go : (o : Option ℕ) → v.component ≡ o → Is (opt_c num_c) b e (at + 4) o → ElementRead b e at v r
-      go none p z = absurd (q (i ∙ is_none num_c b e (at + 4) z))
-      go (some y) p z =
+      go None p z = absurd (q (i ∙ is_none num_c b e (at + 4) z))
+      go (Some y) p z =
           let d : at + 4 + 5 ≡ at + 9 = omega arith in
           let g : at + 5 ≡ at + 4 + 1 = omega arith in
           let w : x ≡ y = number_is b e (at + 4 + 1) x y (rw g at a) (is_some num_c b e (at + 4) y z).1 in
-          joined e (at + 9) v j (ap number_of c ∙ ap some w ∙ sym p) (skip_some b e (at + 4) y z ∙ d) (λ w. f e w m)
+          joined e (at + 9) v j (c ∙ ap Some w ∙ sym p) (skip_some b e (at + 4) y z ∙ d) (λ w. f e w m)
 
 -- ---- lists whose items are all of one width
 steps_wide : {A : Type 0} (C : Codec A) (w : ℕ) (b : List ℕ) (e : ℕ) → ((at : ℕ) (v : A) → Is C b e at v → skip C b at e ≡ at + w) → (vs : List A) (from : ℕ) → ((j : ℕ) (d : A) → j < length vs → Is C b e (steps C b e j from) (get_or vs j d)) → (d : A) (i : ℕ) → i ≤ length vs → steps C b e i from ≡ from + i * w

@@ -1,7 +1,7 @@
 -- What the answers of the accessors stand for.
 use Rattle.std.specs.Prelude.{ℕ, ◌+◌, ◌≤◌, ◌≡◌, List, length}
 use Rattle.codec.specs.Skip.{skip}
-use Rattle.spec.specs.Answers.{stretch_of, number_of}
+use Rattle.spec.specs.Answers.{stretch_of}
 use Rattle.format.specs.Plan.{Instances as InstancesIn, absent, enveloped, rows_of, inside, groups_of, implied, Source as SourceIn, from_envelope, from_row, from_repeat, Value as ValueIn, from_column, from_group, from_code, value_c, ElementPlan as ElementPlanIn, element_plan_c}
 use Rattle.format.specs.Layout.{Item as ItemIn, segment_item, loop_item}
 use Rattle.plan.specs.declared.answers.Instances.{Instances}
@@ -40,7 +40,7 @@ code_end (Group n) = 0
 code_end (Code s) = s.start + s.len
 
 abbrev pub element_of : List ℕ → ElementPlan → ElementPlanIn
-element_of b r = record { element = r.element; component = number_of r.component; value = value_of b r.value }
+element_of b r = record { element = r.element; component = r.component; value = value_of b r.value }
 
 abbrev pub item_of : Item → ItemIn
 item_of (Segment i) = segment_item i

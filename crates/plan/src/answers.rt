@@ -1,5 +1,5 @@
 // The answers that stand for parts of a plan and of a layout.
-use spec::ids::{LoopId, Number, Stretch, TableId};
+use spec::ids::{LoopId, Stretch, TableId};
 
 // Where the instances of a loop come from.
 #[derive(Clone, Copy)]
@@ -21,6 +21,8 @@ pub enum Source {
 }
 
 // A planned segment: whether the plan has it, what fills it, which occurrence of its loop it is, how many elements it has and from where on they stand.
+// An Option would be no plainer: past the plan's last segment the definitions go by these values all the same (`planned_of`), and three of the four
+// callers take them without asking whether it is there.
 #[derive(Clone, Copy)]
 pub struct Planned {
     pub there: bool,
@@ -42,7 +44,7 @@ pub enum ValueSource {
 #[derive(Clone, Copy)]
 pub struct ElementPlan {
     pub element: u32,
-    pub component: Number,
+    pub component: Option<u32>,
     pub value: ValueSource,
     pub next: usize,
 }

@@ -5,6 +5,8 @@ ghost use Rattle.format.specs.Passed.{Passed};
 ghost use Rattle.plan.specs.Index.{PlanFilled};
 ghost use Rattle.plan.specs.Filling.{PlanLists, PlanInto, LayoutInto};
 
+use codec::{Form, Section};
+use format::{Instances, LoopPlan};
 use spec::region::{Part, list_into};
 
 // Where the 33 numbers of each list begin:
@@ -23,42 +25,37 @@ pub const CAPACITY: usize = 1189;
 pub const SEGMENTS: usize = 1222;
 
 // Stores the place of the plan of loop l and those of its planned segments, if it is among the first 32; answers the place behind it.
-pub fn loop_plan_into(job: &[u8], index: &mut [u16], l: usize, p: usize, end: u32) -> usize
-    requires { end ≤ length job.now }
-    ensures { (start : ℕ) (old : List ℕ) → PlanLists job.now end start l p old index.old → PlanLists job.now end start (l + 1) result old index.new }
+pub fn loop_plan_into(s: Section, index: &mut [u16], l: usize, p: usize) -> usize
+    ensures { (start : ℕ) (old : List ℕ) → PlanLists s.entry.bytes.now s.entry.end start l p old index.old → PlanLists s.entry.bytes.now s.entry.end start (l + 1) result old index.new }
 {
     if l < 32 {
         codec::put(index, PLAN + 1 + l, p);
-        let at = format::instances_at(job, p, end);
-        return list_into(job, index, Part::SegmentPlan, SEGMENTS + l * 33, at, end);
+        let at = Instances::ends_at(s, p);
+        return list_into(s, index, Part::SegmentPlan, SEGMENTS + l * 33, at);
     }
-    format::loop_plan_at(job, p, end)
+    LoopPlan::ends_at(s, p)
 }
 
 // Stores the places of the plan that stands at a place.
-pub fn plan_into(job: &[u8], index: &mut [u16], at: usize, end: u32)
-    requires { end ≤ length job.now }
-    ensures { PlanInto job.now end at index.old index.new }
+pub fn plan_into(s: Section, index: &mut [u16], at: usize)
+    ensures { PlanInto s.entry.bytes.now s.entry.end at index.old index.new }
 {
-    let n = codec::count_at(job, at, end);
-    let mut p = codec::le_at(job, 4, at, end);
-    let mut l: usize = 0;
-    while l < n {
-        p = loop_plan_into(job, index, l, p, end);
-        l = l + 1;
+    let n = s.count_at(at);
+    let mut p = s.le_at(4, at);
+    for l in 0..n {
+        p = loop_plan_into(s, index, l, p);
     }
     codec::put(index, PLAN, at);
 }
 
 // Stores the places of the layout that stands at a place.
-pub fn layout_into(job: &[u8], index: &mut [u16], at: usize, end: u32)
-    requires { end ≤ length job.now }
-    ensures { LayoutInto job.now end at index.old index.new }
+pub fn layout_into(s: Section, index: &mut [u16], at: usize)
+    ensures { LayoutInto s.entry.bytes.now s.entry.end at index.old index.new }
 {
-    let forced = list_into(job, index, Part::Order, ORDER, at, end);
-    let columns = list_into(job, index, Part::Forced, FORCED, forced, end);
-    let depth = list_into(job, index, Part::Columns, COLUMNS, columns, end);
-    let capacity = list_into(job, index, Part::Depth, DEPTH, depth, end);
+    let forced = list_into(s, index, Part::Order, ORDER, at);
+    let columns = list_into(s, index, Part::Forced, FORCED, forced);
+    let depth = list_into(s, index, Part::Columns, COLUMNS, columns);
+    let capacity = list_into(s, index, Part::Depth, DEPTH, depth);
     codec::put(index, CAPACITY, capacity);
 }
 
@@ -71,8 +68,22 @@ pub fn fill(job: &[u8], index: &mut [u16])
     let plan = codec::num(job, t + 4);
     let layout = codec::num(job, t + 8);
     let envelope = codec::num(job, t + 12);
-    plan_into(job, index, plan, layout as u32);
-    layout_into(job, index, layout, envelope as u32);
+    plan_into(
+        Section {
+            bytes: job,
+            end: layout as u32,
+        },
+        index,
+        plan,
+    );
+    layout_into(
+        Section {
+            bytes: job,
+            end: envelope as u32,
+        },
+        index,
+        layout,
+    );
 }
 
 // How many items the list has whose place is number k of the index.

@@ -8,7 +8,7 @@ ghost use Rattle.plan.specs.Index.{inner_count};
 ghost use Rattle.plan.specs.Planned.{unplanned, SegmentRead};
 
 use crate::answers::{ElementPlan, Instances, Item, Planned, Source, ValueSource};
-use spec::ids::{LoopId, Number, Stretch, TableId};
+use spec::ids::{LoopId, Stretch, TableId};
 
 // The instances of the planned loop that stands at a place: the count of its segments is behind them, so that it has five bytes or more.
 pub fn instances_at(job: &[u8], at: usize) -> Instances
@@ -20,22 +20,14 @@ pub fn instances_at(job: &[u8], at: usize) -> Instances
     }
     let t = codec::byte_at(job, at);
     let n = codec::num(job, at + 1);
-    if t == 0 {
-        return Instances::Absent;
+    match t {
+        0 => Instances::Absent,
+        1 => Instances::Envelope,
+        2 => Instances::Rows(TableId(n as u32)),
+        3 => Instances::Inside(TableId(n as u32)),
+        4 => Instances::Groups(TableId(n as u32)),
+        _ => Instances::Implied,
     }
-    if t == 1 {
-        return Instances::Envelope;
-    }
-    if t == 2 {
-        return Instances::Rows(TableId(n as u32));
-    }
-    if t == 3 {
-        return Instances::Inside(TableId(n as u32));
-    }
-    if t == 4 {
-        return Instances::Groups(TableId(n as u32));
-    }
-    Instances::Implied
 }
 
 pub fn source_at(job: &[u8], at: usize) -> Source
@@ -44,13 +36,11 @@ pub fn source_at(job: &[u8], at: usize) -> Source
 {
     let t = codec::byte_at(job, at);
     let n = codec::num(job, at + 1);
-    if t == 0 {
-        return Source::Envelope;
+    match t {
+        0 => Source::Envelope,
+        1 => Source::Row(TableId(n as u32)),
+        _ => Source::Repeat(TableId(n as u32)),
     }
-    if t == 1 {
-        return Source::Row(TableId(n as u32));
-    }
-    Source::Repeat(TableId(n as u32))
 }
 
 // What stands for a planned segment that is not there.
@@ -109,7 +99,7 @@ pub fn segment_at(job: &[u8], at: usize) -> Planned
 }
 
 // The value that stands at a place, as that of an element and component.
-pub fn value_at(job: &[u8], element: u32, component: Number, at: usize) -> ElementPlan
+pub fn value_at(job: &[u8], element: u32, component: Option<u32>, at: usize) -> ElementPlan
     requires { at < 4294967312 }
     ensures { (result.element ≡ element) × (result.component ≡ component) × ((e : ℕ) (v : ValueIn) → e ≤ length job.now → Is value_c job.now e at v → ValueRead job.now e at v result) }
 {
@@ -117,23 +107,23 @@ pub fn value_at(job: &[u8], element: u32, component: Number, at: usize) -> Eleme
     let n = codec::num(job, at + 1);
     if t == 0 {
         return ElementPlan {
-            element: element,
-            component: component,
+            element,
+            component,
             value: ValueSource::Column(n as u32),
             next: at + 5,
         };
     }
     if t == 1 {
         return ElementPlan {
-            element: element,
-            component: component,
+            element,
+            component,
             value: ValueSource::Group(n as u32),
             next: at + 5,
         };
     }
     ElementPlan {
-        element: element,
-        component: component,
+        element,
+        component,
         value: ValueSource::Code(Stretch {
             start: at + 5,
             len: n,
@@ -142,11 +132,12 @@ pub fn value_at(job: &[u8], element: u32, component: Number, at: usize) -> Eleme
     }
 }
 
-// What stands for a planned element that is not there.
+// What stands for a planned element that is not there, as no job that passed lacks one that it counts: an Option would make each caller answer
+// for what can't be.
 fn unplanned_element() -> ElementPlan {
     ElementPlan {
         element: 0,
-        component: Number::None,
+        component: None,
         value: ValueSource::Column(0),
         next: 0,
     }
@@ -163,13 +154,13 @@ pub fn element_at(job: &[u8], at: usize) -> ElementPlan
     let element = codec::num(job, at) as u32;
     let mark = codec::byte_at(job, at + 4);
     if mark == 0 {
-        return value_at(job, element, Number::None, at + 5);
+        return value_at(job, element, None, at + 5);
     }
     if job.len() < at + 14 {
         return unplanned_element();
     }
     let component = codec::num(job, at + 5) as u32;
-    value_at(job, element, Number::Is(component), at + 9)
+    value_at(job, element, Some(component), at + 9)
 }
 
 pub fn item_at(job: &[u8], at: usize) -> Item

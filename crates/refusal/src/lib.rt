@@ -3,12 +3,11 @@
 
 ghost use Rattle.std.specs.Prelude.{◌≡◌};
 ghost use Rattle.format.specs.Refusal.{refusal_of};
-ghost use Rattle.refusal.specs.Answer.{number_of};
+ghost use Rattle.refusal.specs.Answer.{number, number_of};
 
-// Job where there is no refusal from 1 to 5, else what was found.
-#[derive(Clone, Copy)]
-pub enum Checked {
-    Job,
+// What a job is refused for.
+#[derive(Clone, Copy, Debug, PartialEq, Eq)]
+pub enum Refusal {
     Size,
     Structure,
     Limit,
@@ -16,24 +15,38 @@ pub enum Checked {
     Text,
 }
 
-pub fn check(job: &[u8]) -> Checked
+impl Refusal {
+    // Document 01's number.
+    pub fn number(self) -> u32
+        ensures { result ≡ number self }
+    {
+        match self {
+            Refusal::Size => 1,
+            Refusal::Structure => 2,
+            Refusal::Limit => 3,
+            Refusal::Loops => 4,
+            Refusal::Text => 5,
+        }
+    }
+}
+
+pub fn check(job: &[u8]) -> Result<(), Refusal>
     ensures { number_of result ≡ refusal_of job.now }
 {
     if format::broken_at(job) {
-        return Checked::Size;
+        return Err(Refusal::Size);
     }
     if format::spoilt_at(job) {
-        return Checked::Structure;
+        return Err(Refusal::Structure);
     }
-    let parts = limits::over_at(job);
-    if parts.found {
-        return Checked::Limit;
-    }
+    let Some(parts) = limits::over_at(job) else {
+        return Err(Refusal::Limit);
+    };
     if loops::tangled_at(job, parts.roots, parts.tables) {
-        return Checked::Loops;
+        return Err(Refusal::Loops);
     }
     if marks::unfit_at(job) {
-        return Checked::Text;
+        return Err(Refusal::Text);
     }
-    Checked::Job
+    Ok(())
 }

@@ -3,8 +3,8 @@ use Prim.Native.Nat.{ℕ, ◌+◌, ◌≤◌, ◌<◌}
 use mathlib.Core.Path.{◌≡◌, refl, ap, ◌∙◌}
 use mathlib.Core.List.{List, []}
 use mathlib.Core.Bool.{true, false}
-use mathlib.Core.Option.{Option, some}
 use native.Mathlib.Omega.{arith}
+use Rattle.std.specs.Prelude.{Option, Some}
 use lib.ListN.{length, get_or, take}
 use Rattle.lent.specs.Fit.{cap, wide, more, Stored, Noted}
 use Rattle.lent.proofs.Laws.{more_more}
@@ -14,7 +14,7 @@ use Rattle.format.specs.Refusal.{separators, unfit}
 use Rattle.column.specs.Cell.{or_null, cell_of}
 use Rattle.column.specs.declared.Cell.{Cell as CellRead}
 use Rattle.column.specs.Answers.{cell_at, Reads}
-use Rattle.texts.specs.declared.render.Max.{Max}
+use Rattle.texts.specs.Reason.{Width}
 use Rattle.spec.specs.declared.ids.Stretch.{Stretch}
 use Rattle.spec.specs.declared.ids.LoopId.{LoopId}
 use Rattle.spec.specs.declared.ids.TableId.{TableId}
@@ -63,15 +63,15 @@ planned_of_lem b idx l i t k step first count id w e h q x n =
 -- ---- one element
 
 -- a text of its own has no finding but its reason
-pub own_quiet : (b : List ℕ) (c : CellRead) (max : Max) (bs : List ℕ) → unfit (job_of b) ≡ false → bs ≡ separators (job_of b).envelope → is_own c ≡ true → (cell_text (or_null (cell_at b c)) max).reason ≤ 0
+pub own_quiet : (b : List ℕ) (c : CellRead) (max : Width) (bs : List ℕ) → unfit (job_of b) ≡ false → bs ≡ separators (job_of b).envelope → is_own c ≡ true → (cell_text (or_null (cell_at b c)) max).reason ≤ 0
     → (o : Origin) (p : Place) → found_on o p (cell_text (or_null (cell_at b c)) max) bs ≡ []
 own_quiet b c max bs fit q e h o p =
     let x = cell_text (or_null (cell_at b c)) max in
     let z : held_in o p x.text 0 bs ≡ [] = rw q (textual_free (job_of b) fit o p x.text (own_textual b c max e)) in
     none_found o p x.reason x.text bs h z
 
-pub quiet_cell : {c : CellRead} (b id : List ℕ) (e : ℕ) (k : Option ℕ) (t column r : ℕ) (bs : List ℕ) → Reads b c (some (cell_of (data_of (job_of b) t) column r)) → bs ≡ separators (job_of b).envelope
-    → ((o : Origin) (p : Place) (max : Max) → found_on o p (cell_text (or_null (cell_at b c)) max) bs ≡ []) → (put_cell (job_of b) id e k t column r).findings ≡ []
+pub quiet_cell : {c : CellRead} (b id : List ℕ) (e : ℕ) (k : Option ℕ) (t column r : ℕ) (bs : List ℕ) → Reads b c (Some (cell_of (data_of (job_of b) t) column r)) → bs ≡ separators (job_of b).envelope
+    → ((o : Origin) (p : Place) (max : Width) → found_on o p (cell_text (or_null (cell_at b c)) max) bs ≡ []) → (put_cell (job_of b) id e k t column r).findings ≡ []
 unfolding put_cell delimited
 quiet_cell b id e k t column r bs h q f = rw (h.cell, q) at (f (cell t r column) (place_of id e k) (max_in (max_of (job_of b) id e k)))
 

@@ -3,8 +3,8 @@ use Prim.Native.Nat.{ℕ, zero, suc, ◌+◌, ◌-◌, ◌≤◌, ◌<◌}
 use mathlib.Core.Path.{◌≡◌, refl, ap, ◌∙◌}
 use mathlib.Core.Bool.{Bool, true, false}
 use mathlib.Core.List.{List, [], ◌∷◌, ◌++◌}
-use mathlib.Core.Option.{Option, none, some}
 use native.Mathlib.Omega.{arith}
+use Rattle.std.specs.Prelude.{Option, None, Some}
 use lib.Dec.{eqb, ltb}
 use lib.ListN.{get_or, take}
 use borrow.Author.Tests.{eq-eqb, ne_eqb, eqb-true, eqb-false, lt-ltb, le-ltb, ltb-true, ltb-false}
@@ -23,61 +23,61 @@ use Rattle.repeat_segment.proofs.Steps.{take_next, take_end, along_first, row_sn
 use Rattle.repeat_segment.proofs.PlaceLaws.{element_parts}
 
 module _ (p r : ℕ) where
-  pub first_behind : (xs ys : List Part) → first_at p r xs ≡ none → first_at p r (xs ++ ys) ≡ first_at p r ys
+  pub first_behind : (xs ys : List Part) → first_at p r xs ≡ None → first_at p r (xs ++ ys) ≡ first_at p r ys
   unfolding first_at
   first_behind [] ys h = refl
   first_behind (x ∷ xs) ys h = go (stands_at p r x) h (first_behind xs ys)
     where
-      go : (t : Bool) → pick t (some x.text) (first_at p r xs) ≡ none → (first_at p r xs ≡ none → first_at p r (xs ++ ys) ≡ first_at p r ys) → pick t (some x.text) (first_at p r (xs ++ ys)) ≡ first_at p r ys
+      go : (t : Bool) → pick t (Some x.text) (first_at p r xs) ≡ None → (first_at p r xs ≡ None → first_at p r (xs ++ ys) ≡ first_at p r ys) → pick t (Some x.text) (first_at p r (xs ++ ys)) ≡ first_at p r ys
       go true h ih = absurd (let z : ◌≡◌ {A = ℕ} 1 0 = ap (λ (o : Option (List ℕ)). on o (λ x. 1) 0) h in omega arith)
       go false h ih = ih h
 
-  pub first_before : (xs ys : List Part) (text : List ℕ) → first_at p r xs ≡ some text → first_at p r (xs ++ ys) ≡ some text
+  pub first_before : (xs ys : List Part) (text : List ℕ) → first_at p r xs ≡ Some text → first_at p r (xs ++ ys) ≡ Some text
   unfolding first_at
   first_before [] ys text h = absurd (let z : ◌≡◌ {A = ℕ} 0 1 = ap (λ (o : Option (List ℕ)). on o (λ x. 1) 0) h in omega arith)
   first_before (x ∷ xs) ys text h = go (stands_at p r x) h (first_before xs ys text)
     where
-      go : (t : Bool) → pick t (some x.text) (first_at p r xs) ≡ some text → (first_at p r xs ≡ some text → first_at p r (xs ++ ys) ≡ some text) → pick t (some x.text) (first_at p r (xs ++ ys)) ≡ some text
+      go : (t : Bool) → pick t (Some x.text) (first_at p r xs) ≡ Some text → (first_at p r xs ≡ Some text → first_at p r (xs ++ ys) ≡ Some text) → pick t (Some x.text) (first_at p r (xs ++ ys)) ≡ Some text
       go true h ih = h
       go false h ih = ih h
 
   module _ (b : List ℕ) (s : Planned) (k row : ℕ) (x : ElementPlan) where
-    pub element_stands : place_in s.step k x ≡ some p → rank x.component ≡ r → first_at p r (element_put b s k row x).parts ≡ some (text_in b s p row x).text
+    pub element_stands : place_in s.step k x ≡ Some p → rank x.component ≡ r → first_at p r (element_put b s k row x).parts ≡ Some (text_in b s p row x).text
     unfolding first_at stands_at
     element_stands h i = rw (element_parts b s k row x, h, eq-eqb p p refl, eq-eqb (rank x.component) r i) refl
 
-    pub element_elsewhere : (place_in s.step k x ≡ some p → rank x.component ≡ r → ⊥) → first_at p r (element_put b s k row x).parts ≡ none
+    pub element_elsewhere : (place_in s.step k x ≡ Some p → rank x.component ≡ r → ⊥) → first_at p r (element_put b s k row x).parts ≡ None
     unfolding first_at stands_at
     element_elsewhere h = rw (element_parts b s k row x) (go (place_in s.step k x) refl)
       where
-        ranks : (e : ℕ) (t : Bool) → place_in s.step k x ≡ some e → e ≡ p → eqb (rank x.component) r ≡ t → pick t (some (text_in b s e row x).text) none ≡ none
-        ranks e true q z y = absurd (h (q ∙ ap some z) (eqb-true _ _ y))
+        ranks : (e : ℕ) (t : Bool) → place_in s.step k x ≡ Some e → e ≡ p → eqb (rank x.component) r ≡ t → pick t (Some (text_in b s e row x).text) None ≡ None
+        ranks e true q z y = absurd (h (q ∙ ap Some z) (eqb-true _ _ y))
         ranks e false q z y = refl
 
-        places : (e : ℕ) (t : Bool) → place_in s.step k x ≡ some e → eqb e p ≡ t → pick (pick t (eqb (rank x.component) r) false) (some (text_in b s e row x).text) none ≡ none
+        places : (e : ℕ) (t : Bool) → place_in s.step k x ≡ Some e → eqb e p ≡ t → pick (pick t (eqb (rank x.component) r) false) (Some (text_in b s e row x).text) None ≡ None
         places e true q y = ranks e (eqb (rank x.component) r) q (eqb-true _ _ y) refl
         places e false q y = refl
 
-        go : (o : Option ℕ) → place_in s.step k x ≡ o → first_at p r (on o (λ e. part_at e x.component (text_in b s e row x).text ∷ []) []) ≡ none
-        go none q = refl
-        go (some e) q = places e (eqb e p) q refl
+        go : (o : Option ℕ) → place_in s.step k x ≡ o → first_at p r (on o (λ e. part_at e x.component (text_in b s e row x).text ∷ []) []) ≡ None
+        go None q = refl
+        go (Some e) q = places e (eqb e p) q refl
 
   -- ---- rows
 
   module _ (b : List ℕ) (s : Planned) (rows : List ℕ) (xs : List ElementPlan) where
-    pub rows_none : (n k : ℕ) → ((m : ℕ) → k ≤ m → m < k + n → first_at p r (row_puts b s m (get_or rows m 0) xs).parts ≡ none) → first_at p r (parts_from b s rows k n xs) ≡ none
+    pub rows_none : (n k : ℕ) → ((m : ℕ) → k ≤ m → m < k + n → first_at p r (row_puts b s m (get_or rows m 0) xs).parts ≡ None) → first_at p r (parts_from b s rows k n xs) ≡ None
     unfolding parts_from first_at
     rows_none zero k h = refl
     rows_none (suc n) k h = first_behind (row_puts b s k (get_or rows k 0) xs).parts (parts_from b s rows (k + 1) n xs) (h k (omega arith) (omega arith)) ∙ rows_none n (k + 1) (λ m i j. h m (omega arith) (omega arith))
 
-    pub rows_first : (n k row : ℕ) (text : List ℕ) → k ≤ row → row < k + n → ((m : ℕ) → k ≤ m → m < row → first_at p r (row_puts b s m (get_or rows m 0) xs).parts ≡ none)
-        → first_at p r (row_puts b s row (get_or rows row 0) xs).parts ≡ some text → first_at p r (parts_from b s rows k n xs) ≡ some text
+    pub rows_first : (n k row : ℕ) (text : List ℕ) → k ≤ row → row < k + n → ((m : ℕ) → k ≤ m → m < row → first_at p r (row_puts b s m (get_or rows m 0) xs).parts ≡ None)
+        → first_at p r (row_puts b s row (get_or rows row 0) xs).parts ≡ Some text → first_at p r (parts_from b s rows k n xs) ≡ Some text
     unfolding parts_from
     rows_first zero k row text h i f e = absurd (omega arith)
     rows_first (suc n) k row text h i f e = go (eqb k row) refl (λ a c g. rows_first n (k + 1) row text a c g e)
       where
         go : (t : Bool) → eqb k row ≡ t
-            → (k + 1 ≤ row → row < k + 1 + n → ((m : ℕ) → k + 1 ≤ m → m < row → first_at p r (row_puts b s m (get_or rows m 0) xs).parts ≡ none) → first_at p r (parts_from b s rows (k + 1) n xs) ≡ some text) → first_at p r ((row_puts b s k (get_or rows k 0) xs).parts ++ parts_from b s rows (k + 1) n xs) ≡ some text
+            → (k + 1 ≤ row → row < k + 1 + n → ((m : ℕ) → k + 1 ≤ m → m < row → first_at p r (row_puts b s m (get_or rows m 0) xs).parts ≡ None) → first_at p r (parts_from b s rows (k + 1) n xs) ≡ Some text) → first_at p r ((row_puts b s k (get_or rows k 0) xs).parts ++ parts_from b s rows (k + 1) n xs) ≡ Some text
         go true q ih = let z : k ≡ row = eqb-true _ _ q in first_before (row_puts b s k (get_or rows k 0) xs).parts _ text (rw z e)
         go false q ih =
             let z : k ≡ row → ⊥ = eqb-false _ _ q in
@@ -88,8 +88,8 @@ module _ (p r : ℕ) where
 pub record FirstSoFar (b : List ℕ) (s : Planned) (count p r : ℕ) (f : First) (at i : ℕ) : Type 0 where
   pub along : Along b s at i
   pub low : f.row ≤ count
-  pub before : (rows : List ℕ) (m : ℕ) → m < f.row → first_at p r (row_puts b s m (get_or rows m 0) (take i (plans_of b s))).parts ≡ none
-  pub found : (rows : List ℕ) → f.row < count → first_at p r (row_puts b s f.row (get_or rows f.row 0) (take i (plans_of b s))).parts ≡ some (text_in b s p (get_or rows f.row 0) (element_of b f.plan)).text
+  pub before : (rows : List ℕ) (m : ℕ) → m < f.row → first_at p r (row_puts b s m (get_or rows m 0) (take i (plans_of b s))).parts ≡ None
+  pub found : (rows : List ℕ) → f.row < count → first_at p r (row_puts b s f.row (get_or rows f.row 0) (take i (plans_of b s))).parts ≡ Some (text_in b s p (get_or rows f.row 0) (element_of b f.plan)).text
 
 module _ (b : List ℕ) (s : Planned) (o : Of b s) (count p r : ℕ) (c : count ≤ 256) where
   pub first_start : (f : First) → f.row ≡ count → FirstSoFar b s count p r f s.first 0
@@ -126,33 +126,33 @@ module _ (b : List ℕ) (s : Planned) (o : Of b s) (count p r : ℕ) (c : count 
       all : take i (plans_of b s) ≡ plans_of b s
       all = take_end b s o i h
 
-      before : (m : ℕ) → m < f.row → first_at p r (row_puts b s m (get_or rows m 0) (plans_of b s)).parts ≡ none
+      before : (m : ℕ) → m < f.row → first_at p r (row_puts b s m (get_or rows m 0) (plans_of b s)).parts ≡ None
       before m z = rw all at (w.before rows m z)
 
-      go : (t : Bool) → ltb f.row count ≡ t → first_at p r (parts_of b s rows count) ≡ pick t (some (text_in b s p (get_or rows f.row 0) (element_of b f.plan)).text) none
+      go : (t : Bool) → ltb f.row count ≡ t → first_at p r (parts_of b s rows count) ≡ pick t (Some (text_in b s p (get_or rows f.row 0) (element_of b f.plan)).text) None
       go true q = rows_first p r b s rows (plans_of b s) count 0 f.row (text_in b s p (get_or rows f.row 0) (element_of b f.plan)).text (omega arith) (omega (arith, ltb-true f.row count q)) (λ m _ z. before m z) (rw all at (w.found rows (ltb-true f.row count q)))
       go false q = rows_none p r b s rows (plans_of b s) count 0 (λ m _ z. before m (omega (arith, ltb-false f.row count q)))
 
 -- ---- texts
 
-pub found_is : (b : List ℕ) (s : Planned) (rows : List ℕ) (count p : ℕ) (f : First) → f.row < count → found_text b s rows count p f ≡ some (text_in b s p (get_or rows f.row 0) (element_of b f.plan)).text
+pub found_is : (b : List ℕ) (s : Planned) (rows : List ℕ) (count p : ℕ) (f : First) → f.row < count → found_text b s rows count p f ≡ Some (text_in b s p (get_or rows f.row 0) (element_of b f.plan)).text
 found_is b s rows count p f h = rw (lt-ltb f.row count h) refl
 
-pub found_not : (b : List ℕ) (s : Planned) (rows : List ℕ) (count p : ℕ) (f : First) → count ≤ f.row → found_text b s rows count p f ≡ none
+pub found_not : (b : List ℕ) (s : Planned) (rows : List ℕ) (count p : ℕ) (f : First) → count ≤ f.row → found_text b s rows count p f ≡ None
 found_not b s rows count p f h = rw (le-ltb f.row count h) refl
 
 module _ (parts : List Part) (p : ℕ) where
-  pub ranked_is : (r : ℕ) {text : List ℕ} → first_at p r parts ≡ some text → text ≡ or_text (first_at p r parts) []
+  pub ranked_is : (r : ℕ) {text : List ℕ} → first_at p r parts ≡ Some text → text ≡ or_text (first_at p r parts) []
   ranked_is r h = rw h refl
 
-  pub ranked_not : (r : ℕ) → first_at p r parts ≡ none → [] ≡ or_text (first_at p r parts) []
+  pub ranked_not : (r : ℕ) → first_at p r parts ≡ None → [] ≡ or_text (first_at p r parts) []
   ranked_not r h = rw h refl
 
-  pub first_plain : {text : List ℕ} → first_at p 0 parts ≡ some text → text ≡ repeat_text parts p 1
+  pub first_plain : {text : List ℕ} → first_at p 0 parts ≡ Some text → text ≡ repeat_text parts p 1
   unfolding repeat_text
   first_plain h = rw h refl
 
-  pub first_ranked : {text : List ℕ} → first_at p 0 parts ≡ none → text ≡ or_text (first_at p 2 parts) [] → text ≡ repeat_text parts p 1
+  pub first_ranked : {text : List ℕ} → first_at p 0 parts ≡ None → text ≡ or_text (first_at p 2 parts) [] → text ≡ repeat_text parts p 1
   unfolding repeat_text
   first_ranked h e = rw h e
 

@@ -3,9 +3,9 @@ use Prim.Native.Nat.{ℕ, zero, suc, ◌+◌, ◌-◌, ◌≤◌, ◌<◌, max}
 use mathlib.Core.Path.{◌≡◌, refl, sym, ap, ◌∙◌}
 use mathlib.Core.Bool.{Bool, true, false}
 use mathlib.Core.List.{List, [], ◌∷◌, ◌++◌, append_assoc, append-nil}
-use mathlib.Core.Option.{Option, none, some}
 use native.Mathlib.Omega.{arith}
 use native.Mathlib.Nat.{max-zero}
+use Rattle.std.specs.Prelude.{Option, None, Some}
 use lib.ListN.{get_or, take}
 use borrow.Author.Tests.{ne_eqb}
 use Rattle.format.specs.Plan.{ElementPlan}
@@ -24,17 +24,17 @@ use Rattle.repeat_segment.proofs.PlaceLaws.{element_parts, one_row}
 -- ---- one element of one row
 
 module _ (b : List ℕ) (s : Planned) (q : Option ℕ) (k r : ℕ) (x : ElementPlan) where
-  pub high_nowhere : place_in s.step k x ≡ none → 0 ≡ highest (number_by q) (element_put b s k r x).parts
+  pub high_nowhere : place_in s.step k x ≡ None → 0 ≡ highest (number_by q) (element_put b s k r x).parts
   unfolding highest
   high_nowhere h = rw (element_parts b s k r x, h) refl
 
-  pub high_there : (m n : ℕ) → place_in s.step k x ≡ some m → ((text : List ℕ) → n ≡ number_by q (part_at m x.component text))
+  pub high_there : (m n : ℕ) → place_in s.step k x ≡ Some m → ((text : List ℕ) → n ≡ number_by q (part_at m x.component text))
       → pick (is_empty (text_in b s m r x).text) 0 n ≡ highest (number_by q) (element_put b s k r x).parts
   unfolding highest
   high_there m n h e = rw (element_parts b s k r x, h, ← e (text_in b s m r x).text, max-zero (pick (is_empty (text_in b s m r x).text) 0 n)) refl
 
 -- at another element nothing counts
-pub high_elsewhere : (b : List ℕ) (s : Planned) (p k r : ℕ) (x : ElementPlan) → (place_in s.step k x ≡ some p → ⊥) → highest (number_by (some p)) (element_put b s k r x).parts ≡ 0
+pub high_elsewhere : (b : List ℕ) (s : Planned) (p k r : ℕ) (x : ElementPlan) → (place_in s.step k x ≡ Some p → ⊥) → highest (number_by (Some p)) (element_put b s k r x).parts ≡ 0
 unfolding highest
 high_elsewhere b s p k r x h = rw (element_parts b s k r x) (go (place_in s.step k x) refl)
   where
@@ -42,9 +42,9 @@ high_elsewhere b s p k r x h = rw (element_parts b s k r x) (go (place_in s.step
     zeros true = omega arith
     zeros false = omega arith
 
-    go : (o : Option ℕ) → place_in s.step k x ≡ o → highest (number_by (some p)) (on o (λ e. part_at e x.component (text_in b s e r x).text ∷ []) []) ≡ 0
-    go none e = refl
-    go (some m) e = rw (ne_eqb m p (λ z. h (e ∙ ap some z))) (zeros (is_empty (text_in b s m r x).text))
+    go : (o : Option ℕ) → place_in s.step k x ≡ o → highest (number_by (Some p)) (on o (λ e. part_at e x.component (text_in b s e r x).text ∷ []) []) ≡ 0
+    go None e = refl
+    go (Some m) e = rw (ne_eqb m p (λ z. h (e ∙ ap Some z))) (zeros (is_empty (text_in b s m r x).text))
 
 pub filled_none : (text : List ℕ) (n : ℕ) → n ≡ 0 → 0 ≡ pick (is_empty text) 0 n
 filled_none text n h = rw h (go (is_empty text))
@@ -89,19 +89,19 @@ module _ (b : List ℕ) (s : Planned) (rows : List ℕ) where
 
   -- ---- one row at most stands there
 
-  none_stand : (p : ℕ) (x : ElementPlan) (n k : ℕ) → ((m : ℕ) → k ≤ m → m < k + n → place_in s.step m x ≡ some p → ⊥) → highest (number_by (some p)) (parts_from b s rows k n (x ∷ [])) ≡ 0
+  none_stand : (p : ℕ) (x : ElementPlan) (n k : ℕ) → ((m : ℕ) → k ≤ m → m < k + n → place_in s.step m x ≡ Some p → ⊥) → highest (number_by (Some p)) (parts_from b s rows k n (x ∷ [])) ≡ 0
   unfolding parts_from highest
   none_stand p x zero k h = refl
   none_stand p x (suc n) k h =
-      rw (highest_append (number_by (some p)) (row_puts b s k (get_or rows k 0) (x ∷ [])).parts (parts_from b s rows (k + 1) n (x ∷ [])), one_of_row k x, high_elsewhere b s p k (get_or rows k 0) x (h k (omega arith) (omega arith)), none_stand p x n (k + 1) (λ m i j. h m (omega arith) (omega arith))) refl
+      rw (highest_append (number_by (Some p)) (row_puts b s k (get_or rows k 0) (x ∷ [])).parts (parts_from b s rows (k + 1) n (x ∷ [])), one_of_row k x, high_elsewhere b s p k (get_or rows k 0) x (h k (omega arith) (omega arith)), none_stand p x n (k + 1) (λ m i j. h m (omega arith) (omega arith))) refl
 
-  pub high_past : (p : ℕ) (x : ElementPlan) (count k : ℕ) → count ≤ 256 → Lowest s.step p k x → count ≤ k → 0 ≡ highest (number_by (some p)) (parts_from b s rows 0 count (x ∷ []))
+  pub high_past : (p : ℕ) (x : ElementPlan) (count k : ℕ) → count ≤ 256 → Lowest s.step p k x → count ≤ k → 0 ≡ highest (number_by (Some p)) (parts_from b s rows 0 count (x ∷ []))
   high_past p x count k c l h = sym (none_stand p x count 0 (λ m _ z y. l.below m (omega arith) (omega arith) y))
 
-  pub high_one : (p : ℕ) (x : ElementPlan) (count k v : ℕ) → count ≤ 256 → 0 < s.step → Lowest s.step p k x → k < count → v ≡ highest (number_by (some p)) (parts_from b s rows k (k + 1 - k) (x ∷ []))
-      → v ≡ highest (number_by (some p)) (parts_from b s rows 0 count (x ∷ []))
+  pub high_one : (p : ℕ) (x : ElementPlan) (count k v : ℕ) → count ≤ 256 → 0 < s.step → Lowest s.step p k x → k < count → v ≡ highest (number_by (Some p)) (parts_from b s rows k (k + 1 - k) (x ∷ []))
+      → v ≡ highest (number_by (Some p)) (parts_from b s rows 0 count (x ∷ []))
   high_one p x count k v c z l h e =
-      let g = number_by (some p) in
+      let g = number_by (Some p) in
       let n : count ≡ k + (1 + (count - k - 1)) = omega arith in
       let one : k + 1 - k ≡ 1 = omega arith in
       let at : 0 + k ≡ k = omega arith in

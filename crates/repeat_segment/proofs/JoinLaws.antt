@@ -3,8 +3,8 @@ use Prim.Native.Nat.{ℕ, zero, suc, ◌+◌, ◌-◌, ◌≤◌, ◌<◌}
 use mathlib.Core.Path.{◌≡◌, refl, ap, ◌∙◌}
 use mathlib.Core.Bool.{true, false}
 use mathlib.Core.List.{List, [], ◌∷◌, ◌++◌}
-use mathlib.Core.Option.{none, some}
 use native.Mathlib.Omega.{arith}
+use Rattle.std.specs.Prelude.{None, Some}
 use lib.ListN.{length, get_or, take, drop}
 use lib.Seq.{drop-cons}
 use Rattle.lent.specs.Fit.{cap, stretch, Stored}
@@ -33,35 +33,35 @@ use Rattle.segment.proofs.Runs.{repeat_run_stored, stuck_run_stored}
 -- ---- the components of an element, as far as they are written
 
 abbrev pub GroupSoFar : Separators → ℕ → (ℕ → List ℕ) → ℕ → Pen → List ℕ → ℕ → Pen → List ℕ → Type 0
-GroupSoFar s k f p pen d c t d₁ = (c ≤ k) × (length d₁ ≡ length d) × ((r : Pen) (d₂ : List ℕ) → Group s k f p (c + 1) t d₁ r d₂ → Group s k f p 1 pen d r d₂)
+GroupSoFar s k f p pen d c t d₁ = (c ≤ k + 1) × (length d₁ ≡ length d) × ((r : Pen) (d₂ : List ℕ) → Group s k f p c t d₁ r d₂ → Group s k f p 1 pen d r d₂)
 
 module _ {s : Separators} {k : ℕ} {f : ℕ → List ℕ} {p : ℕ} {pen : Pen} {d : List ℕ} where
-  pub group_start : GroupSoFar s k f p pen d 0 pen d
+  pub group_start : GroupSoFar s k f p pen d 1 pen d
   group_start = (omega arith, refl, λ r d₂ g. g)
 
-  pub group_next : {c : ℕ} {t u : Pen} {d₁ d₂ text : List ℕ} → c < k → GroupSoFar s k f p pen d c t d₁ → text ≡ f (c + 1) → Penned (placed s t p (c + 1) text) t.at u d₁ d₂ → GroupSoFar s k f p pen d (c + 1) u d₂
+  pub group_next : {c : ℕ} {t u : Pen} {d₁ d₂ text : List ℕ} → c ≤ k → GroupSoFar s k f p pen d c t d₁ → text ≡ f c → Penned (placed s t p c text) t.at u d₁ d₂ → GroupSoFar s k f p pen d (c + 1) u d₂
   group_next h w e q = (omega arith, stored_length _ q.stored ∙ w.1, λ r d₃ g. w.2 r d₃ (next (omega arith) (rw e at q) g))
 
-  pub group_end : {c : ℕ} {t u : Pen} {d₁ d₂ : List ℕ} → k ≤ c → GroupSoFar s k f p pen d c t d₁ → Penned (finished s t p k) t.at u d₁ d₂ → Group s k f p 1 pen d u d₂
+  pub group_end : {c : ℕ} {t u : Pen} {d₁ d₂ : List ℕ} → k < c → GroupSoFar s k f p pen d c t d₁ → Penned (finished s t p k) t.at u d₁ d₂ → Group s k f p 1 pen d u d₂
   group_end {u = u} {d₂ = d₂} h w q = w.2 u d₂ (finish (omega (arith, w.0)) q)
 
 -- ---- the elements
 
 abbrev pub RepeatSoFar : Separators → ℕ → List Part → Pen → List ℕ → ℕ → Pen → List ℕ → Type 0
-RepeatSoFar s last parts pen d p t d₁ = (p ≤ last) × (length d₁ ≡ length d) × ((e : ℕ) (d₂ : List ℕ) → Repeat s last parts (p + 1) t d₁ e d₂ → Repeat s last parts 1 pen d e d₂)
+RepeatSoFar s last parts pen d p t d₁ = (p ≤ last + 1) × (length d₁ ≡ length d) × ((e : ℕ) (d₂ : List ℕ) → Repeat s last parts p t d₁ e d₂ → Repeat s last parts 1 pen d e d₂)
 
 module _ {s : Separators} {last : ℕ} {parts : List Part} {pen : Pen} {d : List ℕ} where
-  pub repeat_start : RepeatSoFar s last parts pen d 0 pen d
+  pub repeat_start : RepeatSoFar s last parts pen d 1 pen d
   repeat_start = (omega arith, refl, λ e d₂ g. g)
 
-  pub repeat_next : {p : ℕ} {t u : Pen} {d₁ d₂ : List ℕ} → p < last → RepeatSoFar s last parts pen d p t d₁ → Group s (last_component_at (p + 1) parts) (repeat_text parts (p + 1)) (p + 1) 1 t d₁ u d₂
+  pub repeat_next : {p : ℕ} {t u : Pen} {d₁ d₂ : List ℕ} → p ≤ last → RepeatSoFar s last parts pen d p t d₁ → Group s (last_component_at p parts) (repeat_text parts p) p 1 t d₁ u d₂
       → length d₂ ≡ length d₁ → RepeatSoFar s last parts pen d (p + 1) u d₂
   repeat_next h w g l = (omega arith, l ∙ w.1, λ e d₃ q. w.2 e d₃ (position (omega arith) g q))
 
-  pub repeat_end : {p e : ℕ} {t : Pen} {d₁ d₂ : List ℕ} → last ≤ p → RepeatSoFar s last parts pen d p t d₁ → Stored d₁ t.at (closing s t last) e d₂ → Repeat s last parts 1 pen d e d₂
+  pub repeat_end : {p e : ℕ} {t : Pen} {d₁ d₂ : List ℕ} → last < p → RepeatSoFar s last parts pen d p t d₁ → Stored d₁ t.at (closing s t last) e d₂ → Repeat s last parts 1 pen d e d₂
   repeat_end {e = e} {d₂ = d₂} h w q = w.2 e d₂ (ended (omega arith) q)
 
-pub component_last : {n : ℕ} (p : ℕ) (parts : List Part) → n ≡ highest (number_by (some p)) parts → n ≡ last_component_at p parts
+pub component_last : {n : ℕ} (p : ℕ) (parts : List Part) → n ≡ highest (number_by (Some p)) parts → n ≡ last_component_at p parts
 unfolding last_component_at
 component_last p parts h = h
 
@@ -87,7 +87,7 @@ pub named : {d d₁ : List ℕ} {at : ℕ} {pen : Pen} (b : List ℕ) (s : Plann
 unfolding stretch_of
 named b s o w = rw o.id.bytes at w
 
-module _ {d d₁ : List ℕ} {at last : ℕ} {pen : Pen} (sep : Separators) (b : List ℕ) (s : Planned) (o : Of b s) (parts : List Part) (fits : length d ≤ cap) (l : last ≡ highest (number_by none) parts)
+module _ {d d₁ : List ℕ} {at last : ℕ} {pen : Pen} (sep : Separators) (b : List ℕ) (s : Planned) (o : Of b s) (parts : List Part) (fits : length d ≤ cap) (l : last ≡ highest (number_by None) parts)
     (w : Penned (opened (stretch b s.id.start s.id.len)) at pen d d₁) where
   pub chunk_run : {d₂ : List ℕ} {e : ℕ} → zero_free parts ≡ true → Repeat sep last parts 1 pen d₁ e d₂ → Stored d at (joined sep (id_of b s) (sorted parts)) e d₂
   chunk_run f q = repeat_run_stored sep (id_of b s) parts fits f (named b s o w) (rw l at q)
@@ -95,7 +95,7 @@ module _ {d d₁ : List ℕ} {at last : ℕ} {pen : Pen} (sep : Separators) (b :
   pub chunk_stuck : {d₂ : List ℕ} {e : ℕ} → zero_free parts ≡ false → Stored d₁ pen.at (closing sep pen last) e d₂ → Stored d at (joined sep (id_of b s) (sorted parts)) e d₂
   chunk_stuck f q = stuck_run_stored sep (id_of b s) parts fits f (named b s o w) (rw l at q)
 
-pub source_first : (t r count : ℕ) (rows : List ℕ) → (count ≡ 0 → ⊥) → count ≤ length rows → r ≡ get_or rows 0 0 → some (t, r) ≡ first_row t (take count rows)
+pub source_first : (t r count : ℕ) (rows : List ℕ) → (count ≡ 0 → ⊥) → count ≤ length rows → r ≡ get_or rows 0 0 → Some (t, r) ≡ first_row t (take count rows)
 source_first t r zero rows h i e = absurd (h refl)
 source_first t r (suc count) [] h i e = absurd (omega arith)
 source_first t r (suc count) (x ∷ rows) h i e = rw e refl

@@ -3,8 +3,8 @@ use Prim.Native.Nat.{ℕ, ◌≤◌, ◌<◌}
 use mathlib.Core.Path.{◌≡◌, refl}
 use mathlib.Core.Bool.{Bool, true, false}
 use mathlib.Core.List.{List}
-use mathlib.Core.Option.{Option, none, some}
 use native.Mathlib.Omega.{arith}
+use Rattle.std.specs.Prelude.{Option, None, Some}
 use lib.ListN.{length, get_or, get_or-eq_default}
 use lib.Dec.{ltb}
 use borrow.Author.Tests.{ltb-true, ltb-false}
@@ -54,5 +54,5 @@ module _ (b : List ℕ) (w : Passed b) where
   step_small t = go (table_of (job_of b) t).repeat (table_small t)
     where
       go : (r : Option Repeat) → if_some over_step r ≡ false → on r (λ (x : Repeat). x.step) 0 ≤ 255
-      go none h = omega arith
-      go (some x) h = ltb-false _ _ h
+      go None h = omega arith
+      go (Some x) h = ltb-false _ _ h

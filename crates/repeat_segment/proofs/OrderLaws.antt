@@ -2,8 +2,8 @@
 use Prim.Native.Nat.{ℕ, ◌+◌, ◌≤◌, ◌<◌}
 use mathlib.Core.Path.{◌≡◌, refl, ap, ◌∙◌}
 use mathlib.Core.List.{List, [], ◌∷◌, ◌++◌, append-nil}
-use mathlib.Core.Option.{none, some}
 use native.Mathlib.Omega.{arith}
+use Rattle.std.specs.Prelude.{None, Some, Option}
 use lib.ListN.{length, get_or, take}
 use borrow.Author.Tests.{ne_eqb, lt-ltb}
 use Rattle.lent.specs.Fit.{cap, stretch, Stored}
@@ -15,9 +15,6 @@ use Rattle.segment.specs.Parts.{Part, component_of, insert, sorted, joined}
 use Rattle.segment.specs.Pen.{placed, opened, closing, Penned}
 use Rattle.segment.specs.Calls as Calls
 use Rattle.segment.proofs.Fed.{fed_stored}
-use Rattle.spec.specs.declared.ids.Number.{Number}
-use Rattle.spec.specs.declared.ids.Number.TheVariants.{Is}
-use Rattle.spec.specs.Answers.{number_of}
 use Rattle.plan.specs.declared.answers.ElementPlan.{ElementPlan as Element}
 use Rattle.plan.specs.Answers.{element_of}
 use Rattle.texts.specs.declared.Text.{Text}
@@ -50,16 +47,16 @@ fed_length (part w f) = fed_length f ∙ stored_length _ w.stored
 -- ---- one planned element
 
 module _ (b : List ℕ) (s : Planned) (k r : ℕ) (x : ElementPlan) where
-  pub rises_nowhere : (q : ℕ) → place_in s.step k x ≡ none → Rises q (element_put b s k r x).parts q
+  pub rises_nowhere : (q : ℕ) → place_in s.step k x ≡ None → Rises q (element_put b s k r x).parts q
   rises_nowhere q h = rw (element_parts b s k r x, h) refl
 
-  pub rises_there : (q m : ℕ) → place_in s.step k x ≡ some m → q < m → x.component ≡ none → Rises q (element_put b s k r x).parts m
+  pub rises_there : (q m : ℕ) → place_in s.step k x ≡ Some m → q < m → x.component ≡ None → Rises q (element_put b s k r x).parts m
   rises_there q m h i c = rw (element_parts b s k r x, h) (i, c, refl)
 
-  pub fed_nowhere : {sep : Separators} {pen : Pen} {d : List ℕ} → place_in s.step k x ≡ none → Fed sep (element_put b s k r x).parts pen d pen d
+  pub fed_nowhere : {sep : Separators} {pen : Pen} {d : List ℕ} → place_in s.step k x ≡ None → Fed sep (element_put b s k r x).parts pen d pen d
   fed_nowhere h = rw (element_parts b s k r x, h) done
 
-  pub fed_there : {sep : Separators} {pen t : Pen} {d d₁ : List ℕ} (m : ℕ) → place_in s.step k x ≡ some m
+  pub fed_there : {sep : Separators} {pen t : Pen} {d d₁ : List ℕ} (m : ℕ) → place_in s.step k x ≡ Some m
       → Penned (placed sep pen m 1 (text_in b s m r x).text) pen.at t d d₁ → Fed sep (element_put b s k r x).parts pen d t d₁
   fed_there m h w = rw (element_parts b s k r x, h) (part w done)
 
@@ -88,8 +85,8 @@ module _ (b : List ℕ) (s : Planned) (o : Of b s) (k : ℕ) where
   pub rises_start : (from : ℕ) → RisesSoFar b s k from from s.first 0
   rises_start from = record { along = along_first b s o; rises = λ row. rw (no_parts row) refl }
 
-  pub rises_next : {from last at i m : ℕ} (e : Element) (n : Number) → n ≡ Is m → i < s.count → RisesSoFar b s k from last at i → Read b s i e
-      → ((row : ℕ) → Ends last (element_put b s k row (element_of b e)).parts (number_of n)) → RisesSoFar b s k from m e.next (i + 1)
+  pub rises_next : {from last at i m : ℕ} (e : Element) (n : Option ℕ) → n ≡ Some m → i < s.count → RisesSoFar b s k from last at i → Read b s i e
+      → ((row : ℕ) → Ends last (element_put b s k row (element_of b e)).parts n) → RisesSoFar b s k from m e.next (i + 1)
   rises_next {from} {last} {at} {i} {m} e n z h w q f = record {
     along = q.along;
     rises = λ row.
@@ -142,7 +139,7 @@ module _ (b : List ℕ) (s : Planned) (count : ℕ) where
   pub ordered_start : OrderedSoFar b s count 0 0
   ordered_start = record { within = omega arith; rises = λ rows. rw (no_rows b s rows (plans_of b s)) refl }
 
-  pub ordered_next : {last k m : ℕ} (n : Number) → n ≡ Is m → k < count → OrderedSoFar b s count last k → ((row : ℕ) → Ends last (row_puts b s k row (plans_of b s)).parts (number_of n)) → OrderedSoFar b s count m (k + 1)
+  pub ordered_next : {last k m : ℕ} (n : Option ℕ) → n ≡ Some m → k < count → OrderedSoFar b s count last k → ((row : ℕ) → Ends last (row_puts b s k row (plans_of b s)).parts n) → OrderedSoFar b s count m (k + 1)
   ordered_next {last} {k} {m} n e h w f = record {
     within = omega arith;
     rises = λ rows.
@@ -181,7 +178,7 @@ sorted_rising q l (x ∷ xs) h = rw (sorted_rising x.element l xs h.2) (insert_f
 
 -- ---- plain parts that rise come in the order of their places
 
-one_place : (x : Part) → x.component ≡ none → component_of x ≡ 1
+one_place : (x : Part) → x.component ≡ None → component_of x ≡ 1
 one_place x e = rw e
 
 rises_behind : (q c l : ℕ) (xs : List Part) → Rises q xs l → Calls.Rises q c xs

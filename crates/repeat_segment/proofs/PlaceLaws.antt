@@ -3,15 +3,15 @@ use Prim.Native.Nat.{ℕ, ◌+◌, ◌*◌, ◌-◌, ◌/◌, ◌%◌, ◌≤◌
 use mathlib.Core.Path.{◌≡◌, refl, sym, ap, ◌∙◌}
 use mathlib.Core.Bool.{Bool, true, false}
 use mathlib.Core.List.{List, [], ◌∷◌}
-use mathlib.Core.Option.{Option, none, some}
 use native.Mathlib.Omega.{arith}
 use native.Mathlib.Nat.{mul-le-mul_left, mul-lt-mul_of_pos_right, mul_comm, mul-zero, mod-add-div, mul-mod_left, eq_of_mul-eq-mul_right}
+use Rattle.std.specs.Prelude.{Option, None, Some}
 use lib.Dec.{eqb}
 use borrow.Author.Tests.{eqb-true}
 use Rattle.format.specs.Plan.{Value, from_column, from_group, from_code, ElementPlan}
 use Rattle.segment.specs.Parts.{Part, pick}
 use Rattle.spec.specs.declared.ids.Stretch.{Stretch}
-use Rattle.spec.specs.Answers.{stretch_of, number_of}
+use Rattle.spec.specs.Answers.{stretch_of}
 use Rattle.format.specs.Sections.{job_of}
 use Rattle.format.specs.Ask.{on}
 use Rattle.texts.specs.Reason.{Outcome, gives}
@@ -58,30 +58,30 @@ module _ (element step p : ℕ) where
 
 -- ---- places
 
-pub some_is : {a b : ℕ} → ◌≡◌ {A = Option ℕ} (some a) (some b) → a ≡ b
+pub some_is : {a b : ℕ} → ◌≡◌ {A = Option ℕ} (Some a) (Some b) → a ≡ b
 some_is {a} {b} e = ap (λ (o : Option ℕ). on o (λ x. x) 0) e
 
-pub none_isn't : {b : ℕ} → ◌≡◌ {A = Option ℕ} none (some b) → ⊥
+pub none_isn't : {b : ℕ} → ◌≡◌ {A = Option ℕ} None (Some b) → ⊥
 none_isn't {b} e = let z : ◌≡◌ {A = ℕ} 0 1 = ap (λ (o : Option ℕ). on o (λ x. 1) 0) e in omega arith
 
 -- only the first row's place
-once : (k e p : ℕ) → pick (eqb k 0) (some e) none ≡ some p → (k ≡ 0) × (e ≡ p)
+once : (k e p : ℕ) → pick (eqb k 0) (Some e) None ≡ Some p → (k ≡ 0) × (e ≡ p)
 once k e p h = go (eqb k 0) refl h
   where
-    go : (t : Bool) → eqb k 0 ≡ t → pick t (some e) none ≡ some p → (k ≡ 0) × (e ≡ p)
+    go : (t : Bool) → eqb k 0 ≡ t → pick t (Some e) None ≡ Some p → (k ≡ 0) × (e ≡ p)
     go true q r = (eqb-true _ _ q, some_is r)
     go false q r = absurd (none_isn't r)
 
 module _ (b : List ℕ) (e : Element) (step : ℕ) where
-  pub place_column : (k n : ℕ) (o : Option ℕ) → e.value ≡ Column n → o ≡ pick (eqb k 0) (some e.element) none → o ≡ place_in step k (element_of b e)
+  pub place_column : (k n : ℕ) (o : Option ℕ) → e.value ≡ Column n → o ≡ pick (eqb k 0) (Some e.element) None → o ≡ place_in step k (element_of b e)
   unfolding place_in
   place_column k n o h q = rw h q
 
-  pub place_group : (k n m : ℕ) → e.value ≡ Group n → m ≡ e.element + k * step → some m ≡ place_in step k (element_of b e)
+  pub place_group : (k n m : ℕ) → e.value ≡ Group n → m ≡ e.element + k * step → Some m ≡ place_in step k (element_of b e)
   unfolding place_in
   place_group k n m h q = rw (h, q) refl
 
-  pub place_code : (k : ℕ) (s : Stretch) (o : Option ℕ) → e.value ≡ Code s → o ≡ pick (eqb k 0) (some e.element) none → o ≡ place_in step k (element_of b e)
+  pub place_code : (k : ℕ) (s : Stretch) (o : Option ℕ) → e.value ≡ Code s → o ≡ pick (eqb k 0) (Some e.element) None → o ≡ place_in step k (element_of b e)
   unfolding place_in
   place_code k s o h q = rw h q
 
@@ -90,10 +90,10 @@ module _ (b : List ℕ) (e : Element) (step : ℕ) where
     unfolding place_in
     lowest_here h = record { stands = λ _. go (element_of b e).value; below = λ m q. absurd (omega arith) }
       where
-        go : (v : Value) → place_by step 0 e.element v ≡ some p
-        go (from_column c) = ap some h
-        go (from_group c) = ap some (omega arith)
-        go (from_code t) = ap some h
+        go : (v : Value) → place_by step 0 e.element v ≡ Some p
+        go (from_column c) = ap Some h
+        go (from_group c) = ap Some (omega arith)
+        go (from_code t) = ap Some h
 
     pub lowest_column : (n : ℕ) → e.value ≡ Column n → (e.element ≡ p → ⊥) → Lowest step p 256 (element_of b e)
     unfolding place_in
@@ -106,32 +106,32 @@ module _ (b : List ℕ) (e : Element) (step : ℕ) where
     pub lowest_group : (n r : ℕ) → e.value ≡ Group n → (e.element ≡ p → ⊥) → (r < 256 → e.element + r * step ≡ p) × ((m : ℕ) → m < r → e.element + m * step ≡ p → e.element ≡ p)
         → Lowest step p r (element_of b e)
     unfolding place_in
-    lowest_group n r h q x = record { stands = λ z. rw h (ap some (x.0 z)); below = λ m i _ y. q (x.1 m i (some_is (rw h at y))) }
+    lowest_group n r h q x = record { stands = λ z. rw h (ap Some (x.0 z)); below = λ m i _ y. q (x.1 m i (some_is (rw h at y))) }
 
 -- with a step an element stands at p for one row at most
-pub one_row : (step k m p : ℕ) (x : ElementPlan) → 0 < step → place_in step k x ≡ some p → place_in step m x ≡ some p → m ≡ k
+pub one_row : (step k m p : ℕ) (x : ElementPlan) → 0 < step → place_in step k x ≡ Some p → place_in step m x ≡ Some p → m ≡ k
 unfolding place_in
 one_row step k m p x h i j = go x.value i j
   where
-    go : (v : Value) → place_by step k x.element v ≡ some p → place_by step m x.element v ≡ some p → m ≡ k
+    go : (v : Value) → place_by step k x.element v ≡ Some p → place_by step m x.element v ≡ Some p → m ≡ k
     go (from_column c) y z = (once m _ p z).0 ∙ sym (once k _ p y).0
     go (from_group c) y z = let e : m * step ≡ k * step = omega (arith, some_is y, some_is z) in eq_of_mul-eq-mul_right step h m k e
     go (from_code t) y z = (once m _ p z).0 ∙ sym (once k _ p y).0
 
-pub place_first : (step : ℕ) (x : ElementPlan) → place_in step 0 x ≡ some x.element
+pub place_first : (step : ℕ) (x : ElementPlan) → place_in step 0 x ≡ Some x.element
 unfolding place_in
 place_first step x = go x.value
   where
-    go : (v : Value) → place_by step 0 x.element v ≡ some x.element
+    go : (v : Value) → place_by step 0 x.element v ≡ Some x.element
     go (from_column c) = refl
-    go (from_group c) = ap some (omega arith)
+    go (from_group c) = ap Some (omega arith)
     go (from_code t) = refl
 
-pub place_behind : (step k m : ℕ) (x : ElementPlan) → place_in step k x ≡ some m → x.element ≤ m
+pub place_behind : (step k m : ℕ) (x : ElementPlan) → place_in step k x ≡ Some m → x.element ≤ m
 unfolding place_in
 place_behind step k m x h = go x.value h
   where
-    go : (v : Value) → place_by step k x.element v ≡ some m → x.element ≤ m
+    go : (v : Value) → place_by step k x.element v ≡ Some m → x.element ≤ m
     go (from_column c) y = omega (arith, (once k _ m y).1)
     go (from_group c) y = omega (arith, some_is y)
     go (from_code t) y = omega (arith, (once k _ m y).1)
@@ -147,20 +147,20 @@ put_from b s p c r (Cell n) = put_cell (job_of b) (id_of b s) p c s.table.0 n r
 put_from b s p c r (OfCode code) = put_text p c (stretch_of b code)
 
 module _ (b : List ℕ) (s : Planned) (e : Element) (p r : ℕ) where
-  pub text_source : text_in b s p r (element_of b e) ≡ text_from b s p (number_of e.component) r (source_in e.value)
+  pub text_source : text_in b s p r (element_of b e) ≡ text_from b s p e.component r (source_in e.value)
   unfolding text_in
   text_source = go e.value
     where
-      go : (v : ValueSource) → text_by (job_of b) (id_of b s) s.table.0 p (number_of e.component) r (value_of b v) ≡ text_from b s p (number_of e.component) r (source_in v)
+      go : (v : ValueSource) → text_by (job_of b) (id_of b s) s.table.0 p e.component r (value_of b v) ≡ text_from b s p e.component r (source_in v)
       go (Column n) = refl
       go (Group n) = refl
       go (Code c) = refl
 
-  pub put_source : put_at b s p r (element_of b e) ≡ put_from b s p (number_of e.component) r (source_in e.value)
+  pub put_source : put_at b s p r (element_of b e) ≡ put_from b s p e.component r (source_in e.value)
   unfolding put_at
   put_source = go e.value
     where
-      go : (v : ValueSource) → put_by (job_of b) (id_of b s) s.table.0 p (number_of e.component) r (value_of b v) ≡ put_from b s p (number_of e.component) r (source_in v)
+      go : (v : ValueSource) → put_by (job_of b) (id_of b s) s.table.0 p e.component r (value_of b v) ≡ put_from b s p e.component r (source_in v)
       go (Column n) = refl
       go (Group n) = refl
       go (Code c) = refl
@@ -169,7 +169,7 @@ module _ (b : List ℕ) (s : Planned) (e : Element) (p r : ℕ) where
   unfolding put_cell
   put_entries = go (source_in e.value) ∙ sym (ap (λ (w : Put). w.entries) put_source)
     where
-      go : (x : Source) → entries_in x ≡ (put_from b s p (number_of e.component) r x).entries
+      go : (x : Source) → entries_in x ≡ (put_from b s p e.component r x).entries
       go (Cell n) = refl
       go (OfCode c) = refl
 
@@ -180,7 +180,7 @@ pub element_put_lem : (b : List ℕ) (s : Planned) (k r : ℕ) (x : ElementPlan)
 unfolding element_put place_in put_at
 element_put_lem b s k r x = go x.value
   where
-    picked : (t : Bool) (e : ℕ) (f : ℕ → Put) → pick t (f e) nothing ≡ on (pick t (some e) none) f nothing
+    picked : (t : Bool) (e : ℕ) (f : ℕ → Put) → pick t (f e) nothing ≡ on (pick t (Some e) None) f nothing
     picked true e f = refl
     picked false e f = refl
 
@@ -191,10 +191,10 @@ element_put_lem b s k r x = go x.value
     go (from_code t) = picked (eqb k 0) x.element (λ e. put_text e x.component t)
 
 module _ (b : List ℕ) (s : Planned) (k r : ℕ) (x : ElementPlan) where
-  pub put_nowhere : place_in s.step k x ≡ none → element_put b s k r x ≡ nothing
+  pub put_nowhere : place_in s.step k x ≡ None → element_put b s k r x ≡ nothing
   put_nowhere h = element_put_lem b s k r x ∙ rw h refl
 
-  pub put_there : (p : ℕ) → place_in s.step k x ≡ some p → element_put b s k r x ≡ put_at b s p r x
+  pub put_there : (p : ℕ) → place_in s.step k x ≡ Some p → element_put b s k r x ≡ put_at b s p r x
   put_there p h = element_put_lem b s k r x ∙ rw h refl
 
 -- the part that an element puts, if it has a place
@@ -210,5 +210,5 @@ element_parts b s k r x = ap (λ (p : Put). p.parts) (element_put_lem b s k r x)
     part e (from_code t) = refl
 
     go : (o : Option ℕ) → (on o (λ e. put_at b s e r x) nothing).parts ≡ on o (λ e. part_at e x.component (text_in b s e r x).text ∷ []) []
-    go none = refl
-    go (some e) = part e x.value
+    go None = refl
+    go (Some e) = part e x.value

@@ -3,8 +3,8 @@ use Prim.Native.Nat.{ℕ, zero, suc, ◌+◌, ◌≤◌, ◌<◌}
 use mathlib.Core.Path.{◌≡◌, refl, sym, ap, ◌∙◌}
 use mathlib.Core.Bool.{Bool, true, false}
 use mathlib.Core.List.{List, [], ◌∷◌, ◌++◌}
-use mathlib.Core.Option.{Option, none, some}
 use native.Mathlib.Omega.{arith}
+use Rattle.std.specs.Prelude.{Option, None, Some}
 use lib.Dec.{ltb}
 use lib.ListN.{length, get_or, take}
 use borrow.Author.Tests.{lt-ltb, le-ltb, ltb-true}
@@ -49,8 +49,8 @@ module _ (b : List ℕ) (s : Planned) where
   element_later k r x h = rw (element_parts b s k r x) (go (place_in s.step k x) refl)
     where
       go : (o : Option ℕ) → place_in s.step k x ≡ o → zero_free (on o (λ e. part_at e x.component (text_in b s e r x).text ∷ []) []) ≡ true
-      go none e = refl
-      go (some m) e = let q = place_behind s.step k m x e in rw (lt-ltb 0 m (omega arith)) refl
+      go None e = refl
+      go (Some m) e = let q = place_behind s.step k m x e in rw (lt-ltb 0 m (omega arith)) refl
 
   row_first : (r : ℕ) (xs : List ElementPlan) → zero_free (row_puts b s 0 r xs).parts ≡ all_above xs
   unfolding row_puts chunk_put zero_free all_above

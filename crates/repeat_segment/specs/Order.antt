@@ -1,6 +1,5 @@
 -- Parts that are plain and come in the order of their places, and the calls that write them as they come.
-use Rattle.std.specs.Prelude.{ℕ, ◌<◌, ◌≡◌, List, [], ◌∷◌}
-use Rattle.std.proofs.Math.Option.{Option, none, some}
+use Rattle.std.specs.Prelude.{ℕ, ◌<◌, ◌≡◌, List, [], ◌∷◌, Option, None, Some}
 use Rattle.segment.specs.declared.Separators.{Separators}
 use Rattle.segment.specs.declared.Pen.{Pen}
 use Rattle.segment.specs.Parts.{Part}
@@ -9,12 +8,12 @@ use Rattle.segment.specs.Pen.{placed, Penned}
 -- all parts are plain, each is at an element behind the one before it, the first behind element q; the last is at element l
 abbrev pub Rises : ℕ → List Part → ℕ → Type 0
 Rises q [] l = q ≡ l
-Rises q (x ∷ xs) l = (q < x.element) × (x.component ≡ none) × Rises x.element xs l
+Rises q (x ∷ xs) l = (q < x.element) × (x.component ≡ None) × Rises x.element xs l
 
 -- where an element is told, it is the last
 abbrev pub Ends : ℕ → List Part → Option ℕ → Type 0
-Ends q parts none = Unit {0}
-Ends q parts (some l) = Rises q parts l
+Ends q parts None = Unit {0}
+Ends q parts (Some l) = Rises q parts l
 
 pub record Ordered (parts : List Part) : Type 0 where
   pub last : ℕ

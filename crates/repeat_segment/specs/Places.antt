@@ -1,14 +1,11 @@
 -- Where a planned element of a repeat segment puts its text for a row, and which text (emit's `chunk_value`, taken apart).
-use Rattle.std.specs.Prelude.{ℕ, zero, suc, ◌+◌, ◌*◌, ◌<◌, ◌≡◌, List, [], ◌∷◌, ◌++◌, Bool, true, false, eqb, ltb, get_or}
-use Rattle.std.proofs.Math.Option.{Option, none, some}
+use Rattle.std.specs.Prelude.{ℕ, zero, suc, ◌+◌, ◌*◌, ◌<◌, ◌≡◌, List, [], ◌∷◌, ◌++◌, Bool, true, false, eqb, ltb, get_or, Option, None, Some}
 use Rattle.format.specs.Plan.{Value, from_column, from_group, from_code, ElementPlan}
 use Rattle.format.specs.Job.{Job}
 use Rattle.format.specs.Sections.{job_of}
 use Rattle.texts.specs.Reason.{Outcome, gives}
 use Rattle.segment.specs.Parts.{Part, pick, rank}
 use Rattle.segment.specs.Calls.{component_in}
-use Rattle.spec.specs.declared.ids.Number.{Number}
-use Rattle.spec.specs.Answers.{number_of}
 use Rattle.plan.specs.declared.answers.ElementPlan.{ElementPlan as Element}
 use Rattle.plan.specs.Answers.{element_of}
 use Rattle.plan.specs.declared.answers.ValueSource.{ValueSource}
@@ -22,9 +19,9 @@ use Rattle.repeat_segment.specs.Planned.{plans_of, id_of}
 
 -- the place for row number k: columns and codes have one for the first row only
 abbrev pub place_by : ℕ → ℕ → ℕ → Value → Option ℕ
-place_by step k e (from_column c) = pick (eqb k 0) (some e) none
-place_by step k e (from_group c) = some (e + k * step)
-place_by step k e (from_code text) = pick (eqb k 0) (some e) none
+place_by step k e (from_column c) = pick (eqb k 0) (Some e) None
+place_by step k e (from_group c) = Some (e + k * step)
+place_by step k e (from_code text) = pick (eqb k 0) (Some e) None
 
 unfoldable pub place_in : ℕ → ℕ → ElementPlan → Option ℕ
 place_in step k x = place_by step k x.element x.value
@@ -77,28 +74,28 @@ parts_of b s rows count = parts_from b s rows 0 count (plans_of b s)
 
 -- r is the lowest row number below 256 for which the element stands at p; 256 and more: none
 pub record Lowest (step p r : ℕ) (x : ElementPlan) : Type 0 where
-  pub stands : r < 256 → place_in step r x ≡ some p
-  pub below : (m : ℕ) → m < r → m < 256 → place_in step m x ≡ some p → ⊥
+  pub stands : r < 256 → place_in step r x ≡ Some p
+  pub below : (m : ℕ) → m < r → m < 256 → place_in step m x ≡ Some p → ⊥
 
 -- ---- the first part at a place
 
-abbrev pub rank_of : Number → ℕ
-rank_of c = rank (number_of c)
+abbrev pub rank_of : Option ℕ → ℕ
+rank_of c = rank c
 
 -- a planned element is tried: it is taken where it stands for a lower row number, else what was found stays
 pub data Earlier (step p r : ℕ) (b : List ℕ) (f : First) (e : Element) : First → Type 0 where
   taken : (k : ℕ) → k < f.row → rank_of e.component ≡ r → Lowest step p k (element_of b e) → Earlier step p r b f e (record { row = k; plan = e })
-  kept : ((m : ℕ) → m < f.row → m < 256 → place_in step m (element_of b e) ≡ some p → rank_of e.component ≡ r → ⊥) → Earlier step p r b f e f
+  kept : ((m : ℕ) → m < f.row → m < 256 → place_in step m (element_of b e) ≡ Some p → rank_of e.component ≡ r → ⊥) → Earlier step p r b f e f
 
 -- the text of the first part at element p with rank r in a chunk of so many rows; a row number past them: there is none
 abbrev pub found_text : List ℕ → Planned → List ℕ → ℕ → ℕ → First → Option (List ℕ)
-found_text b s rows count p f = pick (ltb f.row count) (some (text_in b s p (get_or rows f.row 0) (element_of b f.plan)).text) none
+found_text b s rows count p f = pick (ltb f.row count) (Some (text_in b s p (get_or rows f.row 0) (element_of b f.plan)).text) None
 
 -- ---- the highest number of a filled part: by element, or by component at one element
 
 abbrev pub number_by : Option ℕ → Part → ℕ
-number_by none = λ x. x.element
-number_by (some p) = component_in p
+number_by None = λ x. x.element
+number_by (Some p) = component_in p
 
 -- every planned element is at 1 or behind
 unfoldable pub all_above : List ElementPlan → Bool

@@ -6,8 +6,7 @@ ghost use Rattle.format.specs.Passed.{Passed};
 ghost use Rattle.format.specs.Refusal.{separators};
 ghost use Rattle.column.specs.Cell.{or_null};
 ghost use Rattle.column.specs.Answers.{cell_at};
-ghost use Rattle.texts.specs.declared.render.Max.{Max};
-ghost use Rattle.spec.specs.Answers.{number_of};
+ghost use Rattle.texts.specs.Reason.{Width};
 ghost use Rattle.plan.specs.Answers.{element_of};
 ghost use Rattle.nest.specs.Ready.{Ready};
 ghost use Rattle.nest.specs.Finding.{Origin, Place, cell};
@@ -27,11 +26,11 @@ use emit::state::Counts;
 use emit::{cells, findings, signs};
 use plan::answers::{ElementPlan, ValueSource};
 use plan::read;
-use spec::ids::{Number, RowId};
+use spec::ids::RowId;
 
-fn spot_of(job: &[u8], s: Planned, p: u32, component: Number, column: u32, r: RowId) -> Spot
+fn spot_of(job: &[u8], s: Planned, p: u32, component: Option<u32>, column: u32, r: RowId) -> Spot
     requires { Of job.now s }
-    ensures { result ≡ spot_of (cell s.table.0 r.0 column) (place_of (id_of job.now s) p (number_of component)) }
+    ensures { result ≡ spot_of (cell s.table.0 r.0 column) (place_of (id_of job.now s) p component) }
 {
     let identifier = signs::id_number(job, s.id);
     let c = signs::component_word(component);
@@ -49,7 +48,7 @@ fn spot_of(job: &[u8], s: Planned, p: u32, component: Number, column: u32, r: Ro
 // Whether a cell has no finding wherever it stands: null, a number, or bytes that hold no separator.
 fn quiet(job: &[u8], cell: Cell, d: Delimiters) -> bool
     requires { Passed job.now × (tried d ≡ separators (job_of job.now).envelope) }
-    ensures { (o : Origin) (p : Place) (max : Max) → result ≡ true → found_on o p (cell_text (or_null (cell_at job.now cell)) max) (tried d) ≡ [] }
+    ensures { (o : Origin) (p : Place) (max : Width) → result ≡ true → found_on o p (cell_text (or_null (cell_at job.now cell)) max) (tried d) ≡ [] }
 {
     match cell {
         Cell::None => true,
@@ -76,13 +75,13 @@ fn note_text(
     s: Planned,
     d: Delimiters,
     p: u32,
-    component: Number,
+    component: Option<u32>,
     column: u32,
     r: RowId,
 ) -> usize
     requires { Ready job.now index.now × Of job.now s × (tried d ≡ separators (job_of job.now).envelope) }
     ensures { Noted findings.old at
-        (words_of (put_cell (job_of job.now) (id_of job.now s) p (number_of component) s.table.0 column r.0).findings) result findings.new }
+        (words_of (put_cell (job_of job.now) (id_of job.now s) p component s.table.0 column r.0).findings) result findings.new }
 {
     let x = cells::cell_text(job, index, s.id, s.table, r, p, component, column);
     if findings::silent(job, x, d) {
@@ -101,13 +100,13 @@ fn note_cell(
     s: Planned,
     d: Delimiters,
     p: u32,
-    component: Number,
+    component: Option<u32>,
     column: u32,
     r: RowId,
 ) -> usize
     requires { Ready job.now index.now × Of job.now s × (tried d ≡ separators (job_of job.now).envelope) }
     ensures { Noted findings.old at
-        (words_of (put_cell (job_of job.now) (id_of job.now s) p (number_of component) s.table.0 column r.0).findings) result findings.new }
+        (words_of (put_cell (job_of job.now) (id_of job.now s) p component s.table.0 column r.0).findings) result findings.new }
 {
     let cell = tables::data::cell(job, index, s.table, column, r);
     if quiet(job, cell, d) {
@@ -157,8 +156,8 @@ fn note_element(
 {
     let place = places::place_of(e, s.step, k);
     match place {
-        Number::None => lent::more(at, 0),
-        Number::Is(p) => note_source(job, index, findings, at, s, d, e, p, r),
+        None => lent::more(at, 0),
+        Some(p) => note_source(job, index, findings, at, s, d, e, p, r),
     }
 }
 
@@ -181,8 +180,8 @@ fn entries_of(e: ElementPlan, step: u32, k: u32) -> usize
     let place = places::place_of(e, step, k);
     let v = e.value;
     match place {
-        Number::None => 0,
-        Number::Is(_) => entries_at(v),
+        None => 0,
+        Some(_) => entries_at(v),
     }
 }
 
@@ -201,15 +200,13 @@ pub fn fill_elements(
     ensures { Filled (row_puts job.now s k r.0 (plans_of job.now s)) state result findings.old findings.new }
 {
     let mut at = s.first;
-    let mut i: u32 = 0;
     let mut found = state.findings;
     let mut entries = lent::more(state.entries, 0);
-    while i < s.count {
+    for _i in 0..s.count {
         let e = read::element_at(job, at);
         found = note_element(job, index, findings, found, s, d, e, k, r);
         entries = lent::more(entries, entries_of(e, s.step, k));
         at = e.next;
-        i += 1;
     }
     let mut n = state;
     n.findings = found;

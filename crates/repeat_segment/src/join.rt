@@ -10,7 +10,6 @@ ghost use Rattle.repeat_segment.specs.Places.{parts_of};
 use crate::planned::Planned;
 use crate::{last, order, scan};
 use segment::{Pen, Separators};
-use spec::ids::Number;
 
 // The components of element p up to the last filled.
 fn put_components(
@@ -29,9 +28,7 @@ fn put_components(
     ensures { Group sep last (repeat_text (parts_of job.now s rows.now count) p) p 1 pen doc.old result doc.new }
 {
     let mut t = pen;
-    let mut c: u32 = 0;
-    while c < last {
-        c += 1;
+    for c in 1..=last {
         let v = scan::component_value(job, index, rows, count, s, p, c);
         t = segment::component(doc, job, sep, t, p as usize, c as usize, v);
     }
@@ -53,7 +50,7 @@ fn put_position(
     ensures { Group sep (last_component_at p (parts_of job.now s rows.now count)) (repeat_text (parts_of job.now s rows.now count) p) p 1
         pen doc.old result doc.new }
 {
-    let last = last::highest_in(job, index, rows, count, s, Number::Is(p));
+    let last = last::highest_in(job, index, rows, count, s, Some(p));
     put_components(doc, job, index, rows, count, sep, s, pen, p, last)
 }
 
@@ -73,9 +70,7 @@ fn put_positions(
     ensures { Repeat sep last (parts_of job.now s rows.now count) 1 pen doc.old result doc.new }
 {
     let mut t = pen;
-    let mut p: u32 = 0;
-    while p < last {
-        p += 1;
+    for p in 1..=last {
         t = put_position(doc, job, index, rows, count, sep, s, t, p);
     }
     segment::close(doc, sep, t, last as usize)
@@ -95,7 +90,7 @@ fn put_any(
     requires { Ready job.now index.now × Of job.now s × (count ≤ 256) × (count ≤ length rows.now) }
     ensures { Stored doc.old at (joined sep (id_of job.now s) (sorted (parts_of job.now s rows.now count))) result doc.new }
 {
-    let last = last::highest_in(job, index, rows, count, s, Number::None);
+    let last = last::highest_in(job, index, rows, count, s, None);
     let id = s.id;
     let pen = segment::begin(doc, at, job, id.start, id.len);
     if last::zero_free(job, s, count) {

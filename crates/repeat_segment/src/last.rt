@@ -1,8 +1,7 @@
 // The last filled element of a repeat segment, and the last filled component of an element.
-ghost use Rattle.std.specs.Prelude.{◌≡◌, List, [], ◌∷◌, ℕ, ◌-◌, ◌≤◌, ◌<◌, max, length};
+ghost use Rattle.std.specs.Prelude.{◌≡◌, List, [], ◌∷◌, ℕ, ◌-◌, ◌≤◌, ◌<◌, length};
 ghost use Rattle.segment.specs.Parts.{pick, is_empty, highest};
 ghost use Rattle.segment.specs.Calls.{zero_free};
-ghost use Rattle.spec.specs.Answers.{number_of};
 ghost use Rattle.plan.specs.Answers.{element_of};
 ghost use Rattle.nest.specs.Ready.{Ready};
 ghost use Rattle.emit.specs.Puts.{part_at};
@@ -14,15 +13,15 @@ use crate::planned::Planned;
 use emit::signs;
 use plan::answers::ElementPlan;
 use plan::read;
-use spec::ids::{Number, RowId};
+use spec::ids::RowId;
 
 // What counts of a part at element m: its element, or its component if it stands at the element asked for.
-fn number_of(m: u32, c: Number, q: Number) -> u32
-    ensures { (text : List ℕ) → result ≡ number_by (number_of q) (part_at m (number_of c) text) }
+fn number_of(m: u32, c: Option<u32>, q: Option<u32>) -> u32
+    ensures { (text : List ℕ) → result ≡ number_by q (part_at m c text) }
 {
     match q {
-        Number::None => m,
-        Number::Is(p) => {
+        None => m,
+        Some(p) => {
             if m == p {
                 return signs::component_of(c);
             }
@@ -52,28 +51,19 @@ fn highest_at(
     index: &[u16],
     s: Planned,
     e: ElementPlan,
-    q: Number,
+    q: Option<u32>,
     k: u32,
     r: RowId,
 ) -> u32
     requires { Ready job.now index.now × Of job.now s × (e.element ≤ 255) × (k < 256) }
-    ensures { result ≡ highest (number_by (number_of q)) (element_put job.now s k r.0 (element_of job.now e)).parts }
+    ensures { result ≡ highest (number_by q) (element_put job.now s k r.0 (element_of job.now e)).parts }
 {
     let place = places::place_of(e, s.step, k);
     let c = e.component;
     match place {
-        Number::None => 0,
-        Number::Is(m) => number_if(job, index, s, e, m, r, number_of(m, c, q)),
+        None => 0,
+        Some(m) => number_if(job, index, s, e, m, r, number_of(m, c, q)),
     }
-}
-
-fn higher(a: u32, b: u32) -> u32
-    ensures { result ≡ max a b }
-{
-    if a < b {
-        return b;
-    }
-    a
 }
 
 // For one planned element and some rows.
@@ -83,19 +73,17 @@ fn highest_rows(
     rows: &[u32],
     s: Planned,
     e: ElementPlan,
-    q: Number,
+    q: Option<u32>,
     from: u32,
     to: u32,
 ) -> u32
     requires { Ready job.now index.now × Of job.now s × (e.element ≤ 255) × (from ≤ to) × (to ≤ 256) × (to ≤ length rows.now) }
-    ensures { result ≡ highest (number_by (number_of q)) (parts_from job.now s rows.now from (to - from) (element_of job.now e ∷ [])) }
+    ensures { result ≡ highest (number_by q) (parts_from job.now s rows.now from (to - from) (element_of job.now e ∷ [])) }
 {
-    let mut k = from;
     let mut best: u32 = 0;
-    while k < to {
+    for k in from..to {
         let r = RowId(rows[k as usize]);
-        best = higher(best, highest_at(job, index, s, e, q, k, r));
-        k += 1;
+        best = best.max(highest_at(job, index, s, e, q, k, r));
     }
     best
 }
@@ -108,39 +96,44 @@ fn highest_of(
     count: u32,
     s: Planned,
     e: ElementPlan,
-    q: Number,
+    q: Option<u32>,
 ) -> u32
     requires { Ready job.now index.now × Of job.now s × (e.element ≤ 255) × (count ≤ 256) × (count ≤ length rows.now) }
-    ensures { result ≡ highest (number_by (number_of q)) (parts_from job.now s rows.now 0 count (element_of job.now e ∷ [])) }
+    ensures { result ≡ highest (number_by q) (parts_from job.now s rows.now 0 count (element_of job.now e ∷ [])) }
 {
     match q {
-        Number::None => highest_rows(job, index, rows, s, e, Number::None, 0, count),
-        Number::Is(p) => {
+        None => highest_rows(job, index, rows, s, e, None, 0, count),
+        Some(p) => {
             if s.step == 0 {
-                return highest_rows(job, index, rows, s, e, Number::Is(p), 0, count);
+                return highest_rows(job, index, rows, s, e, Some(p), 0, count);
             }
             let k = places::row_at(e, s.step, p);
             if count <= k {
                 return 0;
             }
-            highest_rows(job, index, rows, s, e, Number::Is(p), k, k + 1)
+            highest_rows(job, index, rows, s, e, Some(p), k, k + 1)
         }
     }
 }
 
 // The last filled element, or the last filled component of the element asked for.
-pub fn highest_in(job: &[u8], index: &[u16], rows: &[u32], count: u32, s: Planned, q: Number) -> u32
+pub fn highest_in(
+    job: &[u8],
+    index: &[u16],
+    rows: &[u32],
+    count: u32,
+    s: Planned,
+    q: Option<u32>,
+) -> u32
     requires { Ready job.now index.now × Of job.now s × (count ≤ 256) × (count ≤ length rows.now) }
-    ensures { result ≡ highest (number_by (number_of q)) (parts_of job.now s rows.now count) }
+    ensures { result ≡ highest (number_by q) (parts_of job.now s rows.now count) }
 {
     let mut at = s.first;
-    let mut i: u32 = 0;
     let mut best: u32 = 0;
-    while i < s.count {
+    for _i in 0..s.count {
         let e = read::element_at(job, at);
-        best = higher(best, highest_of(job, index, rows, count, s, e, q));
+        best = best.max(highest_of(job, index, rows, count, s, e, q));
         at = e.next;
-        i += 1;
     }
     best
 }
@@ -151,14 +144,12 @@ fn all_above(job: &[u8], s: Planned) -> bool
     ensures { result ≡ all_above (plans_of job.now s) }
 {
     let mut at = s.first;
-    let mut i: u32 = 0;
-    while i < s.count {
+    for _i in 0..s.count {
         let e = read::element_at(job, at);
         if e.element == 0 {
             return false;
         }
         at = e.next;
-        i += 1;
     }
     true
 }

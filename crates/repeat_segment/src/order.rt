@@ -8,7 +8,6 @@ ghost use Rattle.column.specs.Answers.{cell_at};
 ghost use Rattle.texts.specs.Held.{held};
 ghost use Rattle.segment.specs.Parts.{joined, sorted};
 ghost use Rattle.segment.specs.Pen.{placed, Penned};
-ghost use Rattle.spec.specs.Answers.{number_of};
 ghost use Rattle.plan.specs.Answers.{element_of};
 ghost use Rattle.nest.specs.Ready.{Ready};
 ghost use Rattle.emit.specs.Puts.{max_in, cell_text};
@@ -25,28 +24,28 @@ use emit::cells;
 use plan::answers::ElementPlan;
 use plan::read;
 use segment::{Pen, Separators};
-use spec::ids::{Number, RowId};
+use spec::ids::RowId;
 use texts::Text;
 
 // ---- the order
 
 // The last place once a planned element stands behind `last` for row number k; none if it doesn't, or has a component.
-fn behind(s: Planned, e: ElementPlan, k: u32, last: u32) -> Number
+fn behind(s: Planned, e: ElementPlan, k: u32, last: u32) -> Option<u32>
     requires { (e.element ≤ 255) × (s.step ≤ 255) × (k < 256) }
-    ensures { (b : List ℕ) (row : ℕ) → Ends last (element_put b s k row (element_of b e)).parts (number_of result) }
+    ensures { (b : List ℕ) (row : ℕ) → Ends last (element_put b s k row (element_of b e)).parts result }
 {
     let c = e.component;
     match c {
-        Number::Is(_) => Number::None,
-        Number::None => {
+        Some(_) => None,
+        None => {
             let place = places::place_of(e, s.step, k);
             match place {
-                Number::None => Number::Is(last),
-                Number::Is(m) => {
+                None => Some(last),
+                Some(m) => {
                     if last < m {
-                        return Number::Is(m);
+                        return Some(m);
                     }
-                    Number::None
+                    None
                 }
             }
         }
@@ -54,28 +53,26 @@ fn behind(s: Planned, e: ElementPlan, k: u32, last: u32) -> Number
 }
 
 // The same for all planned elements.
-fn row_behind(job: &[u8], s: Planned, k: u32, from: u32) -> Number
+fn row_behind(job: &[u8], s: Planned, k: u32, from: u32) -> Option<u32>
     requires { Of job.now s × (k < 256) }
-    ensures { (row : ℕ) → Ends from (row_puts job.now s k row (plans_of job.now s)).parts (number_of result) }
+    ensures { (row : ℕ) → Ends from (row_puts job.now s k row (plans_of job.now s)).parts result }
 {
     let mut last = from;
     let mut at = s.first;
-    let mut i: u32 = 0;
-    while i < s.count {
+    for _i in 0..s.count {
         let e = read::element_at(job, at);
         let n = behind(s, e, k, last);
         match n {
-            Number::None => {
-                return Number::None;
+            None => {
+                return None;
             }
-            Number::Is(m) => {
+            Some(m) => {
                 last = m;
                 at = e.next;
-                i += 1;
             }
         }
     }
-    Number::Is(last)
+    Some(last)
 }
 
 // Whether the parts of so many rows are plain and come in the order of their places.
@@ -84,16 +81,14 @@ pub fn in_order(job: &[u8], s: Planned, count: u32) -> bool
     ensures { result ≡ true → (rows : List ℕ) → Ordered (parts_of job.now s rows count) }
 {
     let mut last: u32 = 0;
-    let mut k: u32 = 0;
-    while k < count {
+    for k in 0..count {
         let n = row_behind(job, s, k, last);
         match n {
-            Number::None => {
+            None => {
                 return false;
             }
-            Number::Is(m) => {
+            Some(m) => {
                 last = m;
-                k += 1;
             }
         }
     }
@@ -119,15 +114,15 @@ fn put_said(
     s: Planned,
     pen: Pen,
     p: u32,
-    c: Number,
+    c: Option<u32>,
     cell: Cell,
 ) -> Pen
     requires { Ready job.now index.now × Of job.now s × (scale_in cell ≤ 38) × (is_own cell ≡ true) }
-    ensures { Penned (placed sep pen p 1 (cell_text (or_null (cell_at job.now cell)) (max_in (max_of (job_of job.now) (id_of job.now s) p (number_of c)))).text)
+    ensures { Penned (placed sep pen p 1 (cell_text (or_null (cell_at job.now cell)) (max_in (max_of (job_of job.now) (id_of job.now s) p c))).text)
         pen.at result doc.old doc.new }
 {
     let said = cells::own_text(job, index, s.id, p, c, cell);
-    let text = said.text;
+    let text = cells::text_in(said);
     put_own(doc, sep, pen, p, text)
 }
 
@@ -140,11 +135,11 @@ fn put_cell(
     s: Planned,
     pen: Pen,
     p: u32,
-    c: Number,
+    c: Option<u32>,
     cell: Cell,
 ) -> Pen
     requires { Ready job.now index.now × Of job.now s × (scale_in cell ≤ 38) }
-    ensures { Penned (placed sep pen p 1 (cell_text (or_null (cell_at job.now cell)) (max_in (max_of (job_of job.now) (id_of job.now s) p (number_of c)))).text)
+    ensures { Penned (placed sep pen p 1 (cell_text (or_null (cell_at job.now cell)) (max_in (max_of (job_of job.now) (id_of job.now s) p c))).text)
         pen.at result doc.old doc.new }
 {
     match cell {
@@ -204,8 +199,8 @@ fn put_element(
 {
     let place = places::place_of(e, s.step, k);
     match place {
-        Number::None => pen,
-        Number::Is(p) => { put_source(doc, job, index, sep, s, pen, e, p, r) }
+        None => pen,
+        Some(p) => { put_source(doc, job, index, sep, s, pen, e, p, r) }
     }
 }
 
@@ -225,12 +220,10 @@ fn put_row(
 {
     let mut t = pen;
     let mut at = s.first;
-    let mut i: u32 = 0;
-    while i < s.count {
+    for _i in 0..s.count {
         let e = read::element_at(job, at);
         t = put_element(doc, job, index, sep, s, t, e, k, r);
         at = e.next;
-        i += 1;
     }
     t
 }
@@ -250,11 +243,9 @@ fn put_rows(
     ensures { Fed sep (parts_of job.now s rows.now count) pen doc.old result doc.new }
 {
     let mut t = pen;
-    let mut k: u32 = 0;
-    while k < count {
+    for k in 0..count {
         let r = RowId(rows[k as usize]);
         t = put_row(doc, job, index, sep, s, t, k, r);
-        k += 1;
     }
     t
 }

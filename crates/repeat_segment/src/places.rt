@@ -1,8 +1,6 @@
 // Where a planned element puts its text for a row of the chunk, and that text.
-ghost use Rattle.std.specs.Prelude.{◌≡◌, List, ℕ, ◌+◌, ◌*◌, ◌≤◌, ◌<◌, eqb};
-ghost use Rattle.std.proofs.Math.Option.{some, none};
+ghost use Rattle.std.specs.Prelude.{◌≡◌, List, ℕ, ◌+◌, ◌*◌, ◌≤◌, ◌<◌, eqb, Some, None};
 ghost use Rattle.segment.specs.Parts.{pick};
-ghost use Rattle.spec.specs.Answers.{number_of};
 ghost use Rattle.plan.specs.Answers.{element_of};
 ghost use Rattle.nest.specs.Ready.{Ready};
 ghost use Rattle.emit.specs.Written.{Writes};
@@ -13,17 +11,17 @@ use crate::planned::Planned;
 use emit::cells;
 use emit::cells::Written;
 use plan::answers::{ElementPlan, ValueSource};
-use spec::ids::{Number, RowId, Stretch};
+use spec::ids::{RowId, Stretch};
 
 // ---- places
 
-fn first_only(element: u32, k: u32) -> Number
-    ensures { number_of result ≡ pick (eqb k 0) (some element) none }
+fn first_only(element: u32, k: u32) -> Option<u32>
+    ensures { result ≡ pick (eqb k 0) (Some element) None }
 {
     if k == 0 {
-        return Number::Is(element);
+        return Some(element);
     }
-    Number::None
+    None
 }
 
 pub fn moved(element: u32, step: u32, k: u32) -> u32
@@ -34,14 +32,14 @@ pub fn moved(element: u32, step: u32, k: u32) -> u32
 }
 
 // The place of a planned element for row number k.
-pub fn place_of(e: ElementPlan, step: u32, k: u32) -> Number
+pub fn place_of(e: ElementPlan, step: u32, k: u32) -> Option<u32>
     requires { (e.element ≤ 255) × (step ≤ 255) × (k < 256) }
-    ensures { (b : List ℕ) → number_of result ≡ place_in step k (element_of b e) }
+    ensures { (b : List ℕ) → result ≡ place_in step k (element_of b e) }
 {
     let v = e.value;
     match v {
         ValueSource::Column(_) => first_only(e.element, k),
-        ValueSource::Group(_) => Number::Is(moved(e.element, step, k)),
+        ValueSource::Group(_) => Some(moved(e.element, step, k)),
         ValueSource::Code(_) => first_only(e.element, k),
     }
 }
@@ -63,6 +61,7 @@ fn group_row(element: u32, step: u32, p: u32) -> u32
 }
 
 // The lowest row number for which a planned element stands at p; 256 and more: none.
+// No Option: a row that no chunk has is as good as none, so callers compare the number with the count of the rows in any case.
 pub fn row_at(e: ElementPlan, step: u32, p: u32) -> u32
     ensures { (b : List ℕ) → Lowest step p result (element_of b e) }
 {

@@ -12,21 +12,22 @@ use crate::planned::Planned;
 use plan::answers::{ElementPlan, ValueSource};
 use plan::read;
 use segment::Value;
-use spec::ids::{Number, RowId};
+use spec::ids::RowId;
 
-// A planned element and the number of the row for which it stands at a place.
+// A planned element and the number of the row for which it stands at a place. Where none is found, the number is the count of the rows:
+// any row of the chunk comes before it, so no case of its own is needed.
 #[derive(Clone, Copy)]
 pub struct First {
     pub row: u32,
     pub plan: ElementPlan,
 }
 
-fn rank_of(c: Number) -> u64
+fn rank_of(c: Option<u32>) -> u64
     ensures { result ≡ rank_of c }
 {
     match c {
-        Number::None => 0,
-        Number::Is(n) => n as u64 + 1,
+        None => 0,
+        Some(n) => n as u64 + 1,
     }
 }
 
@@ -52,7 +53,7 @@ fn nothing_yet(count: u32) -> First
         row: count,
         plan: ElementPlan {
             element: 0,
-            component: Number::None,
+            component: None,
             value: ValueSource::Column(0),
             next: 0,
         },
@@ -66,12 +67,10 @@ fn first_at(job: &[u8], s: Planned, count: u32, p: u32, rank: u64) -> First
 {
     let mut f = nothing_yet(count);
     let mut at = s.first;
-    let mut i: u32 = 0;
-    while i < s.count {
+    for _i in 0..s.count {
         let e = read::element_at(job, at);
         f = earlier(f, e, s.step, p, rank);
         at = e.next;
-        i += 1;
     }
     f
 }

@@ -3,10 +3,10 @@ use Prim.Native.Nat.{ℕ, zero, suc, ◌+◌, ◌-◌, ◌≤◌, ◌<◌, max}
 use mathlib.Core.Path.{◌≡◌, refl, sym, ap, ap₂, subst, ◌∙◌}
 use mathlib.Core.Bool.{Bool, true, false, cond}
 use mathlib.Core.List.{List, [], ◌∷◌}
-use mathlib.Core.Option.{none, some, none-ne-some}
 use native.Mathlib.Omega.{arith}
 use native.Mathlib.Decide.{dec_lt}
 use native.Mathlib.Numerals.{add-one}
+use Rattle.std.proofs.lemmas.Option.{none-some}
 use lib.ListN.{length, get_or, get_or-eq_default}
 use borrow.Author.Tests.{ltb-false, ne_eqb}
 use Rattle.codec.specs.Limits.{any_of, none_of, none_in}
@@ -19,8 +19,7 @@ use Rattle.tables.specs.Parts as T
 use Rattle.spec.specs.declared.ids.LoopId.{LoopId}
 use Rattle.spec.specs.declared.ids.RowId.{RowId}
 use Rattle.spec.specs.declared.ids.TableId.{TableId}
-use Rattle.nest.specs.declared.Found.{Found}
-use Rattle.nest.specs.declared.Found.TheVariants.{Row, Nothing}
+use Rattle.std.specs.Prelude.{Option, Some, None}
 use Rattle.nest.specs.Lists.{keep, first, from, up_to}
 use Rattle.nest.specs.Outline.{Outline, row_count, repeated}
 use Rattle.nest.specs.Nest.{hooked, repeat_rows}
@@ -48,8 +47,8 @@ pub record Next (h : ℕ → Bool) (k n r : ℕ) : Type 0 where
   pub within : r < n
   pub rest : keep h (up_to k n) ≡ r ∷ keep h (up_to (r + 1) n)
 
-next_in : (h : ℕ → Bool) (m k r : ℕ) → first (keep h (from k m)) ≡ some r → Next h k (k + m) r
-next_in h zero k r e = absurd (none-ne-some r e)
+next_in : (h : ℕ → Bool) (m k r : ℕ) → first (keep h (from k m)) ≡ Some r → Next h k (k + m) r
+next_in h zero k r e = absurd (none-some r e)
 next_in h (suc m) k r e = go (h k) refl e (next_in h m (suc k) r)
   where
     all : up_to k (k + suc m) ≡ k ∷ from (suc k) m
@@ -58,7 +57,7 @@ next_in h (suc m) k r e = go (h k) refl e (next_in h m (suc k) r)
     more : up_to (suc k) (k + suc m) ≡ from (suc k) m
     more = let q : k + suc m - suc k ≡ m = omega arith in rw q
 
-    go : (b : Bool) → h k ≡ b → first (cond b (k ∷ keep h (from (suc k) m)) (keep h (from (suc k) m))) ≡ some r → (first (keep h (from (suc k) m)) ≡ some r → Next h (suc k) (suc k + m) r) → Next h k (k + suc m) r
+    go : (b : Bool) → h k ≡ b → first (cond b (k ∷ keep h (from (suc k) m)) (keep h (from (suc k) m))) ≡ Some r → (first (keep h (from (suc k) m)) ≡ Some r → Next h (suc k) (suc k + m) r) → Next h k (k + suc m) r
     go true q z ih =
         let y : k ≡ r = cc in
         record { from_there = omega (arith, y); within = omega (arith, y); rest = rw (← y, add-one, all, more) (rw q) }
@@ -68,23 +67,23 @@ next_in h (suc m) k r e = go (h k) refl e (next_in h m (suc k) r)
         let v : keep h (up_to (suc k) (suc k + m)) ≡ r ∷ keep h (up_to (r + 1) (suc k + m)) = w.rest in
         record { from_there = omega (arith, w.from_there); within = omega (arith, w.within); rest = rw all (rw q (rw (← more) (rw s at v))) }
 
-module _ (h : ℕ → Bool) (k n : ℕ) (f : Found) (e : f ≡ found_by (first (keep h (up_to k n)))) where
-  pub next_found : (r : RowId) → f ≡ Row r → Next h k n r.0
+module _ (h : ℕ → Bool) (k n : ℕ) (f : Option RowId) (e : f ≡ found_by (first (keep h (up_to k n)))) where
+  pub next_found : (r : RowId) → f ≡ Some r → Next h k n r.0
   next_found r q = go (dec_lt k n)
     where
-      z : first (keep h (up_to k n)) ≡ some r.0
+      z : first (keep h (up_to k n)) ≡ Some r.0
       z = found_row _ f r e q
 
       go : Dec (k < n) → Next h k n r.0
       go (yes c) = let s : k + (n - k) ≡ n = omega arith in let w : Next h k (k + (n - k)) r.0 = next_in h (n - k) k r.0 z in rw s at w
-      go (no c) = let s : n - k ≡ 0 = omega arith in absurd (none-ne-some r.0 (rw s at z))
+      go (no c) = let s : n - k ≡ 0 = omega arith in absurd (none-some r.0 (rw s at z))
 
-  pub next_none : f ≡ Nothing → keep h (up_to k n) ≡ []
+  pub next_none : f ≡ None → keep h (up_to k n) ≡ []
   next_none q = go (keep h (up_to k n)) (found_none _ f e q)
     where
-      go : (xs : List ℕ) → first xs ≡ none → xs ≡ []
+      go : (xs : List ℕ) → first xs ≡ None → xs ≡ []
       go [] z = refl
-      go (x ∷ xs) z = absurd (none-ne-some x (sym z))
+      go (x ∷ xs) z = absurd (none-some x (sym z))
 
 -- ---- the rows of a table in nest's array
 

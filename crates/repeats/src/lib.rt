@@ -18,7 +18,6 @@ ghost use Rattle.repeats.specs.Added.{TableIs, PartIs, Holds, Added, Repeats, le
 
 use emit::state::{Counts, Mark};
 use enter::Entered;
-use nest::Found;
 use nest::order::{first_at, rises};
 use repeat_segment::planned::{Planned, planned_segment};
 use repeat_segment::{fill_row, write_chunk};
@@ -78,10 +77,10 @@ fn table_of(job: &[u8], index: &[u16], t: TableId) -> Table
     let rows = tables::data::row_count(job, index, t);
     let room = room_of(job, index, t);
     Table {
-        t: t,
+        t,
         base: base as usize,
         rows: rows as usize,
-        room: room,
+        room,
     }
 }
 
@@ -165,12 +164,10 @@ fn close(
 {
     let count = c.count as usize;
     let counts = write_chunk(job, index, rows, count, doc, segments, c.counts, s);
-    let mark = c.mark;
-    let written = c.written + 1;
     Repeated {
-        mark: mark,
-        counts: counts,
-        written: written,
+        mark: c.mark,
+        counts,
+        written: c.written + 1,
     }
 }
 
@@ -191,18 +188,14 @@ fn extend(
     ensures { (d g : List ℕ) → length d ≤ cap → length g ≤ cap
         → Added (job_of job.now) s.l.0 s.i s.table.0 true r.0 c result rows.old rows.new d d g g findings.old findings.new stops.old stops.new }
 {
-    let mark = c.mark;
     let n = add_row(
-        job, index, nest, rows, findings, stops, mark, c.counts, s, c.count, r,
+        job, index, nest, rows, findings, stops, c.mark, c.counts, s, c.count, r,
     );
-    let head = c.head;
-    let raised = n.mark;
-    let counts = n.counts;
     Chunk {
-        mark: raised,
-        counts: counts,
+        mark: n.mark,
+        counts: n.counts,
         written: c.written,
-        head: head,
+        head: c.head,
         count: c.count + 1,
     }
 }
@@ -226,7 +219,6 @@ fn cut(
     ensures { Added (job_of job.now) s.l.0 s.i s.table.0 false r.0 c result rows.old rows.new doc.old doc.new segments.old segments.new findings.old findings.new stops.old stops.new }
 {
     let closed = close(job, index, rows, doc, segments, c, s);
-    let mark = closed.mark;
     let n = add_row(
         job,
         index,
@@ -234,17 +226,15 @@ fn cut(
         rows,
         findings,
         stops,
-        mark,
+        closed.mark,
         closed.counts,
         s,
         0,
         r,
     );
-    let raised = n.mark;
-    let counts = n.counts;
     Chunk {
-        mark: raised,
-        counts: counts,
+        mark: n.mark,
+        counts: n.counts,
         written: closed.written,
         head: r,
         count: 1,
@@ -269,8 +259,7 @@ fn add_next(
     requires { Nested job.now index.now nest.now × Within c.counts × (s.l.0 < 32) × (r.0 < row_count (outline_at job.now) s.table.0) × Holds w c rows.old × (c.written < cap) × Of job.now s }
     ensures { Added (job_of job.now) s.l.0 s.i s.table.0 (ltb c.count w.room && (outline_at job.now).same_chunk s.l.0 s.i c.head.0 r.0) r.0 c result rows.old rows.new doc.old doc.new segments.old segments.new findings.old findings.new stops.old stops.new }
 {
-    let head = c.head;
-    let fits = joins(job, index, s.l, s.i, head, c.count, w.room, r);
+    let fits = joins(job, index, s.l, s.i, c.head, c.count, w.room, r);
     if fits {
         return extend(job, index, nest, rows, findings, stops, c, s, w, r);
     }
@@ -303,20 +292,14 @@ fn add_rows(
 {
     let mut c = first;
     let mut k = from;
-    loop {
-        let f = nest::next_hooked(nest, w.base, w.rows, k, s.l, p);
-        match f {
-            Found::Nothing => {
-                return close(job, index, rows, doc, segments, c, s);
-            }
-            Found::Row(r) => {
-                c = add_next(
-                    job, index, nest, rows, doc, segments, findings, stops, c, s, w, r,
-                );
-                k = r.0 as usize + 1;
-            }
-        }
+    // No `for`: each row tells where the next is looked for.
+    while let Some(r) = nest::next_hooked(nest, w.base, w.rows, k, s.l, p) {
+        c = add_next(
+            job, index, nest, rows, doc, segments, findings, stops, c, s, w, r,
+        );
+        k = r.0 as usize + 1;
     }
+    close(job, index, rows, doc, segments, c, s)
 }
 
 // The planned segment is read once; the first row of all begins a chunk, and the rows behind it come to it.
@@ -342,14 +325,11 @@ fn begin(
     ensures { Repeats (job_of job.now) ((stop l.0 w.t.0 r.0 ∷ fill l.0 i w.t.0 0 r.0 ∷ []) ++ going ((outline_at job.now).same_chunk l.0 i) w.room l.0 i w.t.0 r.0 (r.0 ∷ []) 1 (keep (hooked_at nest.now w.base l.0 p.0) (up_to (r.0 + 1) w.rows))) w.t.0 m c result
         doc.old doc.new segments.old segments.new findings.old findings.new stops.old stops.new }
 {
-    let t = w.t;
-    let s = planned_segment(job, index, l, i, t);
+    let s = planned_segment(job, index, l, i, w.t);
     let n = add_row(job, index, nest, rows, findings, stops, m, c, s, 0, r);
-    let mark = n.mark;
-    let counts = n.counts;
     let first = Chunk {
-        mark: mark,
-        counts: counts,
+        mark: n.mark,
+        counts: n.counts,
         written: 0,
         head: r,
         count: 1,
@@ -386,12 +366,12 @@ fn write_hooked(
     let w = part.table;
     let f = nest::next_hooked(nest, w.base, w.rows, part.from, l, p);
     match f {
-        Found::Nothing => Repeated {
+        None => Repeated {
             mark: m,
             counts: c,
             written: 0,
         },
-        Found::Row(r) => begin(
+        Some(r) => begin(
             job, index, nest, rows, doc, segments, findings, stops, m, c, l, i, w, p, r,
         ),
     }

@@ -4,8 +4,8 @@
 
 ghost use Rattle.std.specs.Prelude.{◌<◌, ◌≤◌, length, IfOk};
 
+use input::read_up_to;
 use std::io;
-use std::io::Read;
 
 // Prints the listing of the job whose length stands at a place, and gives the place behind it: the end where there is no whole job.
 fn replay(rt: &(impl Print + Eprint), s: &[u8], at: usize) -> io::Result<usize>
@@ -27,6 +27,7 @@ fn replay(rt: &(impl Print + Eprint), s: &[u8], at: usize) -> io::Result<usize>
 fn all(rt: &(impl Print + Eprint), s: &[u8]) -> io::Result<()> {
     if s.len() < 4000000 {
         let mut at: usize = 0;
+        // No `for`: each job tells where the next stands.
         while at < s.len() {
             at = replay(rt, s, at)?;
         }
@@ -34,24 +35,8 @@ fn all(rt: &(impl Print + Eprint), s: &[u8]) -> io::Result<()> {
     Ok(())
 }
 
-// Reads standard input to its end, or until the bytes are full, and gives how many came.
-fn read_full(rt: &impl Input, bytes: &mut [u8]) -> io::Result<usize>
-    ensures { IfOk result (λ n. n ≤ length bytes.new) }
-{
-    let mut reader = rt.reader();
-    let mut done: usize = 0;
-    while done < bytes.len() {
-        let n = reader.read(&mut bytes[done..])?;
-        if n == 0 {
-            return Ok(done);
-        }
-        done += n;
-    }
-    Ok(done)
-}
-
 fn main(rt: HostRuntime) -> io::Result<()> {
     let mut input = [0u8; 393216];
-    let n = read_full(&rt, &mut input)?;
+    let n = read_up_to(&mut rt.reader(), &mut input)?;
     all(&rt, &input[..n])
 }

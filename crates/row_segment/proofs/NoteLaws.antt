@@ -1,7 +1,7 @@
 -- What is noted of a line, part by part.
 use Prim.Native.Nat.{ℕ, ◌+◌, ◌≤◌, ◌<◌, max}
 use mathlib.Core.Path.{◌≡◌, refl, ◌∙◌}
-use mathlib.Core.Bool.{true, false}
+use Rattle.std.specs.Prelude.{Some, None}
 use mathlib.Core.List.{List, [], ◌∷◌, ◌++◌}
 use native.Mathlib.Omega.{arith}
 use lib.ListN.{length}
@@ -10,12 +10,12 @@ use Rattle.lent.proofs.Laws.{stored_none, stored_append, stored_length, stored_s
 use Rattle.format.specs.Plan.{ElementPlan, Value, from_column, from_group, from_code}
 use Rattle.format.specs.Sections.{job_of}
 use Rattle.spec.specs.declared.ids.Stretch.{Stretch}
-use Rattle.spec.specs.Answers.{number_of}
 use Rattle.segment.specs.Parts.{Part, pick, is_empty, highest, last_element}
 use Rattle.segment.specs.Pen.{value_text}
 use Rattle.nest.specs.Finding.{cell}
 use Rattle.emit.specs.declared.cells.Written.{Written}
 use Rattle.emit.specs.Puts.{Put, and_put, put_all, place_of, held_in, unwritten, put_cell, row_put}
+use Rattle.texts.specs.Reason.{why_in}
 use Rattle.emit.specs.Written.{Writes, words_of, tried}
 use Rattle.emit.proofs.FindingLaws.{stored_findings, none_stored}
 use Rattle.emit.proofs.PutLaws.{highest_append, cell_findings}
@@ -35,10 +35,10 @@ use Rattle.row_segment.proofs.StreamLaws.{part_is, ahead_more, ahead_none}
 module _ (b : List ℕ) (x : Line) (p : Planned) where
   pub cell_notes : (w : Written) (y : Tried) (column : ℕ) → Tries b x y → Writes b w (outcome_of b x p) → p.source ≡ Cell column
       → (part_put b x p).findings
-      ≡ unwritten (cell x.t.0 x.r.0 column) (place_of (id_of b x) p.element (number_of p.component)) w.reason
-      ++ held_in (cell x.t.0 x.r.0 column) (place_of (id_of b x) p.element (number_of p.component)) (value_text b w.value) 0 (tried y.delimiters)
+      ≡ unwritten (cell x.t.0 x.r.0 column) (place_of (id_of b x) p.element p.component) (why_in w.reason)
+      ++ held_in (cell x.t.0 x.r.0 column) (place_of (id_of b x) p.element p.component) (value_text b w.value) 0 (tried y.delimiters)
   unfolding part_put outcome_of
-  cell_notes w y column t q e = rw e (cell_findings b (job_of b) (id_of b x) p.element (number_of p.component) x.t.0 column x.r.0 w (rw e at q) y.delimiters t.delimiters)
+  cell_notes w y column t q e = rw e (cell_findings b (job_of b) (id_of b x) p.element p.component x.t.0 column x.r.0 w (rw e at q) y.delimiters t.delimiters)
 
   pub code_notes : {s : Stretch} → p.source ≡ Code s → (part_put b x p).findings ≡ []
   unfolding part_put
@@ -87,9 +87,9 @@ pub between_none : (b : List ℕ) (x : Line) (n : Look) (s : Tally) (f : List �
 between_none b x n s f = record { whole = λ r g w. w; entries = refl; small = λ h. h; long = refl }
 
 module _ {b : List ℕ} {x : Line} {n m : Look} {s t : Tally} {f₀ f : List ℕ} (i : Between b x n m s t f₀ f) where
-  pub between_next : {f' : List ℕ} {r : Tally} (a : Look) → length f₀ ≤ wide → m.more ≡ true → Notes (part_put b x m.part) t r f f' → Looks b x m.k a → Between b x n a s r f₀ f'
-  between_next {f'} {r} a h e d l =
-      let p : Put = part_put b x m.part in
+  pub between_next : {f' : List ℕ} {r : Tally} (a : Look) → length f₀ ≤ wide → {y : Planned} → m.part ≡ Some y → Notes (part_put b x y) t r f f' → Looks b x m.k a → Between b x n a s r f₀ f'
+  between_next {f'} {r} a h {y} e d l =
+      let p : Put = part_put b x y in
       let u : ahead b x m ≡ and_put p (ahead b x a) = ahead_more m a e l in
       let k : length f ≤ wide = rw i.long h in
       record {
@@ -110,7 +110,7 @@ module _ {b : List ℕ} {x : Line} {n m : Look} {s t : Tally} {f₀ f : List ℕ
   between_room h = omega (arith, i.entries, h)
 
   -- no part is left
-  pub between_end : m.more ≡ false → Sees b x m → s.findings ≤ cap → Notes (ahead b x n) s t f₀ f
+  pub between_end : m.part ≡ None → Sees b x m → s.findings ≤ cap → Notes (ahead b x n) s t f₀ f
   unfolding highest
   between_end e v h = i.whole t f (rw (ahead_none b x m e v) (record { findings = none_stored (still t.findings (i.small h)); entries = omega arith; last = omega arith }))
     where

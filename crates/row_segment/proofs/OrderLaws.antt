@@ -1,7 +1,8 @@
 -- Parts that come in the order of their places, planned element by planned element.
 use Prim.Native.Nat.{ℕ, ◌+◌, ◌≤◌, ◌<◌}
 use mathlib.Core.Path.{◌≡◌, refl, ap, ◌∙◌}
-use mathlib.Core.Bool.{true, false}
+use Rattle.std.specs.Prelude.{Some, None}
+use Rattle.std.specs.declared.option.Option.{Option}
 use mathlib.Core.List.{List, [], ◌∷◌, ◌++◌}
 use native.Mathlib.Omega.{arith}
 use lib.ListN.{length}
@@ -24,7 +25,7 @@ use Rattle.emit.specs.Puts.{Put, nothing, and_put}
 use Rattle.emit.specs.Written.{words_of}
 use Rattle.emit.proofs.FindingLaws.{stored_findings, none_stored}
 use Rattle.row_segment.specs.declared.parts.Line.{Line}
-use Rattle.row_segment.specs.declared.parts.Look.{Look}
+use Rattle.row_segment.specs.declared.parts.Planned.{Planned}
 use Rattle.row_segment.specs.declared.feed.Behind.{Behind as Put-behind}
 use Rattle.row_segment.specs.Stream.{id_of, Lined, element_put, puts, part_put, Stands, look_put}
 use Rattle.row_segment.specs.Notes.{Totals}
@@ -42,22 +43,22 @@ module _ (b idx : List ℕ) (x : Line) (w : Lined b idx x) (k p : ℕ) (q : Stan
   place_low = through_place b idx x w k k p (through_start b x k p q) h
 
   module _ (e : ElementPlan) (f : (n : ℕ) (v : ElementPlanIn) → n ≤ length b → Is element_plan_c b n p v → ElementRead b n p v e)
-      (r : Look) (s : (r.k ≡ k + 1) × (r.at ≡ e.next) × ((b : List ℕ) (x : Line) → look_put b x r ≡ element_put b x (element_of b e))) where
-    pub stands_next : Stands b x r.k r.at
-    stands_next = stood b idx x w k k p (through_start b x k p q) h e f r s
+      (o : Option Planned) (s : (b : List ℕ) (x : Line) → look_put b x o ≡ element_put b x (element_of b e)) where
+    pub stands_next : Stands b x (k + 1) e.next
+    stands_next = stood b idx x w k k p (through_start b x k p q) h e f o s
 
-    puts_look : puts b x k ≡ and_put (look_put b x r) (puts b x r.k)
-    puts_look = looked b idx x w k k p (through_start b x k p q) h e f r s
+    puts_look : puts b x k ≡ and_put (look_put b x o) (puts b x (k + 1))
+    puts_look = looked b idx x w k k p (through_start b x k p q) h e f o s
 
-    pub puts_some : r.more ≡ true → puts b x k ≡ and_put (part_put b x r.part) (puts b x r.k)
+    pub puts_some : {y : Planned} → o ≡ Some y → puts b x k ≡ and_put (part_put b x y) (puts b x (k + 1))
     puts_some m = rw m at puts_look
 
-    pub puts_none : r.more ≡ false → puts b x k ≡ puts b x r.k
-    puts_none m = (rw m at puts_look) ∙ nothing_then (puts b x r.k)
+    pub puts_none : o ≡ None → puts b x k ≡ puts b x (k + 1)
+    puts_none m = (rw m at puts_look) ∙ nothing_then (puts b x (k + 1))
 
 -- a part, and those behind it
-parts_some : (b : List ℕ) (x : Line) (k : ℕ) (r : Look) → puts b x k ≡ and_put (part_put b x r.part) (puts b x r.k) → (puts b x k).parts ≡ part_by b x r.part ∷ (puts b x r.k).parts
-parts_some b x k r e = ap (λ (y : Put). y.parts) e ∙ ap (λ (ps : List Part). ps ++ (puts b x r.k).parts) (part_is b x r.part)
+parts_some : (b : List ℕ) (x : Line) (k : ℕ) (y : Planned) → puts b x k ≡ and_put (part_put b x y) (puts b x (k + 1)) → (puts b x k).parts ≡ part_by b x y ∷ (puts b x (k + 1)).parts
+parts_some b x k y e = ap (λ (z : Put). z.parts) e ∙ ap (λ (ps : List Part). ps ++ (puts b x (k + 1)).parts) (part_is b x y)
 
 -- ---- their order
 
@@ -69,12 +70,12 @@ pub record Ordering (b : List ℕ) (x : Line) (k p at from : ℕ) : Type 0 where
 pub ordering_start : (b idx : List ℕ) (x : Line) → Lined b idx x → Ordering b x 0 x.first 1 1
 ordering_start b idx x w = record { stands = stands_first b idx x w; rest = λ z. z }
 
-module _ {b : List ℕ} {x : Line} {k p at from : ℕ} (i : Ordering b x k p at from) (r : Look) (q : Stands b x r.k r.at) where
-  pub ordering_part : {at' from' : ℕ} → puts b x k ≡ and_put (part_put b x r.part) (puts b x r.k) → at' ≡ r.part.element → from' ≡ component_of (part_by b x r.part) + 1
-      → Behind at from (part_by b x r.part) → Ordering b x r.k r.at at' from'
-  ordering_part e f g h = record { stands = q; rest = λ z. i.rest (rw (parts_some b x k r e) (h, rw (f, g) at z)) }
+module _ {b : List ℕ} {x : Line} {k p at from : ℕ} (i : Ordering b x k p at from) {p' : ℕ} (q : Stands b x (k + 1) p') where
+  pub ordering_part : {at' from' : ℕ} (y : Planned) → puts b x k ≡ and_put (part_put b x y) (puts b x (k + 1)) → at' ≡ y.element → from' ≡ component_of (part_by b x y) + 1
+      → Behind at from (part_by b x y) → Ordering b x (k + 1) p' at' from'
+  ordering_part y e f g h = record { stands = q; rest = λ z. i.rest (rw (parts_some b x k y e) (h, rw (f, g) at z)) }
 
-  pub ordering_none : puts b x k ≡ puts b x r.k → Ordering b x r.k r.at at from
+  pub ordering_none : puts b x k ≡ puts b x (k + 1) → Ordering b x (k + 1) p' at from
   ordering_none e = record { stands = q; rest = λ z. i.rest (rw e z) }
 
 pub ordering_end : {b : List ℕ} {x : Line} {k p at from : ℕ} (idx : List ℕ) → Lined b idx x → Ordering b x k p at from → x.count ≤ k → Rises 1 1 (puts b x 0).parts
@@ -107,21 +108,21 @@ module _ {s : Separators} {b : List ℕ} {x : Line} {pen : Pen} {from : ℕ} {d�
   pub feeding_few : (idx : List ℕ) → Lined b idx x → x.count < 4294967296 → n < 4294967296
   feeding_few idx w h = omega (arith, i.entries, puts_few b x, w.count)
 
-  pub feeding_part : (r : Look) (g : Put-behind) {d' f' : List ℕ} → Stands b x r.k r.at → length f₀ ≤ wide → puts b x k ≡ and_put (part_put b x r.part) (puts b x r.k)
-      → Stood s b x r.part q m n d f g d' f' → Feeding s b x pen from d₀ f₀ r.k r.at g.pen g.findings g.entries d' f'
-  feeding_part r g {d'} {f'} y h e c = record {
-    stands = y;
-    fed = λ t d₂ z. i.fed t d₂ (rw (parts_some b x k r e) (part c.penned z));
-    found = λ u v z. i.found u v (rw e (stored_findings (part_put b x r.part).findings (puts b x r.k).findings (rw i.findings_long h) c.findings z));
+  pub feeding_part : (y : Planned) (g : Put-behind) {p' : ℕ} {d' f' : List ℕ} → Stands b x (k + 1) p' → length f₀ ≤ wide → puts b x k ≡ and_put (part_put b x y) (puts b x (k + 1))
+      → Stood s b x y q m n d f g d' f' → Feeding s b x pen from d₀ f₀ (k + 1) p' g.pen g.findings g.entries d' f'
+  feeding_part y g {p'} {d'} {f'} a h e c = record {
+    stands = a;
+    fed = λ t d₂ z. i.fed t d₂ (rw (parts_some b x k y e) (part c.penned z));
+    found = λ u v z. i.found u v (rw e (stored_findings (part_put b x y).findings (puts b x (k + 1)).findings (rw i.findings_long h) c.findings z));
     entries = rw c.entries (let j = rw e at i.entries in omega (arith, j));
     small = stored_small _ c.findings;
     doc_long = stored_length _ c.penned.stored ∙ i.doc_long;
     findings_long = stored_length _ c.findings ∙ i.findings_long;
   }
 
-  pub feeding_none : (r : Look) → Stands b x r.k r.at → puts b x k ≡ puts b x r.k → Feeding s b x pen from d₀ f₀ r.k r.at q m n d f
-  feeding_none r y e = record {
-    stands = y;
+  pub feeding_none : {p' : ℕ} → Stands b x (k + 1) p' → puts b x k ≡ puts b x (k + 1) → Feeding s b x pen from d₀ f₀ (k + 1) p' q m n d f
+  feeding_none a e = record {
+    stands = a;
     fed = λ t d₂ z. i.fed t d₂ (rw e z);
     found = λ u v z. i.found u v (rw e z);
     entries = rw e at i.entries;

@@ -1,7 +1,7 @@
 -- The calls that write a row segment, one after the other.
 use Prim.Native.Nat.{ℕ, ◌+◌, ◌≤◌, ◌<◌}
 use mathlib.Core.Path.{◌≡◌, refl, ◌∙◌}
-use mathlib.Core.Bool.{true, false}
+use Rattle.std.specs.Prelude.{Some, None}
 use mathlib.Core.List.{List}
 use native.Mathlib.Omega.{arith}
 use borrow.Author.Tests.{lt-ltb}
@@ -10,7 +10,7 @@ use Rattle.lent.specs.Fit.{cap, wide, more, stretch, Stored}
 use Rattle.lent.proofs.Laws.{stored_length}
 use Rattle.segment.specs.declared.Separators.{Separators}
 use Rattle.segment.specs.declared.Pen.{Pen}
-use Rattle.segment.specs.Parts.{here, after, component_text, joined}
+use Rattle.segment.specs.Parts.{joined}
 use Rattle.segment.specs.Pen.{placed, finished, opened, closing, Penned}
 use Rattle.segment.specs.Calls.{Group, next, finish, Row, group, close, stays}
 use Rattle.segment.proofs.Runs.{run_stored}
@@ -23,6 +23,7 @@ use Rattle.emit.specs.Did.{DidCounts, Within, Finished}
 use Rattle.emit.proofs.StepLaws.{did_segment}
 use Rattle.row_segment.specs.declared.parts.Line.{Line}
 use Rattle.row_segment.specs.declared.parts.Look.{Look}
+use Rattle.row_segment.specs.declared.parts.Planned.{Planned}
 use Rattle.row_segment.specs.declared.join.Step.{Step}
 use Rattle.row_segment.specs.declared.join.Joined.{Joined}
 use Rattle.row_segment.specs.declared.notes.Tally.{Tally}
@@ -70,14 +71,14 @@ pub rowing_start : (s : Separators) (b : List ℕ) (x : Line) (n : Look) (pen : 
 rowing_start s b x n pen d h = record { rest = λ last e d₂ z. z; long = refl; sees = h }
 
 module _ (s : Separators) (b : List ℕ) (x : Line) (n : Look) (pen : Pen) (d₀ : List ℕ) (a : Look) (q : Pen) (p : ℕ) (d : List ℕ) (i : Rowing s b x n pen d₀ a q p d) where
-  pub rowing_next : (place : ℕ) (r : Step) (d₁ : List ℕ) → a.more ≡ true → place ≡ a.part.element → p ≤ place → Steps s b x a q d r d₁ → Rowing s b x n pen d₀ r.after r.pen (place + 1) d₁
-  rowing_next place r d₁ t f h c = record {
+  pub rowing_next : (place : ℕ) (r : Step) (d₁ : List ℕ) {y : Planned} → a.part ≡ Some y → place ≡ y.element → p ≤ place → Steps s b x a y.element q d r d₁ → Rowing s b x n pen d₀ r.after r.pen (place + 1) d₁
+  rowing_next place r d₁ {y} t f h c = record {
     rest = λ last e d₂ z. i.rest last e d₂ (onward last e d₂ (rw f at z));
     long = group_long c.group ∙ i.long;
     sees = c.scans.sees;
   }
     where
-      onward : (last e : ℕ) (d₂ : List ℕ) → Row s last (a.part.element + 1) (ahead b x r.after).parts r.pen d₁ e d₂ → Row s last p (ahead b x a).parts q d e d₂
+      onward : (last e : ℕ) (d₂ : List ℕ) → Row s last (y.element + 1) (ahead b x r.after).parts r.pen d₁ e d₂ → Row s last p (ahead b x a).parts q d e d₂
       onward last e d₂ z =
           let u = parts_here b x a t in
           let these = rw (← c.scans.last, u) at c.group in
@@ -85,16 +86,16 @@ module _ (s : Separators) (b : List ℕ) (x : Line) (n : Look) (pen : Pen) (d₀
           rw u (group (rw f at h) these those)
 
   -- the next part is at an element that is done
-  pub rowing_below : (place : ℕ) (u : Tally) → a.more ≡ true → place ≡ a.part.element → place < p → Rows s b x n pen d₀ (record { pen = q; after = a; tally = u }) d
+  pub rowing_below : (place : ℕ) (u : Tally) {y : Planned} → a.part ≡ Some y → place ≡ y.element → place < p → Rows s b x n pen d₀ (record { pen = q; after = a; tally = u }) d
   unfolding stays
-  rowing_below place u t f h = record {
-    row = λ last e d₂ w. i.rest last e d₂ (rw (parts_here b x a t) (close (lt-ltb a.part.element p (rw f at h)) w));
+  rowing_below place u {y} t f h = record {
+    row = λ last e d₂ w. i.rest last e d₂ (rw (parts_here b x a t) (close (lt-ltb y.element p (rw f at h)) w));
     sees = i.sees;
     long = i.long;
   }
 
   -- no part is left
-  pub rowing_none : (u : Tally) → a.more ≡ false → Rows s b x n pen d₀ (record { pen = q; after = a; tally = u }) d
+  pub rowing_none : (u : Tally) → a.part ≡ None → Rows s b x n pen d₀ (record { pen = q; after = a; tally = u }) d
   unfolding stays
   rowing_none u t = record { row = λ last e d₂ w. i.rest last e d₂ (rw (ahead_none b x a t i.sees) (close refl w)); sees = i.sees; long = i.long }
 

@@ -1,7 +1,8 @@
 -- The parts of a line, one look after the other.
 use Prim.Native.Nat.{ℕ, ◌+◌, ◌≤◌, ◌<◌}
 use mathlib.Core.Path.{◌≡◌, refl, sym, ap, ◌∙◌}
-use mathlib.Core.Bool.{Bool, true, false}
+use Rattle.std.specs.Prelude.{Some, None}
+use Rattle.std.specs.declared.option.Option.{Option}
 use mathlib.Core.List.{List, [], ◌∷◌, ◌++◌}
 use native.Mathlib.Nat.{zero-add}
 use native.Mathlib.Omega.{arith}
@@ -12,7 +13,7 @@ use Rattle.format.specs.Sections.{job_of}
 use Rattle.format.specs.Ask.{loop_of, planned_of, identifier_of}
 use Rattle.nest.specs.Ready.{Ready}
 use Rattle.emit.proofs.NameLaws.{name_short, holds_length}
-use Rattle.spec.specs.Answers.{number_of, Holds}
+use Rattle.spec.specs.Answers.{Holds}
 use Rattle.plan.specs.declared.answers.ElementPlan.{ElementPlan}
 use Rattle.plan.specs.Answers.{element_of, ElementRead}
 use Rattle.plan.specs.Elements.{Elements, ElementStep, element_place, element_step}
@@ -65,43 +66,45 @@ module _ (b idx : List ℕ) (x : Line) (w : Lined b idx x) (k i p : ℕ) (q : Th
   through_place h = element_place b idx w.ready.plan p i (plans b x) (inside h) q.stands.place
 
   module _ (h : i < x.count) (e : ElementPlan) (f : (n : ℕ) (v : ElementPlanIn) → n ≤ length b → Is element_plan_c b n p v → ElementRead b n p v e)
-      (r : Look) (s : (r.k ≡ i + 1) × (r.at ≡ e.next) × ((b : List ℕ) (x : Line) → look_put b x r ≡ element_put b x (element_of b e))) where
+      (o : Option Planned) (s : (b : List ℕ) (x : Line) → look_put b x o ≡ element_put b x (element_of b e)) where
     read : ElementStep b i (plans b x) e
     read = element_step b idx w.ready.plan p i (plans b x) (inside h) q.stands.place e f
 
-    pub looked : puts b x k ≡ and_put (look_put b x r) (puts b x r.k)
+    pub looked : puts b x k ≡ and_put (look_put b x o) (puts b x (i + 1))
     looked = q.whole ∙ puts_next b x i (inside h)
         ∙ ap (λ (y : ElementPlanIn). and_put (element_put b x y) (puts b x (i + 1))) (sym read.plan)
-        ∙ ap (λ (y : Put). and_put y (puts b x (i + 1))) (sym (s.2 b x))
-        ∙ ap (λ (n : ℕ). and_put (look_put b x r) (puts b x n)) (sym s.0)
+        ∙ ap (λ (y : Put). and_put y (puts b x (i + 1))) (sym (s b x))
 
-    pub stood : Stands b x r.k r.at
-    stood = record { place = rw (s.0, s.1) read.rest; within = let m = inside h in let n = s.0 in omega (arith, m, n) }
+    pub stood : Stands b x (i + 1) e.next
+    stood = record { place = read.rest; within = let m = inside h in omega (arith, m) }
 
-    pub looks_found : r.more ≡ true → Looks b x k r
+    pub looks_found : {y : Planned} → o ≡ Some y → Looks b x k (record { part = Some y; k = i + 1; at = e.next })
     unfolding ahead
-    looks_found m = record {
+    looks_found {y} m = record {
       sees = record { stands = stood; ended = λ z. absurd (let y : ◌≡◌ {A = ℕ} 0 1 = cc in omega arith) };
-      whole = sym looked;
-      later = λ z. omega (arith, q.behind, s.0);
+      whole = sym (rw m at looked);
+      later = λ u z. omega (arith, q.behind);
     }
 
-    pub through_next : r.more ≡ false → Through b x k r.k r.at
-    through_next m = record { whole = looked ∙ rw m (nothing_then (puts b x r.k)); stands = stood; behind = omega (arith, q.behind, s.0) }
+    pub through_next : o ≡ None → Through b x k (i + 1) e.next
+    through_next m = record { whole = looked ∙ rw m (nothing_then (puts b x (i + 1))); stands = stood; behind = omega (arith, q.behind) }
 
-  pub looks_ended : x.count ≤ i → (r : Look) → (r.more ≡ false) × (r.k ≡ i) × (r.at ≡ p) → Looks b x k r
+  pub through_end : x.count ≤ i → x.count ≡ i
+  through_end h = omega (arith, h, w.count, q.stands.within)
+
+  pub looks_ended : (m : ℕ) → m ≡ i → x.count ≤ i → Looks b x k (record { part = None; k = m; at = p })
   unfolding ahead
-  looks_ended h r s = record {
-    sees = record { stands = rw (s.1, s.2) q.stands; ended = λ z. let n = s.1 in omega (arith, w.count, n) };
-    whole = rw (s.0, s.1) (nothing_then (puts b x i) ∙ sym q.whole);
-    later = λ z. absurd (let y : ◌≡◌ {A = ℕ} 0 1 = cc in omega arith);
+  looks_ended m e h = record {
+    sees = record { stands = rw e q.stands; ended = λ z. omega (arith, w.count, e, h) };
+    whole = rw e (nothing_then (puts b x i) ∙ sym q.whole);
+    later = λ u z. absurd (let y : ◌≡◌ {A = ℕ} 0 1 = cc in omega arith);
   }
 
 -- ---- look by look
 
 -- the part that a planned element gives
 abbrev pub part_by : List ℕ → Line → Planned → Part
-part_by b x p = part_at p.element (number_of p.component) (outcome_of b x p).text
+part_by b x p = part_at p.element p.component (outcome_of b x p).text
 
 pub part_is : (b : List ℕ) (x : Line) (p : Planned) → (part_put b x p).parts ≡ part_by b x p ∷ []
 unfolding part_put outcome_of put_cell
@@ -112,27 +115,27 @@ part_is b x p = go p.source refl
     go (Code s) e = rw e
 
 -- a part, and what the planned elements behind it put
-pub parts_here : (b : List ℕ) (x : Line) (n : Look) → n.more ≡ true → (ahead b x n).parts ≡ part_by b x n.part ∷ (puts b x n.k).parts
+pub parts_here : (b : List ℕ) (x : Line) (n : Look) {y : Planned} → n.part ≡ Some y → (ahead b x n).parts ≡ part_by b x y ∷ (puts b x n.k).parts
 unfolding ahead
-parts_here b x n e = rw e (ap (λ (ps : List Part). ps ++ (puts b x n.k).parts) (part_is b x n.part))
+parts_here b x n {y} e = rw e (ap (λ (ps : List Part). ps ++ (puts b x n.k).parts) (part_is b x y))
 
 module _ {b : List ℕ} {x : Line} (n m : Look) where
   -- a part, and what the next look tells of
-  pub ahead_more : n.more ≡ true → Looks b x n.k m → ahead b x n ≡ and_put (part_put b x n.part) (ahead b x m)
+  pub ahead_more : {y : Planned} → n.part ≡ Some y → Looks b x n.k m → ahead b x n ≡ and_put (part_put b x y) (ahead b x m)
   unfolding ahead
   ahead_more e l = rw (e, ← l.whole)
 
-  pub parts_more : n.more ≡ true → Looks b x n.k m → (ahead b x n).parts ≡ part_by b x n.part ∷ (ahead b x m).parts
-  parts_more e l = parts_here b x n e ∙ ap (λ (p : Put). part_by b x n.part ∷ p.parts) (sym l.whole)
+  pub parts_more : {y : Planned} → n.part ≡ Some y → Looks b x n.k m → (ahead b x n).parts ≡ part_by b x y ∷ (ahead b x m).parts
+  parts_more {y} e l = parts_here b x n e ∙ ap (λ (p : Put). part_by b x y ∷ p.parts) (sym l.whole)
 
-  pub left_less : (idx : List ℕ) → Lined b idx x → n.more ≡ true → Looks b x n.k m → left x.count m < left x.count n
-  left_less idx w e l = go m.more refl
+  pub left_less : (idx : List ℕ) → Lined b idx x → {y : Planned} → n.part ≡ Some y → Looks b x n.k m → left x.count m < left x.count n
+  left_less idx w e l = go m.part refl
     where
-      go : (t : Bool) → m.more ≡ t → left x.count m < left x.count n
-      go true q = rw (e, q) (let a = l.later q in let c = l.sees.stands.within in omega (arith, a, c, w.count))
-      go false q = rw (e, q) (omega arith)
+      go : (t : Option Planned) → m.part ≡ t → left x.count m < left x.count n
+      go (Some z) q = rw (e, q) (let a = l.later z q in let c = l.sees.stands.within in omega (arith, a, c, w.count))
+      go None q = rw (e, q) (omega arith)
 
 -- no part is left
-pub ahead_none : (b : List ℕ) (x : Line) (n : Look) → n.more ≡ false → Sees b x n → ahead b x n ≡ nothing
+pub ahead_none : (b : List ℕ) (x : Line) (n : Look) → n.part ≡ None → Sees b x n → ahead b x n ≡ nothing
 unfolding ahead
 ahead_none b x n e s = rw (e, puts_end b x n.k (s.ended e))

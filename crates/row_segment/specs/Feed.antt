@@ -1,7 +1,6 @@
 -- A part of a row segment, as code writes and notes it where the parts come in the order of their places.
 use Rattle.std.specs.Prelude.{ℕ, ◌+◌, ◌≡◌, List}
 use Rattle.lent.specs.Fit.{base, StoredAt}
-use Rattle.spec.specs.Answers.{number_of}
 use Rattle.segment.specs.declared.Separators.{Separators}
 use Rattle.segment.specs.declared.Pen.{Pen}
 use Rattle.segment.specs.Parts.{or_one}
@@ -20,7 +19,7 @@ FromCell p column = p.source ≡ Cell column
 
 -- the part's text stands at its place, and the part is noted: the document went from d to d', the findings from f to f'
 pub record Stood (s : Separators) (b : List ℕ) (x : Line) (p : Planned) (pen : Pen) (from n : ℕ) (d f : List ℕ) (r : Behind) (d' f' : List ℕ) : Type 0 where
-  pub penned : Penned (placed s pen p.element (or_one (number_of p.component)) (outcome_of b x p).text) pen.at r.pen d d'
+  pub penned : Penned (placed s pen p.element (or_one p.component) (outcome_of b x p).text) pen.at r.pen d d'
   pub findings : StoredAt base f from (words_of (part_put b x p).findings) r.findings f'
   pub entries : r.entries ≡ n + (part_put b x p).entries
 

@@ -1,5 +1,5 @@
 -- The parts of a row segment at one element, as code looks through them.
-use Rattle.std.specs.Prelude.{ℕ, ◌<◌, ◌≡◌, true, List, length}
+use Rattle.std.specs.Prelude.{ℕ, ◌<◌, ◌≡◌, List, length, Some}
 use Rattle.lent.specs.Fit.{Stored}
 use Rattle.segment.specs.declared.Separators.{Separators}
 use Rattle.segment.specs.declared.Pen.{Pen}
@@ -8,6 +8,7 @@ use Rattle.segment.specs.Pen.{closing}
 use Rattle.segment.specs.Calls.{Group, Row}
 use Rattle.row_segment.specs.declared.parts.Line.{Line}
 use Rattle.row_segment.specs.declared.parts.Look.{Look}
+use Rattle.row_segment.specs.declared.parts.Planned.{Planned}
 use Rattle.row_segment.specs.declared.join.Step.{Step}
 use Rattle.row_segment.specs.Stream.{ahead, Sees, left}
 
@@ -17,13 +18,13 @@ pub record Scans (b : List ℕ) (x : Line) (n : Look) (e k : ℕ) (m : Look) : T
   pub rest : after e (ahead b x n).parts ≡ (ahead b x m).parts
   pub sees : Sees b x m
   pub low : k < 4294967296
-  pub less : n.more ≡ true → n.part.element ≡ e → left x.count m < left x.count n
+  pub less : (p : Planned) → n.part ≡ Some p → p.element ≡ e → left x.count m < left x.count n
 
--- the element with which a look begins is written, and its parts are passed
-pub record Steps (s : Separators) (b : List ℕ) (x : Line) (n : Look) (pen : Pen) (d : List ℕ) (r : Step) (d' : List ℕ) : Type 0 where
+-- element e, with which a look begins, is written, and its parts are passed
+pub record Steps (s : Separators) (b : List ℕ) (x : Line) (n : Look) (e : ℕ) (pen : Pen) (d : List ℕ) (r : Step) (d' : List ℕ) : Type 0 where
   pub last : ℕ
-  pub scans : Scans b x n n.part.element last r.after
-  pub group : Group s last (component_text (here n.part.element (ahead b x n).parts)) n.part.element 1 pen d r.pen d'
+  pub scans : Scans b x n e last r.after
+  pub group : Group s last (component_text (here e (ahead b x n).parts)) e 1 pen d r.pen d'
 
 -- the parts of a look are written as far as their elements rise: closing the segment completes it
 pub record Rows (s : Separators) (b : List ℕ) (x : Line) (n : Look) (pen : Pen) (d : List ℕ) (r : Step) (d' : List ℕ) : Type 0 where

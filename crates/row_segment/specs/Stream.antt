@@ -1,13 +1,11 @@
 -- The parts of a row segment as code goes through them: what its planned elements put from some number on.
-use Rattle.std.specs.Prelude.{ℕ, suc, ◌-◌, ◌≤◌, ◌<◌, ◌≡◌, Bool, true, false, List, length, drop}
-use Rattle.std.proofs.Math.Option.{Option}
+use Rattle.std.specs.Prelude.{ℕ, suc, ◌-◌, ◌≤◌, ◌<◌, ◌≡◌, List, length, drop, Some, None, Option}
 use Rattle.format.specs.Plan.{ElementPlan}
 use Rattle.format.specs.Sections.{job_of}
 use Rattle.format.specs.Ask.{planned_of, identifier_of}
 use Rattle.texts.specs.Reason.{Outcome, gives}
-use Rattle.spec.specs.Answers.{stretch_of, number_of, Holds}
+use Rattle.spec.specs.Answers.{stretch_of, Holds}
 use Rattle.plan.specs.Elements.{Elements}
-use Rattle.segment.specs.Parts.{pick}
 use Rattle.nest.specs.Ready.{Ready}
 use Rattle.emit.specs.Puts.{Put, cell_outcome, nothing, and_put, put_cell, put_text, row_value, row_put}
 use Rattle.row_segment.specs.declared.parts.Line.{Line}
@@ -48,7 +46,7 @@ source_put b x e c (Cell n) = put_cell (job_of b) (id_of b x) e c x.t.0 n x.r.0
 source_put b x e c (Code s) = put_text e c (stretch_of b s)
 
 unfoldable pub part_put : List ℕ → Line → Planned → Put
-part_put b x p = source_put b x p.element (number_of p.component) p.source
+part_put b x p = source_put b x p.element p.component p.source
 
 -- the text of a part, and the reason why it has none
 abbrev pub source_outcome : List ℕ → Line → ℕ → Option ℕ → Source → Outcome
@@ -56,7 +54,7 @@ source_outcome b x e c (Cell n) = cell_outcome (job_of b) (id_of b x) x.t.0 x.r.
 source_outcome b x e c (Code s) = gives (stretch_of b s)
 
 unfoldable pub outcome_of : List ℕ → Line → Planned → Outcome
-outcome_of b x p = source_outcome b x p.element (number_of p.component) p.source
+outcome_of b x p = source_outcome b x p.element p.component p.source
 
 -- ---- looking ahead
 
@@ -66,24 +64,29 @@ pub record Stands (b : List ℕ) (x : Line) (k at : ℕ) : Type 0 where
   pub within : k ≤ length (plans b x)
 
 -- what was looked at, and nothing where no part is left
-abbrev pub look_put : List ℕ → Line → Look → Put
-look_put b x n = pick n.more (part_put b x n.part) nothing
+abbrev pub look_put : List ℕ → Line → Option Planned → Put
+look_put b x (Some p) = part_put b x p
+look_put b x None = nothing
 
 -- that and what is behind it
 unfoldable pub ahead : List ℕ → Line → Look → Put
-ahead b x n = and_put (look_put b x n) (puts b x n.k)
+ahead b x n = and_put (look_put b x n.part) (puts b x n.k)
 
 -- a look that tells of the line
 pub record Sees (b : List ℕ) (x : Line) (n : Look) : Type 0 where
   pub stands : Stands b x n.k n.at
-  pub ended : n.more ≡ false → length (plans b x) ≤ n.k
+  pub ended : n.part ≡ None → length (plans b x) ≤ n.k
 
 -- it tells of what stands from number k on
 pub record Looks (b : List ℕ) (x : Line) (k : ℕ) (n : Look) : Type 0 where
   pub sees : Sees b x n
   pub whole : ahead b x n ≡ puts b x k
-  pub later : n.more ≡ true → k < n.k
+  pub later : (p : Planned) → n.part ≡ Some p → k < n.k
 
 -- how often one can still look on, of `count` planned elements
+abbrev pub left_of : ℕ → ℕ → Option Planned → ℕ
+left_of count k (Some p) = suc (count - k)
+left_of count k None = 0
+
 abbrev pub left : ℕ → Look → ℕ
-left count n = pick n.more (suc (count - n.k)) 0
+left count n = left_of count n.k n.part

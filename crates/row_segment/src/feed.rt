@@ -1,6 +1,5 @@
 // A part that is written and noted as it comes, by what gives it its text.
-ghost use Rattle.std.specs.Prelude.{◌≡◌, true, ◌<◌};
-ghost use Rattle.std.proofs.Math.Option.{some};
+ghost use Rattle.std.specs.Prelude.{◌≡◌, true, ◌<◌, Some};
 ghost use Rattle.lent.specs.Fit.{stretch, more};
 ghost use Rattle.format.specs.Sections.{job_of};
 ghost use Rattle.format.specs.Ask.{data_of};
@@ -69,14 +68,13 @@ fn put_own(
     cell: Cell,
 ) -> Behind
     requires { Lined job.now index.now x × (entries < 4294967296) × FromCell p column
-        × Reads job.now cell (some (cell_of (data_of (job_of job.now) x.t.0) column x.r.0)) × (is_own cell ≡ true) }
+        × Reads job.now cell (Some (cell_of (data_of (job_of job.now) x.t.0) column x.r.0)) × (is_own cell ≡ true) }
     ensures { Stood s job.now x p pen from entries doc.old findings.old result doc.new findings.new }
 {
     let id = x.id;
     let component = p.component;
     let w = cells::own_text(job, index, id, p.element, component, cell);
-    let text = w.text;
-    let refused = w.refused;
+    let text = cells::text_in(w);
     let bytes = text.bytes;
     let c = signs::component_of(component);
     let q = segment::part(
@@ -89,7 +87,7 @@ fn put_own(
         0,
         text.len,
     );
-    let f = notes::note_refused(job, findings, from, x, p, column, refused);
+    let f = notes::note_refused(job, findings, from, x, p, column, w.err());
     Behind {
         pen: q,
         findings: f,
@@ -153,28 +151,27 @@ fn put_cell(
     let table = x.t;
     let row = x.r;
     let cell = tables::data::cell(job, index, table, column, row);
-    let h = cells::held_in(cell);
-    if h.is {
-        if findings::stretch_holds(job, h.start, h.len, d) {
-            return put_value(job, index, doc, findings, s, pen, from, entries, x, p);
-        }
-        let component = p.component;
-        let c = signs::component_of(component);
-        return put_stretch(
-            job,
-            doc,
-            s,
-            pen,
-            from,
-            entries + 1,
-            p.element,
-            c,
-            h.start,
-            h.len,
+    let Some(h) = cells::held_in(cell) else {
+        return put_own(
+            job, index, doc, findings, s, pen, from, entries, x, p, column, cell,
         );
+    };
+    if findings::stretch_holds(job, h.start, h.len, d) {
+        return put_value(job, index, doc, findings, s, pen, from, entries, x, p);
     }
-    put_own(
-        job, index, doc, findings, s, pen, from, entries, x, p, column, cell,
+    let component = p.component;
+    let c = signs::component_of(component);
+    put_stretch(
+        job,
+        doc,
+        s,
+        pen,
+        from,
+        entries + 1,
+        p.element,
+        c,
+        h.start,
+        h.len,
     )
 }
 

@@ -1,5 +1,5 @@
 // Row segments whose parts come in any order, in one pass: they are noted and joined, element by element as they come.
-ghost use Rattle.std.specs.Prelude.{◌≡◌, true, ◌≤◌, ◌<◌};
+ghost use Rattle.std.specs.Prelude.{◌≡◌, ◌≤◌, ◌<◌};
 ghost use Rattle.lent.specs.Fit.{cap, Stored};
 ghost use Rattle.format.specs.Sections.{job_of};
 ghost use Rattle.segment.specs.Parts.{here, component_text, joined};
@@ -41,8 +41,8 @@ fn scan(
     let mut a = n;
     let mut s = t;
     let mut m: usize = 0;
-    while a.more {
-        let p = a.part;
+    // No `for`: the cursor over the planned elements counts itself.
+    while let Some(p) = a.part {
         if p.element != e {
             return Scanned {
                 last: m,
@@ -70,16 +70,15 @@ fn component_value(job: &[u8], index: &[u16], x: Line, n: Look, e: u32, c: usize
     ensures { value_text job.now result ≡ component_text (here e (ahead job.now x n).parts) c }
 {
     let mut a = n;
-    while a.more {
-        let p = a.part;
+    // No `for`: the cursor over the planned elements counts itself.
+    while let Some(p) = a.part {
         if p.element != e {
             return segment::held(0, 0);
         }
         let component = p.component;
         if signs::component_of(component) as usize == c {
             let w = parts::text_of(job, index, x, p);
-            let v = w.value;
-            return v;
+            return w.value;
         }
         a = parts::next_part(job, index, x, a.k, a.at);
     }
@@ -101,12 +100,10 @@ fn put_group(
     requires { Lined job.now index.now x × Sees job.now x n × (k < 4294967296) }
     ensures { Group s k (component_text (here e (ahead job.now x n).parts)) e 1 pen doc.old result doc.new }
 {
-    let mut c: usize = 1;
     let mut q = pen;
-    while c <= k {
+    for c in 1..=k {
         let v = component_value(job, index, x, n, e, c);
         q = segment::component(doc, job, s, q, e as usize, c, v);
-        c = c + 1;
     }
     segment::finish(doc, s, q, e as usize, k)
 }
@@ -125,7 +122,7 @@ pub struct Step {
     pub tally: Tally,
 }
 
-// The element of a look, written and noted.
+// Element e, at which the parts of a look begin, written and noted.
 fn put_next(
     job: &[u8],
     index: &[u16],
@@ -137,19 +134,17 @@ fn put_next(
     x: Line,
     y: Tried,
     a: Look,
+    e: u32,
 ) -> Step
-    requires { Lined job.now index.now x × Tries job.now x y × Sees job.now x a × Room job.now x t a × (a.more ≡ true) }
-    ensures { Steps s job.now x a pen doc.old result doc.new × Between job.now x a result.after t result.tally findings.old findings.new }
+    requires { Lined job.now index.now x × Tries job.now x y × Sees job.now x a × Room job.now x t a }
+    ensures { Steps s job.now x a e pen doc.old result doc.new × Between job.now x a result.after t result.tally findings.old findings.new }
 {
-    let p = a.part;
-    let g = scan(job, index, findings, t, x, y, a, p.element);
-    let q = put_group(job, index, doc, s, pen, x, a, p.element, g.last);
-    let rest = g.after;
-    let u = g.tally;
+    let g = scan(job, index, findings, t, x, y, a, e);
+    let q = put_group(job, index, doc, s, pen, x, a, e, g.last);
     Step {
         pen: q,
-        after: rest,
-        tally: u,
+        after: g.after,
+        tally: g.tally,
     }
 }
 
@@ -173,8 +168,8 @@ fn put_groups(
     let mut q = pen;
     let mut u = t;
     let mut done: usize = 1;
-    while a.more {
-        let p = a.part;
+    // No `for`: the cursor over the planned elements counts itself.
+    while let Some(p) = a.part {
         let place = wide(p.element);
         if place < done {
             return Step {
@@ -183,13 +178,10 @@ fn put_groups(
                 tally: u,
             };
         }
-        let g = put_next(job, index, doc, findings, s, q, u, x, y, a);
-        let after = g.after;
-        let e = g.pen;
-        let v = g.tally;
-        a = after;
-        q = e;
-        u = v;
+        let g = put_next(job, index, doc, findings, s, q, u, x, y, a, p.element);
+        a = g.after;
+        q = g.pen;
+        u = g.tally;
         done = place + 1;
     }
     Step {
@@ -220,16 +212,10 @@ fn end_line(
     requires { Lined job.now index.now x × Tries job.now x y × Sees job.now x g.after × Room job.now x g.tally g.after × (g.tally.findings ≤ cap) }
     ensures { Stored doc.old g.pen.at (closing s g.pen result.tally.last) result.bytes doc.new × Notes (ahead job.now x g.after) g.tally result.tally findings.old findings.new }
 {
-    let n = g.after;
     let t = g.tally;
-    let pen = g.pen;
-    if n.more {
-        let u = notes::note_rest(job, index, findings, t, x, y, n);
-        let bytes = segment::close(doc, s, pen, u.last);
-        return Joined { bytes, tally: u };
-    }
-    let bytes = segment::close(doc, s, pen, t.last);
-    Joined { bytes, tally: t }
+    let u = notes::note_rest(job, index, findings, t, x, y, g.after);
+    let bytes = segment::close(doc, s, g.pen, u.last);
+    Joined { bytes, tally: u }
 }
 
 // The bytes of a line from `at` on, and its notes; `from` numbers of findings stand before.

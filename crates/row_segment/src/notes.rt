@@ -1,8 +1,8 @@
 // What the parts of a row segment are noted for: the findings on their texts, their trace entries, the last filled element.
 ghost use Rattle.std.specs.Prelude.{◌≡◌, List, ℕ, ◌≤◌, ◌<◌};
 ghost use Rattle.lent.specs.Fit.{base, cap, more, StoredAt, Noted};
-ghost use Rattle.texts.specs.Reason.{reason_of};
-ghost use Rattle.spec.specs.Answers.{number_of, Holds};
+ghost use Rattle.texts.specs.Reason.{why_in};
+ghost use Rattle.spec.specs.Answers.{Holds};
 ghost use Rattle.nest.specs.Finding.{cell, number_from};
 ghost use Rattle.format.specs.Sections.{job_of};
 ghost use Rattle.emit.specs.Fold.{separators_of};
@@ -15,9 +15,8 @@ use crate::parts;
 use crate::parts::{Line, Look, Planned, Source};
 use emit::cells::Written;
 use emit::findings::{Delimiters, Spot};
-use emit::{cells, findings, signs};
+use emit::{findings, signs};
 use segment::Separators;
-use spec::ids::Number;
 use texts::render::Refused;
 
 // How many numbers of findings there are, how many trace entries, and the last filled element.
@@ -43,8 +42,8 @@ pub struct Tried {
     pub delimiters: Delimiters,
 }
 
-fn spot(x: Line, name: u64, element: u32, component: Number, column: u32) -> Spot
-    ensures { (id : List ℕ) → name ≡ number_from 0 id → result ≡ spot_of (cell x.t.0 x.r.0 column) (place_of id element (number_of component)) }
+fn spot(x: Line, name: u64, element: u32, component: Option<u32>, column: u32) -> Spot
+    ensures { (id : List ℕ) → name ≡ number_from 0 id → result ≡ spot_of (cell x.t.0 x.r.0 column) (place_of id element component) }
 {
     let t = x.t;
     let r = x.r;
@@ -113,20 +112,19 @@ pub fn note_refused(
     x: Line,
     p: Planned,
     column: u32,
-    why: Refused,
+    why: Option<Refused>,
 ) -> usize
     requires { Holds job.now x.id (id_of job.now x) × (x.id.len ≤ 3) }
-    ensures { Noted findings.old at (words_of (unwritten (cell x.t.0 x.r.0 column) (place_of (id_of job.now x) p.element (number_of p.component)) (reason_of why))) result findings.new }
+    ensures { Noted findings.old at (words_of (unwritten (cell x.t.0 x.r.0 column) (place_of (id_of job.now x) p.element p.component) (why_in why))) result findings.new }
 {
-    let reason = cells::reason_of(why);
-    if reason == 0 {
+    if why.is_none() {
         return lent::more(at, 0);
     }
     let id = x.id;
     let name = signs::id_number(job, id);
     let component = p.component;
     let place = spot(x, name, p.element, component, column);
-    findings::note_reason(findings, at, place, reason)
+    findings::note_reason(findings, at, place, why)
 }
 
 // A cell has a trace entry, a code has none.
@@ -191,8 +189,8 @@ pub fn note_rest(
 {
     let mut s = t;
     let mut a = n;
-    while a.more {
-        let p = a.part;
+    // No `for`: the cursor over the planned elements counts itself.
+    while let Some(p) = a.part {
         let w = parts::text_of(job, index, x, p);
         s = note_text(job, findings, s, x, y, p, w);
         a = parts::next_part(job, index, x, a.k, a.at);

@@ -38,26 +38,20 @@ pub fn in_order(job: &[u8], index: &[u16], x: Line) -> bool
     requires { Lined job.now index.now x }
     ensures { result ≡ true → Rises 1 1 (puts job.now x 0).parts }
 {
-    let mut k: u32 = 0;
     let mut p = x.first;
     let mut at: u32 = 1;
     let mut from: usize = 1;
-    while k < x.count {
+    for _k in 0..x.count {
         let e = plan::read::element_at(job, p);
-        let a = parts::seen(e, k + 1);
-        if a.more {
-            let part = a.part;
-            let component = part.component;
-            let c = signs::component_of(component);
-            if behind(part.element, c, at, from) {
-                at = part.element;
-                from = c as usize + 1;
-            } else {
+        p = e.next;
+        if let Some(part) = parts::seen(e) {
+            let c = signs::component_of(part.component);
+            if !behind(part.element, c, at, from) {
                 return false;
             }
+            at = part.element;
+            from = c as usize + 1;
         }
-        k = a.k;
-        p = a.at;
     }
     true
 }
@@ -77,18 +71,16 @@ fn put_parts(
     requires { Lined job.now index.now x × Triable job.now s d × (from ≤ cap) }
     ensures { AllStood s job.now x pen from doc.old findings.old result doc.new findings.new }
 {
-    let mut k: u32 = 0;
     let mut p = x.first;
     let mut at = pen.at;
     let mut elements = pen.elements;
     let mut components = pen.components;
     let mut f = from;
     let mut n: usize = 0;
-    while k < x.count {
+    for _k in 0..x.count {
         let e = plan::read::element_at(job, p);
-        let a = parts::seen(e, k + 1);
-        if a.more {
-            let part = a.part;
+        p = e.next;
+        if let Some(part) = parts::seen(e) {
             let q = Pen {
                 at,
                 elements,
@@ -102,8 +94,6 @@ fn put_parts(
             f = g.findings;
             n = g.entries;
         }
-        k = a.k;
-        p = a.at;
     }
     Behind {
         pen: Pen {

@@ -1,5 +1,5 @@
 // The planned elements of a row segment as parts, one after the other.
-ghost use Rattle.std.specs.Prelude.{◌≡◌, List, ℕ, ◌<◌, max, false};
+ghost use Rattle.std.specs.Prelude.{◌≡◌, List, ℕ, ◌<◌, max};
 ghost use Rattle.nest.specs.Ready.{Ready};
 ghost use Rattle.plan.specs.Answers.{element_of};
 ghost use Rattle.plan.specs.Planned.{PlannedIs};
@@ -12,7 +12,7 @@ use emit::cells;
 use emit::cells::Written;
 use plan::answers::{ElementPlan, Planned as PlannedSegment, ValueSource};
 use segment::Value;
-use spec::ids::{LoopId, Number, RowId, Stretch, TableId};
+use spec::ids::{LoopId, RowId, Stretch, TableId};
 
 // A planned segment of a loop, with its identifier, how many elements it has and from where on they stand, and the row that fills it.
 #[derive(Clone, Copy)]
@@ -26,7 +26,7 @@ pub struct Line {
     pub r: RowId,
 }
 
-// What gives a part its text.
+// What gives a part its text. repeat_segment has the same cases: a type for both would stand in a crate below, for these two alone.
 #[derive(Clone, Copy)]
 pub enum Source {
     Cell(u32),
@@ -36,15 +36,14 @@ pub enum Source {
 #[derive(Clone, Copy)]
 pub struct Planned {
     pub element: u32,
-    pub component: Number,
+    pub component: Option<u32>,
     pub source: Source,
 }
 
 // The next part, if there is one; the number and the place of the planned element behind it.
 #[derive(Clone, Copy)]
 pub struct Look {
-    pub more: bool,
-    pub part: Planned,
+    pub part: Option<Planned>,
     pub k: u32,
     pub at: usize,
 }
@@ -74,49 +73,26 @@ pub fn line_of(
     }
 }
 
-// What a planned element tells; the next one is number k.
-fn told(more: bool, e: ElementPlan, source: Source, k: u32) -> Look
-    ensures { result ≡ record { more = more; part = record { element = e.element; component = e.component; source = source }; k = k; at = e.next } }
+// What a planned element tells.
+fn told(e: ElementPlan, source: Source) -> Planned
+    ensures { result ≡ record { element = e.element; component = e.component; source = source } }
 {
-    let component = e.component;
-    let part = Planned {
+    Planned {
         element: e.element,
-        component,
+        component: e.component,
         source,
-    };
-    Look {
-        more,
-        part,
-        k,
-        at: e.next,
     }
 }
 
 // A planned element as a part; a `Group` value is none.
-pub fn seen(e: ElementPlan, k: u32) -> Look
-    ensures { (result.k ≡ k) × (result.at ≡ e.next) × ((b : List ℕ) (x : Line) → look_put b x result ≡ element_put b x (element_of b e)) }
+pub fn seen(e: ElementPlan) -> Option<Planned>
+    ensures { (b : List ℕ) (x : Line) → look_put b x result ≡ element_put b x (element_of b e) }
 {
     let v = e.value;
     match v {
-        ValueSource::Column(c) => told(true, e, Source::Cell(c), k),
-        ValueSource::Group(c) => told(false, e, Source::Cell(c), k),
-        ValueSource::Code(s) => told(true, e, Source::Code(s), k),
-    }
-}
-
-// No part is left.
-fn ended(k: u32, at: usize) -> Look
-    ensures { (result.more ≡ false) × (result.k ≡ k) × (result.at ≡ at) }
-{
-    Look {
-        more: false,
-        part: Planned {
-            element: 0,
-            component: Number::None,
-            source: Source::Cell(0),
-        },
-        k,
-        at,
+        ValueSource::Column(c) => Some(told(e, Source::Cell(c))),
+        ValueSource::Group(_) => None,
+        ValueSource::Code(s) => Some(told(e, Source::Code(s))),
     }
 }
 
@@ -125,18 +101,23 @@ pub fn next_part(job: &[u8], index: &[u16], x: Line, k: u32, at: usize) -> Look
     requires { Lined job.now index.now x × Stands job.now x k at }
     ensures { Looks job.now x k result }
 {
-    let mut i = k;
     let mut p = at;
-    while i < x.count {
+    for i in k..x.count {
         let e = plan::read::element_at(job, p);
-        let r = seen(e, i + 1);
-        if r.more {
-            return r;
+        p = e.next;
+        if let Some(part) = seen(e) {
+            return Look {
+                part: Some(part),
+                k: i + 1,
+                at: p,
+            };
         }
-        i = r.k;
-        p = r.at;
     }
-    ended(i, p)
+    Look {
+        part: None,
+        k: x.count,
+        at: p,
+    }
 }
 
 // The first part of all.

@@ -2,8 +2,8 @@
 use Prim.Native.Nat.{ℕ, ◌+◌, ◌<◌}
 use mathlib.Core.Path.{◌≡◌, refl, sym, ap, ◌∙◌}
 use mathlib.Core.List.{List, [], ◌∷◌, ◌++◌, map, append_assoc, append-nil}
-use mathlib.Core.Option.{Option, none, some}
 use native.Mathlib.Omega.{arith}
+use Rattle.std.specs.Prelude.{Option, None, Some}
 use lib.ListN.{length, length-set, length-map}
 use Rattle.format.specs.Job.{Job}
 use Rattle.format.specs.Ask.{loop_of}
@@ -43,8 +43,8 @@ abbrev Wide : F.State → F.Out → Type 0
 Wide s o = (length o.state.high ≡ length s.high) × (length o.state.counter ≡ length s.counter)
 
 on_wide : {A : Type 0} (s : F.State) (x : Option A) (f : A → F.Out) (o : F.Out) → ((a : A) → Wide s (f a)) → Wide s o → Wide s (on x f o)
-on_wide s none f o p q = q
-on_wide s (some a) f o p q = p a
+on_wide s None f o p q = q
+on_wide s (Some a) f o p q = p a
 
 step_wide : (j : Job) (x : Step) (s : F.State) → Wide s (step_out j x s)
 unfolding step_out F.stop_out F.opener_out F.row_out F.fill_out F.chunk_out F.closer_out

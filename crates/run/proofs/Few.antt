@@ -3,8 +3,8 @@ use Prim.Native.Nat.{ℕ, zero, suc, ◌*◌, ◌≤◌}
 use mathlib.Core.Path.{◌≡◌, refl, ap}
 use mathlib.Core.Bool.{Bool, true, false, cond, not}
 use mathlib.Core.List.{List, [], ◌∷◌}
-use mathlib.Core.Option.{Option, none, some}
 use native.Mathlib.Omega.{arith}
+use Rattle.std.specs.Prelude.{Option, None, Some}
 use lib.ListN.{length, length-take, length-drop, length-map}
 use lib.Dec.{eqb}
 use Rattle.nest.specs.Lists.{on, from, is, part, sum, some_of, is_empty_list}
@@ -38,16 +38,16 @@ module _ (j : Outline) where
   held_few t row = go (table_parent j t)
     where
       inner : (u : ℕ) (x : Option ℕ) → length (on x (held j t u) []) ≤ row_count j t
-      inner u none = omega arith
-      inner u (some p) = keep_length (λ r. is (referred j t r u) p) 0 (row_count j t)
+      inner u None = omega arith
+      inner u (Some p) = keep_length (λ r. is (referred j t r u) p) 0 (row_count j t)
 
       go : (x : Option ℕ) → length (on x (λ u. on (row u) (held j t u) []) (from 0 (row_count j t))) ≤ row_count j t
-      go none = omega (arith, from_length (row_count j t) 0)
-      go (some u) = inner u (row u)
+      go None = omega (arith, from_length (row_count j t) 0)
+      go (Some u) = inner u (row u)
 
   cut_few : (t : ℕ) (run : Option Run) (xs : List ℕ) → length (cut_to t run xs) ≤ length xs
-  cut_few t none xs = omega arith
-  cut_few t (some p) xs = go (eqb p.table t)
+  cut_few t None xs = omega arith
+  cut_few t (Some p) xs = go (eqb p.table t)
     where
       go : (b : Bool) → length (cond b (part p.start p.end xs) xs) ≤ length xs
       go true = simp (length-take, length-drop) (omega arith)
@@ -75,8 +75,8 @@ module _ (j : Outline) where
     kind_few below l c (inside t) = go (c.row t)
       where
         go : (x : Option ℕ) → length (on x (λ r. cond (shown j l t r) (c ∷ []) []) []) ≤ R
-        go none = omega arith
-        go (some r) = one_at_most (shown j l t r) c
+        go None = omega arith
+        go (Some r) = one_at_most (shown j l t r) c
     kind_few below l c implied = one_at_most (some_of (λ k. not (is_empty_list (below k c))) (loop_of j l).children) c
 
     pub instances_few : (h l : ℕ) (c : Context) → length (instances j h l c) ≤ R

@@ -2,9 +2,9 @@
 use Prim.Native.Nat.{ℕ, zero, suc, ◌+◌, ◌-◌, ◌*◌, ◌≤◌, ◌<◌}
 use mathlib.Core.Path.{◌≡◌, refl, sym, ap, ◌∙◌}
 use mathlib.Core.List.{List, [], ◌∷◌, ◌++◌}
-use mathlib.Core.Option.{Option, none, some}
 use native.Mathlib.Omega.{arith}
 use native.Mathlib.Numerals.{sub-one}
+use Rattle.std.specs.Prelude.{Option, None, Some}
 use lib.ListN.{length, get_or, drop}
 use Rattle.format.specs.Layout as L
 use Rattle.format.specs.Job.{Job}
@@ -59,8 +59,8 @@ enters_count l xs = omega arith
 
 stop_count : (l : ℕ) (own : Option Row) → segments_in (stop_at l own) ≡ 0
 unfolding segments_in
-stop_count l none = refl
-stop_count l (some p) = refl
+stop_count l None = refl
+stop_count l (Some p) = refl
 
 module _ (j : Job) (h l : ℕ) (c : Context) where
   abbrev its : List Step

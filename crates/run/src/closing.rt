@@ -10,7 +10,7 @@ ghost use Rattle.run.specs.Went.{Closes};
 
 use crate::segments;
 use emit::state::Counts;
-use spec::ids::{LoopId, Text};
+use spec::ids::{LoopId, Stretch};
 
 // Whether a loop has `end`.
 fn ends(job: &[u8], index: &[u16], l: LoopId) -> bool
@@ -19,8 +19,8 @@ fn ends(job: &[u8], index: &[u16], l: LoopId) -> bool
 {
     let end = spec::loops::loop_end(job, index, l);
     match end {
-        Text::Is(_) => true,
-        Text::None => false,
+        Some(_) => true,
+        None => false,
     }
 }
 
@@ -29,11 +29,7 @@ fn closes(job: &[u8], index: &[u16], l: LoopId) -> bool
     requires { Ready job.now index.now }
     ensures { result ≡ ((loop_of (outline_at job.now) l.0).ends && (loop_of (outline_at job.now) l.0).controlled) }
 {
-    let last = ends(job, index, l);
-    if last {
-        return segments::controlled(job, index, l);
-    }
-    false
+    ends(job, index, l) && segments::controlled(job, index, l)
 }
 
 // The counts behind a closer, and how many segments it is.
@@ -59,8 +55,7 @@ pub fn close(
     ensures { (body : List Step) (f p : List ℕ) → count ≡ segments_in body → Closes (job_of job.now) (close_steps (outline_at job.now) l.0 children body) l.0 number s result
         doc.old doc.new segments.old segments.new f f p p }
 {
-    let last = closes(job, index, l);
-    if last {
+    if closes(job, index, l) {
         let opened = due::opened(job, index, l);
         let n = trigger::write_close(
             job,

@@ -16,7 +16,7 @@ ghost use Rattle.emit.specs.Did.{state_of, Did, Small, Took};
 ghost use Rattle.run.specs.Went.{Walks, Went};
 
 use crate::closing::close;
-use crate::own::{enter_own, own_row, table_in};
+use crate::own::enter_own;
 use crate::segments::{Due, segment_due};
 use emit::state::{State, Taken};
 use instances::{context_in, instances, next_instance};
@@ -42,11 +42,8 @@ fn tally(s: State, written: usize, instances: usize) -> Visited
     ensures { result ≡ record { taken = record { state = s; written = written }; instances = instances } }
 {
     Visited {
-        taken: Taken {
-            state: s,
-            written: written,
-        },
-        instances: instances,
+        taken: Taken { state: s, written },
+        instances,
     }
 }
 
@@ -76,57 +73,47 @@ fn visits(
     let mut t = s;
     let mut written: usize = 0;
     let mut n: usize = 0;
+    // No `for`: the cursor of the instances counts itself.
     loop {
-        let next = next_instance(job, index, nest, cur);
-        let more = next.more;
-        if more {
-            let d = context_in(cur, next);
-            let own = own_row(job, index, l, d);
-            let i = table_in(own);
-            let m = t.high[i];
-            let e = enter_own(job, index, nest, findings, stops, m, t.counts, l, own);
-            let mark = e.mark;
-            let counts = e.counts;
-            t.high[i] = mark;
-            t.counts = counts;
-            let v = items(
-                job,
-                index,
-                nest,
-                doc,
-                segments,
-                findings,
-                stops,
-                t,
-                l,
-                d,
-                height - 1,
-            );
-            let w = v.taken;
-            t = w.state;
-            let k = l.0 as usize;
-            let number = t.counter[k];
-            let last = close(
-                job,
-                index,
-                doc,
-                segments,
-                t.counts,
-                number,
-                l,
-                v.instances,
-                w.written,
-            );
-            let behind = last.counts;
-            t.counts = behind;
-            written += w.written + last.written;
-            n += 1;
-            cur.kind = next.kind;
-            cur.seen = next.seen;
-            cur.next = next.next;
-        } else {
+        let Some(next) = next_instance(job, index, nest, cur) else {
             return tally(t, written, n);
-        }
+        };
+        let d = context_in(cur, next);
+        enter_own(job, index, nest, findings, stops, &mut t, l, d);
+        let v = items(
+            job,
+            index,
+            nest,
+            doc,
+            segments,
+            findings,
+            stops,
+            t,
+            l,
+            d,
+            height - 1,
+        );
+        let w = v.taken;
+        t = w.state;
+        let k = l.0 as usize;
+        let number = t.counter[k];
+        let last = close(
+            job,
+            index,
+            doc,
+            segments,
+            t.counts,
+            number,
+            l,
+            v.instances,
+            w.written,
+        );
+        t.counts = last.counts;
+        written += w.written + last.written;
+        n += 1;
+        cur.kind = next.kind;
+        cur.seen = next.seen;
+        cur.next = next.next;
     }
 }
 
@@ -154,45 +141,39 @@ fn items(
     let mut t = s;
     let mut written: usize = 0;
     let mut n: usize = 0;
-    let mut k: u32 = 0;
-    while k < order.count {
+    for k in 0..order.count {
         let it = plan::layout::order_item(job, order, k);
-        k += 1;
         match it {
             Item::Segment(i) => {
                 let planned = plan::planned::segment(job, index, l, i);
                 let due = segment_due(job, index, l, i, planned, c);
                 match due {
-                    Due::Nothing => {}
-                    Due::Opener => {
+                    None => {}
+                    Some(Due::Opener) => {
                         let b = l.0 as usize;
                         let number = t.counter[b];
                         let o = write_opener(
                             job, index, doc, segments, findings, t.counts, number, l,
                         );
-                        let after = o.number;
-                        let counts = o.counts;
-                        t.counter[b] = after;
-                        t.counts = counts;
+                        t.counter[b] = o.number;
+                        t.counts = o.counts;
                         written += 1;
                     }
-                    Due::Row(u, r) => {
+                    Some(Due::Row(u, r)) => {
                         t.counts = write_row(
                             job, index, doc, segments, findings, t.counts, l, i, planned, u, r,
                         );
                         written += 1;
                     }
-                    Due::Repeat(u, p) => {
+                    Some(Due::Repeat(u, p)) => {
                         let at = u.0 as usize;
                         let m = t.high[at];
                         let w = write_repeats(
                             job, index, nest, doc, segments, findings, stops, m, t.counts, l, i, u,
                             p,
                         );
-                        let mark = w.mark;
-                        let counts = w.counts;
-                        t.high[at] = mark;
-                        t.counts = counts;
+                        t.high[at] = w.mark;
+                        t.counts = w.counts;
                         written += w.written;
                     }
                 }
@@ -230,15 +211,13 @@ pub fn run(
     let count = spec::loops::root_count(job, index);
     let c = walk::outside();
     let mut t = s;
-    let mut k: u32 = 0;
-    while k < count {
+    for k in 0..count {
         let l = spec::loops::root(job, index, k);
         let v = visits(
             job, index, nest, doc, segments, findings, stops, t, l, c, height,
         );
         let w = v.taken;
         t = w.state;
-        k += 1;
     }
     t
 }

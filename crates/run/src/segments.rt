@@ -9,16 +9,13 @@ ghost use Rattle.walk.specs.Tour.{opener, row_segment, due_row, from_source, seg
 ghost use Rattle.run.specs.Went.{Gives};
 
 use crate::own;
-use crate::own::Owner;
-use nest::Found;
 use plan::answers::{Planned, Source};
-use spec::ids::{Controls, LoopId, RowId, TableId};
+use spec::ids::{ControlRule, LoopId, RowId, TableId};
 use walk::Context;
 
-// Nothing, the trigger of the loop, the segment of a table's row, or the repeat segments of a table below a row.
+// The trigger of the loop, the segment of a table's row, or the repeat segments of a table below a row.
 #[derive(Clone, Copy)]
 pub enum Due {
-    Nothing,
     Opener,
     Row(TableId, RowId),
     Repeat(TableId, RowId),
@@ -31,48 +28,60 @@ pub fn controlled(job: &[u8], index: &[u16], l: LoopId) -> bool
 {
     let rule = spec::loops::control(job, index, l);
     match rule {
-        Controls::Is(_) => true,
-        Controls::None => false,
+        Some(_) => true,
+        None => false,
     }
 }
 
 // The trigger of a loop with `control`.
-fn opener_due(job: &[u8], index: &[u16], l: LoopId) -> Due
+fn opener_due(job: &[u8], index: &[u16], l: LoopId) -> Option<Due>
     requires { Ready job.now index.now }
     ensures { (i : ℕ) → Gives (outline_at job.now) l.0 i (cond (loop_of (outline_at job.now) l.0).controlled (opener l.0 ∷ []) []) result }
 {
-    let named = controlled(job, index, l);
-    if named {
-        return Due::Opener;
+    if controlled(job, index, l) {
+        return Some(Due::Opener);
     }
-    Due::Nothing
+    None
 }
 
 // The segment of a row.
-fn due_at(job: &[u8], index: &[u16], l: LoopId, i: u32, s: Planned, t: TableId, r: RowId) -> Due
+fn due_at(
+    job: &[u8],
+    index: &[u16],
+    l: LoopId,
+    i: u32,
+    s: Planned,
+    t: TableId,
+    r: RowId,
+) -> Option<Due>
     requires { Ready job.now index.now × (l.0 < 32) × PlannedIs job.now l.0 i s }
     ensures { Gives (outline_at job.now) l.0 i (cond (has_occurrence (outline_at job.now) l.0 i && due_row (outline_at job.now) l.0 i t.0 r.0) (row_segment l.0 i t.0 r.0 ∷ []) []) result }
 {
-    let named = due::has_occurrence(job, index, l, i, s);
-    if named {
-        let due = due::due_row(job, index, l, i, s, t, r);
-        if due {
-            return Due::Row(t, r);
+    if due::has_occurrence(job, index, l, i, s) {
+        if due::due_row(job, index, l, i, s, t, r) {
+            return Some(Due::Row(t, r));
         }
-        return Due::Nothing;
     }
-    Due::Nothing
+    None
 }
 
 // A segment of a table's row, in an instance that sits in one.
-fn row_due(job: &[u8], index: &[u16], l: LoopId, i: u32, s: Planned, t: TableId, c: Context) -> Due
+fn row_due(
+    job: &[u8],
+    index: &[u16],
+    l: LoopId,
+    i: u32,
+    s: Planned,
+    t: TableId,
+    c: Context,
+) -> Option<Due>
     requires { Ready job.now index.now × (l.0 < 32) × PlannedIs job.now l.0 i s }
     ensures { Gives (outline_at job.now) l.0 i (from_source (outline_at job.now) l.0 i (context_by c) (of_row t.0)) result }
 {
     let f = own::row_of(c, t);
     match f {
-        Found::Row(r) => due_at(job, index, l, i, s, t, r),
-        Found::Nothing => Due::Nothing,
+        Some(r) => due_at(job, index, l, i, s, t, r),
+        None => None,
     }
 }
 
@@ -85,30 +94,29 @@ fn repeat_due(
     s: Planned,
     t: TableId,
     c: Context,
-) -> Due
+) -> Option<Due>
     requires { Ready job.now index.now × Sound (outline_at job.now) (context_by c) × (l.0 < 32) × PlannedIs job.now l.0 i s }
     ensures { Gives (outline_at job.now) l.0 i (from_source (outline_at job.now) l.0 i (context_by c) (of_repeat t.0)) result }
 {
     if 16 <= t.0 {
-        return Due::Nothing;
+        return None;
     }
-    let named = due::has_occurrence(job, index, l, i, s);
-    if named {
-        let own = own::own_row(job, index, l, c);
-        match own {
-            Owner::Row(_, p) => {
-                return Due::Repeat(t, p);
-            }
-            Owner::Nothing => {
-                return Due::Nothing;
-            }
-        }
+    if due::has_occurrence(job, index, l, i, s) {
+        let own = own::own_row(job, index, l, c)?;
+        return Some(Due::Repeat(t, own.row));
     }
-    Due::Nothing
+    None
 }
 
 // What planned segment i of loop l, which is s, gives by its source.
-pub fn segment_due(job: &[u8], index: &[u16], l: LoopId, i: u32, s: Planned, c: Context) -> Due
+pub fn segment_due(
+    job: &[u8],
+    index: &[u16],
+    l: LoopId,
+    i: u32,
+    s: Planned,
+    c: Context,
+) -> Option<Due>
     requires { Ready job.now index.now × Sound (outline_at job.now) (context_by c) × (l.0 < 32) × PlannedIs job.now l.0 i s }
     ensures { Gives (outline_at job.now) l.0 i (segment_steps (outline_at job.now) l.0 (context_by c) i) result }
 {
@@ -126,5 +134,5 @@ pub fn segment_due(job: &[u8], index: &[u16], l: LoopId, i: u32, s: Planned, c: 
             }
         }
     }
-    Due::Nothing
+    None
 }

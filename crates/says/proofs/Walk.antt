@@ -2,12 +2,12 @@
 use Prim.Native.Nat.{ℕ, suc, ◌+◌, ◌-◌, ◌≤◌, ◌<◌}
 use mathlib.Core.Path.{◌≡◌, refl, sym, ◌∙◌}
 use mathlib.Core.List.{List, [], ◌∷◌}
-use mathlib.Core.Option.{none, some}
 use mathlib.Core.Bool.{Bool, true, false}
 use native.Mathlib.Omega.{arith}
+use Rattle.std.specs.Prelude.{None, Some}
 use lib.ListN.{length, get_or}
 use lib.Dec.{ltb, eqb}
-use borrow.Author.Tests.{eq-eqb, ne_eqb}
+use borrow.Author.Tests.{eq-eqb, ne_eqb, lt-ltb, le-ltb}
 use Rattle.codec.specs.Codec.{Codec, got, pick, le_c, list_c, le}
 use Rattle.codec.specs.Forms.{opt_c, num_c, byte_c}
 use Rattle.codec.specs.Skip.{skip, steps, count_at, tag_at, Is, skip_le}
@@ -42,17 +42,17 @@ more_than C b e n p q vs k h i j = let z : n ≡ length vs = h ∙ rw i (sym (co
 module _ {A : Type 0} (C : Codec A) (b : List ℕ) (e at t : ℕ) (f : A → Bool) where
   pub opt_there : (p : ℕ) (r : Bool) → t ≡ tag_at b at e → t ≡ 1 → p ≡ skip (le_c 1) b at e → Says C b e p f r → Says (opt_c C) b e at (if_some f) r
   unfolding if_some
-  opt_there p r h i q s none k =
+  opt_there p r h i q s None k =
       let l : at < e = tag_case b at e 1 (sym h ∙ i) (omega arith) in
       absurd (omega (arith, is_none C b e at k, tag_in b at e l))
-  opt_there p r h i q s (some v) k =
+  opt_there p r h i q s (Some v) k =
       let l : at < e = tag_case b at e 1 (sym h ∙ i) (omega arith) in
       s v (rw (q, skip_le 1 b at e (omega arith)) (is_some C b e at v k).1)
 
   pub opt_none : t ≡ tag_at b at e → (t ≡ 1 → ⊥) → Says (opt_c C) b e at (if_some f) false
   unfolding if_some
-  opt_none h i none k = refl
-  opt_none h i (some v) k =
+  opt_none h i None k = refl
+  opt_none h i (Some v) k =
       let m = is_some C b e at v k in
       let l : at + 1 ≤ e = is_in C b e (at + 1) v m.1 in
       absurd (i (h ∙ tag_in b at e (omega arith) ∙ m.0))
@@ -89,28 +89,28 @@ module _ {A : Type 0} (C : Codec A) (b : List ℕ) (e : ℕ) where
       go (x ∷ xs) c m = absurd (omega arith)
 
 -- ---- some item passes the test
-abbrev pub Some : {A : Type 0} → (A → Bool) → List A → List A → Type 0
-Some f vs ws = any_of f vs ≡ any_of f ws
+abbrev pub Some_of : {A : Type 0} → (A → Bool) → List A → List A → Type 0
+Some_of f vs ws = any_of f vs ≡ any_of f ws
 
 -- a walk that has met none yet
 abbrev pub NoneYet : {A : Type 0} → Codec A → List ℕ → ℕ → ℕ → (A → Bool) → ℕ → ℕ → Type 0
-NoneYet {A} C b e at f n p = (vs : List A) → Is (list_c C) b e at vs → Rest C b e (Some f vs) n p
+NoneYet {A} C b e at f n p = (vs : List A) → Is (list_c C) b e at vs → Rest C b e (Some_of f vs) n p
 
 module _ {A : Type 0} (C : Codec A) (b : List ℕ) (e at : ℕ) (f : A → Bool) where
   pub some_start : (n p : ℕ) → n ≡ count_at b at e → p ≡ skip (le_c 4) b at e → NoneYet C b e at f n p
-  some_start n p h i vs j = rest_start C b e (Some f vs) at n p vs h i j refl
+  some_start n p h i vs j = rest_start C b e (Some_of f vs) at n p vs h i j refl
 
   pub some_again : (n p q : ℕ) (r : Bool) → NoneYet C b e at f n p → 0 < n → q ≡ skip C b p e → Says C b e p f r → r ≡ false → NoneYet C b e at f (n - 1) q
   unfolding any_of
-  some_again n p q r d h i s k vs j = rest_again C b e (Some f vs) (Some f vs) n p q (d vs j) h i (λ x xs l m. m ∙ rw (← s x l, k))
+  some_again n p q r d h i s k vs j = rest_again C b e (Some_of f vs) (Some_of f vs) n p q (d vs j) h i (λ x xs l m. m ∙ rw (← s x l, k))
 
   pub some_found : (n p : ℕ) (r : Bool) → NoneYet C b e at f n p → 0 < n → Says C b e p f r → r ≡ true → Says (list_c C) b e at (any_of f) true
   unfolding any_of
-  some_found n p r d h s k vs j = rest_found C b e (Some f vs) _ n p (d vs j) h (λ x xs l m. sym (m ∙ rw (← s x l, k)))
+  some_found n p r d h s k vs j = rest_found C b e (Some_of f vs) _ n p (d vs j) h (λ x xs l m. sym (m ∙ rw (← s x l, k)))
 
   pub some_none : (n p : ℕ) → NoneYet C b e at f n p → n ≤ 0 → Says (list_c C) b e at (any_of f) false
   unfolding any_of
-  some_none n p d h vs j = sym (rest_done C b e (Some f vs) n p (d vs j) h)
+  some_none n p d h vs j = sym (rest_done C b e (Some_of f vs) n p (d vs j) h)
 
 -- ---- a test of a field: p is its place
 pub says_at : {A B : Type 0} (C : Codec A) (b : List ℕ) (e p q : ℕ) (f : A → B) (r : B) (v : A) → Says C b e p f r → Is C b e q v → p ≡ q → r ≡ f v
@@ -118,6 +118,24 @@ says_at C b e p q f r v s h i = s v (rw i h)
 
 pub more_num : (b : List ℕ) (e n p q v k : ℕ) → n ≡ count_at b p e → p ≡ q → Is num_c b e q v → ltb k n ≡ ltb k v
 more_num b e n p q v k h i j = let z : n ≡ v = number_is b e n p q v h i j in rw z
+
+-- the answer was t
+pub says_be : {A : Type 0} (C : Codec A) (b : List ℕ) (e p q : ℕ) (f : A → Bool) (r t : Bool) (v : A) → Says C b e p f r → r ≡ t → Is C b e q v → p ≡ q → f v ≡ t
+says_be C b e p q f r t v s k h i = sym (says_at C b e p q f r v s h i) ∙ k
+
+module _ {A : Type 0} (C : Codec A) (b : List ℕ) (e n p q : ℕ) (vs : List A) (k : ℕ) (h : n ≡ count_at b p e) (j : Is (list_c C) b e q vs) (i : p ≡ q) where
+  pub long_is : k < n → ltb k (length vs) ≡ true
+  long_is l = sym (more_than C b e n p q vs k h i j) ∙ lt-ltb k n l
+
+  pub long_not : n ≤ k → ltb k (length vs) ≡ false
+  long_not l = sym (more_than C b e n p q vs k h i j) ∙ le-ltb k n l
+
+module _ (b : List ℕ) (e n p q v k : ℕ) (h : n ≡ count_at b p e) (j : Is num_c b e q v) (i : p ≡ q) where
+  pub above_is : k < n → ltb k v ≡ true
+  above_is l = sym (more_num b e n p q v k h i j) ∙ lt-ltb k n l
+
+  pub above_not : n ≤ k → ltb k v ≡ false
+  above_not l = sym (more_num b e n p q v k h i j) ∙ le-ltb k n l
 
 -- ---- a test of a section
 pub section_says : {A B : Type 0} (C : Codec A) (b : List ℕ) (at e at' e' : ℕ) (f : A → B) (r : B) (v : A) → Says C b e at f r → at ≡ at' → e ≡ e' → C.read b at' e' ≡ got v e' → r ≡ f v
@@ -133,11 +151,11 @@ count_length C b e at n vs h i = h ∙ sym (count_list C b e at vs (is_list C b 
 
 pub present_says : {A : Type 0} (C : Codec A) (b : List ℕ) (e at t : ℕ) → t ≡ tag_at b at e → Says (opt_c C) b e at present (eqb t 1)
 unfolding present
-present_says C b e at t h none k = go (eqb t 1) refl
+present_says C b e at t h None k = go (eqb t 1) refl
   where
     go : (u : Bool) → eqb t 1 ≡ u → u ≡ false
     go u q = sym q ∙ ne_eqb t 1 (λ i. let l : at < e = tag_case b at e 1 (sym h ∙ i) (omega arith) in omega (arith, is_none C b e at k, tag_in b at e l))
-present_says C b e at t h (some v) k =
+present_says C b e at t h (Some v) k =
     let m = is_some C b e at v k in
     let l : at + 1 ≤ e = is_in C b e (at + 1) v m.1 in
     eq-eqb t 1 (h ∙ tag_in b at e (omega arith) ∙ m.0)

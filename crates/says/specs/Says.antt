@@ -1,14 +1,22 @@
 -- What a test answers: of whatever stands at a place, what the definition says of it.
-use Rattle.std.specs.Prelude.{ℕ, ◌<◌, ◌≡◌, List, Bool, false, length, get_or}
-use Rattle.codec.specs.Codec.{Codec}
+use Rattle.std.specs.Prelude.{ℕ, ◌<◌, ◌^◌, ◌≡◌, List, Bool, false, length, get_or, Option, Some, None}
+use Rattle.codec.specs.Codec.{Codec, pick}
 use Rattle.codec.specs.Skip.{Is, skip, steps}
 
 abbrev pub Says : {A B : Type 0} → Codec A → List ℕ → ℕ → ℕ → (A → B) → B → Type 0
 Says {A} C b e at f r = (v : A) → Is C b e at v → r ≡ f v
 
--- what a test answers, and where that is no, the place behind what it was asked of
-abbrev pub Passes : {A : Type 0} → Codec A → List ℕ → ℕ → ℕ → (A → Bool) → Bool → ℕ → Type 0
-Passes {A} C b e at f r n = (v : A) → Is C b e at v → (r ≡ f v) × (r ≡ false → n ≡ skip C b at e)
+-- what a test answers that also steps: the place behind what it was asked of, if it found nothing there
+abbrev pub Clears : {A : Type 0} → Codec A → List ℕ → ℕ → ℕ → (A → Bool) → Option ℕ → Type 0
+Clears {A} C b e at f r = (v : A) → Is C b e at v → r ≡ pick (f v) None (Some (skip C b at e))
+
+-- t, wherever it is asked, says of what stands there what f does
+abbrev pub Tests : {A : Type 0} → Codec A → List ℕ → ℕ → (ℕ → Bool → Type 0) → (A → Bool) → Type 0
+Tests C b e t f = (p : ℕ) (r : Bool) → p < 2 ^ 64 → t p r → Says C b e p f r
+
+-- the same of a test that also steps
+abbrev pub Clearing : {A : Type 0} → Codec A → List ℕ → ℕ → (ℕ → Option ℕ → Type 0) → (A → Bool) → Type 0
+Clearing C b e t f = (p : ℕ) (r : Option ℕ) → p < 2 ^ 64 → t p r → Clears C b e p f r
 
 -- ---- what is left of a list: n items from the place p on, and P holds of them
 pub record Rest {A : Type 0} (C : Codec A) (b : List ℕ) (e : ℕ) (P : List A → Type 0) (n p : ℕ) : Type 0 where

@@ -1,16 +1,11 @@
-// Where the sections of a job stand. The crate's specs and proofs have what tests of a job's parts are told in and proved by.
+// Where the sections of a job stand, and tests of lists and options, made by tests of their items.
 #![tactic(auto)]
+
+pub mod lists;
 
 ghost use Rattle.std.specs.Prelude.{◌≡◌, ◌+◌, ◌-◌, length, false};
 ghost use Rattle.codec.specs.Codec.{le};
 ghost use Rattle.format.specs.Sections.{broken};
-
-// What a test found, and the place behind what it was asked of, which is right where it found nothing.
-#[derive(Clone, Copy)]
-pub struct Told {
-    pub found: bool,
-    pub next: usize,
-}
 
 // One of the trailer's numbers: k is its place there.
 pub fn start(b: &[u8], k: u8) -> u32

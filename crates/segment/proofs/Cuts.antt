@@ -4,8 +4,9 @@ use mathlib.Core.Path.{◌≡◌, refl, sym, ap, ◌∙◌, subst}
 use mathlib.Core.Logic.{◌≢◌}
 use mathlib.Core.Bool.{Bool, true, false}
 use mathlib.Core.List.{List, [], ◌∷◌, ◌++◌, append-nil}
-use mathlib.Core.Option.{Option, none, some, some-injective, none-ne-some}
 use native.Mathlib.Omega.{arith}
+use Rattle.std.specs.Prelude.{Option, None, Some}
+use Rattle.std.proofs.lemmas.Option.{same_Some, none-some}
 use lib.ListN.{length, get_or}
 use lib.Dec.{eqb}
 use borrow.Author.Tests.{eq-eqb, ne_eqb, eqb-true, eqb-false}
@@ -110,7 +111,7 @@ cut_keeps c b (x ∷ xs) h = go (eqb x b) (cut_keeps c b xs h.1)
 
 -- ---- cutting at the first
 
-pub ahead_there : (b : ℕ) (text rest : List ℕ) → Without b text → ahead b (text ++ b ∷ rest) ≡ some (text, rest)
+pub ahead_there : (b : ℕ) (text rest : List ℕ) → Without b text → ahead b (text ++ b ∷ rest) ≡ Some (text, rest)
 unfolding ahead
 ahead_there b [] rest h = rw (eq-eqb b b refl)
 ahead_there b (x ∷ text) rest h = rw (ne_eqb x b h.0, ahead_there b text rest h.1)
@@ -119,14 +120,14 @@ ahead_there b (x ∷ text) rest h = rw (ne_eqb x b h.0, ahead_there b text rest 
 abbrev pub SplitAt : ℕ → List ℕ → (List ℕ × List ℕ) → Type 0
 SplitAt b text p = (text ≡ p.0 ++ b ∷ p.1) × Without b p.0
 
-pub ahead_back : (b : ℕ) (text : List ℕ) (p : List ℕ × List ℕ) → ahead b text ≡ some p → SplitAt b text p
+pub ahead_back : (b : ℕ) (text : List ℕ) (p : List ℕ × List ℕ) → ahead b text ≡ Some p → SplitAt b text p
 unfolding ahead
-ahead_back b [] p e = absurd (none-ne-some _ e)
+ahead_back b [] p e = absurd (none-some _ e)
 ahead_back b (x ∷ xs) p e = go (eqb x b) (ahead b xs) refl refl e (ahead_back b xs)
   where
-    go : (t : Bool) (o : Option (List ℕ × List ℕ)) → eqb x b ≡ t → ahead b xs ≡ o → ahead_at t x xs o ≡ some p
-        → ((q : List ℕ × List ℕ) → ahead b xs ≡ some q → SplitAt b xs q) → SplitAt b (x ∷ xs) p
-    go true o q h f ih = subst (SplitAt b (x ∷ xs)) (some-injective _ _ f) (ap (λ y. y ∷ xs) (eqb-true x b q), tt)
-    go false none q h f ih = absurd (none-ne-some _ f)
-    go false (some r) q h f ih =
-        subst (SplitAt b (x ∷ xs)) (some-injective _ _ f) (ap (λ y. x ∷ y) (ih r h).0, (eqb-false x b q, (ih r h).1))
+    go : (t : Bool) (o : Option (List ℕ × List ℕ)) → eqb x b ≡ t → ahead b xs ≡ o → ahead_at t x xs o ≡ Some p
+        → ((q : List ℕ × List ℕ) → ahead b xs ≡ Some q → SplitAt b xs q) → SplitAt b (x ∷ xs) p
+    go true o q h f ih = subst (SplitAt b (x ∷ xs)) (same_Some _ _ f) (ap (λ y. y ∷ xs) (eqb-true x b q), tt)
+    go false None q h f ih = absurd (none-some _ f)
+    go false (Some r) q h f ih =
+        subst (SplitAt b (x ∷ xs)) (same_Some _ _ f) (ap (λ y. x ∷ y) (ih r h).0, (eqb-false x b q, (ih r h).1))

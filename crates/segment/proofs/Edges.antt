@@ -6,7 +6,7 @@ use Prim.Native.String.{String}
 use mathlib.Core.Path.{◌≡◌, refl}
 use mathlib.Core.Bool.{Bool, true, false}
 use mathlib.Core.List.{List, [], ◌∷◌}
-use mathlib.Core.Option.{none, some}
+use Rattle.std.specs.Prelude.{None, Some}
 use Rattle.segment.specs.declared.Separators.{Separators}
 use Rattle.segment.specs.Joining.{behind, component_bytes, line_feed, segment_bytes}
 use Rattle.segment.specs.Parts.{Part, highest, here, after, all_plain, first_text, component_text, texts, element_text, elements_from, elements_of, joined, insert, sorted}
@@ -21,10 +21,10 @@ abbrev pub marks : Bool → Separators
 marks breaks = record { element = 42; component = 58; segment = 126; line_break = breaks }
 
 abbrev pub plain : ℕ → String → Part
-plain e text = record { element = e; component = none; text = bytes text }
+plain e text = record { element = e; component = None; text = bytes text }
 
 abbrev pub comp : ℕ → ℕ → String → Part
-comp e c text = record { element = e; component = some c; text = bytes text }
+comp e c text = record { element = e; component = Some c; text = bytes text }
 
 abbrev pub svc : List Part → List ℕ
 svc parts = joined (marks false) (bytes "SVC") parts

@@ -5,7 +5,7 @@ use Prim.Native.String.{String}
 use mathlib.Core.Path.{◌≡◌, refl}
 use mathlib.Core.Bool.{true, false}
 use mathlib.Core.List.{List, [], ◌∷◌, map}
-use mathlib.Core.Option.{none, some}
+use Rattle.std.specs.Prelude.{None, Some}
 use Rattle.segment.specs.declared.Separators.{Separators}
 use Rattle.segment.specs.Joining.{behind, line_feed, segment_bytes, component_bytes, trimmed}
 use Rattle.segment.specs.Grammar.{Segment, document_bytes}
@@ -37,7 +37,7 @@ three : List Segment
 three = segment "CLP" ("A1" ∷ []) ∷ segment "SVC" ("HC" ∷ "100" ∷ []) ∷ segment "CLP" ("B2" ∷ []) ∷ []
 
 -- document 01's listing, read and written
-listing_read : read_document usual (bytes "CLP*A1~SVC*HC*100~CLP*B2~") ≡ some three
+listing_read : read_document usual (bytes "CLP*A1~SVC*HC*100~CLP*B2~") ≡ Some three
 unfolding read_document read_up_to front feed ahead cut usual three segment bytes
 listing_read = refl
 
@@ -46,33 +46,33 @@ unfolding document_bytes segment_bytes behind line_feed usual three segment byte
 listing_written = refl
 
 -- the same segments with line breaks, and where the terminator is a line feed too
-lines_read : read_document lines (bytes "CLP*A1~\nSVC*HC*100~\nCLP*B2~\n") ≡ some three
+lines_read : read_document lines (bytes "CLP*A1~\nSVC*HC*100~\nCLP*B2~\n") ≡ Some three
 unfolding read_document read_up_to front feed ahead cut lines three segment bytes
 lines_read = refl
 
-fed_read : read_document fed (bytes "CLP*A1\n\nSVC*HC*100\n\nCLP*B2\n\n") ≡ some three
+fed_read : read_document fed (bytes "CLP*A1\n\nSVC*HC*100\n\nCLP*B2\n\n") ≡ Some three
 unfolding read_document read_up_to front feed ahead cut fed three segment bytes
 fed_read = refl
 
 -- a document of no bytes has no segments
-nothing_read : read_document usual [] ≡ some []
+nothing_read : read_document usual [] ≡ Some []
 unfolding read_document read_up_to front
 nothing_read = refl
 
 -- no reading: bytes without a terminator, a line feed missing, an empty identifier
-unended : read_document usual (bytes "CLP*A1~SVC*HC") ≡ none
+unended : read_document usual (bytes "CLP*A1~SVC*HC") ≡ None
 unfolding read_document read_up_to front feed ahead cut usual bytes
 unended = refl
 
-unfed : read_document lines (bytes "CLP*A1~\nSVC*HC~") ≡ none
+unfed : read_document lines (bytes "CLP*A1~\nSVC*HC~") ≡ None
 unfolding read_document read_up_to front feed ahead cut lines bytes
 unfed = refl
 
-nameless : read_document usual (bytes "CLP*A1~*HC~") ≡ none
+nameless : read_document usual (bytes "CLP*A1~*HC~") ≡ None
 unfolding read_document read_up_to front feed ahead cut usual bytes
 nameless = refl
 
-stray : read_document usual (bytes "CLP*A1~~") ≡ none
+stray : read_document usual (bytes "CLP*A1~~") ≡ None
 unfolding read_document read_up_to front feed ahead cut usual bytes
 stray = refl
 
@@ -83,7 +83,7 @@ hc_x : component_bytes usual (trimmed (bytes "HC" ∷ [] ∷ bytes "X" ∷ [] �
 unfolding component_bytes trimmed behind usual bytes
 hc_x = refl
 
-hc_x_read : read_document usual (bytes "SVC*HC::X~") ≡ some (segment "SVC" ("HC::X" ∷ []) ∷ [])
+hc_x_read : read_document usual (bytes "SVC*HC::X~") ≡ Some (segment "SVC" ("HC::X" ∷ []) ∷ [])
 unfolding read_document read_up_to front feed ahead cut usual segment bytes
 hc_x_read = refl
 
@@ -96,7 +96,7 @@ all_empty : trimmed ([] ∷ [] ∷ []) ≡ []
 unfolding trimmed
 all_empty = refl
 
-all_empty_read : read_document usual (bytes "SVC~") ≡ some (segment "SVC" [] ∷ [])
+all_empty_read : read_document usual (bytes "SVC~") ≡ Some (segment "SVC" [] ∷ [])
 unfolding read_document read_up_to front feed ahead cut usual segment bytes
 all_empty_read = refl
 
@@ -105,7 +105,7 @@ unfolding component components_of place text_at cut usual segment bytes
 all_empty_component = refl
 
 -- trailing empty elements are read as empty places, as those past the end are
-trailing_read : read_document usual (bytes "SVC*HC**~") ≡ some (segment "SVC" ("HC" ∷ "" ∷ "" ∷ []) ∷ [])
+trailing_read : read_document usual (bytes "SVC*HC**~") ≡ Some (segment "SVC" ("HC" ∷ "" ∷ "" ∷ []) ∷ [])
 unfolding read_document read_up_to front feed ahead cut usual segment bytes
 trailing_read = refl
 

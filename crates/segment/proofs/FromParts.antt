@@ -4,9 +4,9 @@ use mathlib.Core.Path.{◌≡◌, refl, sym, ap, ◌∙◌, subst}
 use mathlib.Core.Logic.{◌≢◌}
 use mathlib.Core.Bool.{Bool, true, false}
 use mathlib.Core.List.{List, [], ◌∷◌, ◌++◌, map, append_assoc}
-use mathlib.Core.Option.{Option, none, some}
 use native.Mathlib.Omega.{arith}
 use native.Mathlib.Nat.{add-zero}
+use Rattle.std.specs.Prelude.{Option, None, Some}
 use lib.Dec.{eqb, leb, eqb-suc-suc}
 use borrow.Author.Tests.{eq-eqb, ne_eqb, eqb-true, eqb-false, leb-true, leb-false}
 use Rattle.segment.specs.declared.Separators.{Separators}
@@ -14,8 +14,8 @@ use Rattle.segment.specs.Joining.{component_bytes, segment_bytes}
 use Rattle.segment.specs.Parts.{Part, pick, is_empty, rank, is_plain, or_one, component_of, highest, last_element, last_component, here, after, all_plain, first_text, component_text, texts, element_text, elements_from, elements_of, joined}
 use Rattle.segment.specs.Grammar.{Segment, All, Without, Plain, Apart, Reads, document_bytes}
 use Rattle.segment.specs.Reading.{read_document}
-use Rattle.segment.specs.Places.{text_at, place, component, elements_at, Planned, written, Clear, AsPlanned, Match}
-use Rattle.segment.specs.ReadParts.{Due, joined_all, is_at, text_of, PlainAt, ComposedAt, RisesFrom, Free, ReadAs}
+use Rattle.segment.specs.Places.{place, component, elements_at, Planned, written, Clear, AsPlanned, Match}
+use Rattle.segment.specs.ReadParts.{Due, joined_all, text_of, PlainAt, ComposedAt, RisesFrom, Free, ReadAs}
 use Rattle.segment.proofs.Cuts.{all_both}
 use Rattle.segment.proofs.OneReading.{reads_found}
 use Rattle.segment.proofs.AtPlaces.{elements_each, elements_all_at, component_empty, components_plain, planned_reads, planned_once_lem, planned_everywhere, as_planned}
@@ -259,18 +259,18 @@ parts_so P p (x ∷ xs) h = go (eqb x.element p) refl (parts_so P p xs h.1)
     go true q ih = (h.0 (eqb-true _ _ q), ih)
     go false q ih = ih
 
-plain_all : (xs : List Part) → All (λ x. x.component ≡ none) xs → all_plain xs ≡ true
+plain_all : (xs : List Part) → All (λ x. x.component ≡ None) xs → all_plain xs ≡ true
 unfolding all_plain
 plain_all [] h = refl
 plain_all (x ∷ xs) h = rw h.0 (plain_all xs h.1)
 
-composed_not : (x : Part) (xs : List Part) → x.component ≢ none → all_plain (x ∷ xs) ≡ false
+composed_not : (x : Part) (xs : List Part) → x.component ≢ None → all_plain (x ∷ xs) ≡ false
 unfolding all_plain
 composed_not x xs d = go x.component refl
   where
     go : (o : Option ℕ) → x.component ≡ o → pick (is_plain o) (all_plain xs) false ≡ false
-    go none e = absurd (d e)
-    go (some c) e = refl
+    go None e = absurd (d e)
+    go (Some c) e = refl
 
 text_miss : (p : ℕ) (c : Option ℕ) (x : Part) (xs : List Part) → x.element ≢ p → text_of (x ∷ xs) p c ≡ text_of xs p c
 unfolding text_of
@@ -282,38 +282,38 @@ unfolding text_of
 text_hit p c x xs e = rw (eq-eqb _ _ e)
 
 -- of plain parts the first stands
-first_planned : (p : ℕ) (xs : List Part) → PlainAt p xs → first_text (parts_at p xs) ≡ text_of xs p none
+first_planned : (p : ℕ) (xs : List Part) → PlainAt p xs → first_text (parts_at p xs) ≡ text_of xs p None
 unfolding parts_at text_of first_text
 first_planned p [] h = refl
 first_planned p (x ∷ xs) h = go (eqb x.element p) refl (first_planned p xs h.1)
   where
-    go : (b : Bool) → eqb x.element p ≡ b → first_text (parts_at p xs) ≡ text_of xs p none → first_text (parts_at p (x ∷ xs)) ≡ text_of (x ∷ xs) p none
+    go : (b : Bool) → eqb x.element p ≡ b → first_text (parts_at p xs) ≡ text_of xs p None → first_text (parts_at p (x ∷ xs)) ≡ text_of (x ∷ xs) p None
     go true q ih =
         let e : x.element ≡ p = eqb-true _ _ q in
-        ap first_text (parts_hit p x xs e) ∙ sym (text_hit p none x xs e ∙ ap (λ o. pick (eqb (rank o) 0) x.text (text_of xs p none)) (h.0 e))
-    go false q ih = ap first_text (parts_miss p x xs (eqb-false _ _ q)) ∙ ih ∙ sym (text_miss p none x xs (eqb-false _ _ q))
+        ap first_text (parts_hit p x xs e) ∙ sym (text_hit p None x xs e ∙ ap (λ o. pick (eqb (rank o) 0) x.text (text_of xs p None)) (h.0 e))
+    go false q ih = ap first_text (parts_miss p x xs (eqb-false _ _ q)) ∙ ih ∙ sym (text_miss p None x xs (eqb-false _ _ q))
 
-same_component : (x : Part) (c : ℕ) → x.component ≢ none → (a b : List ℕ) → a ≡ b
+same_component : (x : Part) (c : ℕ) → x.component ≢ None → (a b : List ℕ) → a ≡ b
     → pick (eqb (component_of x) c) x.text a ≡ pick (eqb (rank x.component) (suc c)) x.text b
 same_component x c d a b e = go x.component refl
   where
     go : (o : Option ℕ) → x.component ≡ o → pick (eqb (or_one o) c) x.text a ≡ pick (eqb (rank o) (suc c)) x.text b
-    go none q = absurd (d q)
-    go (some i) q = rw (eqb-suc-suc i c) (ap (pick (eqb i c) x.text) e)
+    go None q = absurd (d q)
+    go (Some i) q = rw (eqb-suc-suc i c) (ap (pick (eqb i c) x.text) e)
 
 -- of parts at one component the first stands
-component_planned : (p c : ℕ) (xs : List Part) → ComposedAt p xs → component_text (parts_at p xs) c ≡ text_of xs p (some c)
+component_planned : (p c : ℕ) (xs : List Part) → ComposedAt p xs → component_text (parts_at p xs) c ≡ text_of xs p (Some c)
 unfolding parts_at text_of component_text
 component_planned p c [] h = refl
 component_planned p c (x ∷ xs) h = go (eqb x.element p) refl (component_planned p c xs h.1)
   where
-    go : (b : Bool) → eqb x.element p ≡ b → component_text (parts_at p xs) c ≡ text_of xs p (some c) → component_text (parts_at p (x ∷ xs)) c ≡ text_of (x ∷ xs) p (some c)
+    go : (b : Bool) → eqb x.element p ≡ b → component_text (parts_at p xs) c ≡ text_of xs p (Some c) → component_text (parts_at p (x ∷ xs)) c ≡ text_of (x ∷ xs) p (Some c)
     go true q ih =
         let e : x.element ≡ p = eqb-true _ _ q in
         ap (λ ys. component_text ys c) (parts_hit p x xs e)
-        ∙ same_component x c (h.0 e) (component_text (parts_at p xs) c) (text_of xs p (some c)) ih
-        ∙ sym (text_hit p (some c) x xs e)
-    go false q ih = ap (λ ys. component_text ys c) (parts_miss p x xs (eqb-false _ _ q)) ∙ ih ∙ sym (text_miss p (some c) x xs (eqb-false _ _ q))
+        ∙ same_component x c (h.0 e) (component_text (parts_at p xs) c) (text_of xs p (Some c)) ih
+        ∙ sym (text_hit p (Some c) x xs e)
+    go false q ih = ap (λ ys. component_text ys c) (parts_miss p x xs (eqb-false _ _ q)) ∙ ih ∙ sym (text_miss p (Some c) x xs (eqb-false _ _ q))
 
 -- ---- what is read of what is due
 
@@ -329,7 +329,7 @@ module _ (s : Separators) (d : Due) (f : Free s d) (x : Segment) (a : AsPlanned 
 
   composed_at : (p : ℕ) → 0 < p → ComposedAt p d.parts → (c : ℕ) → 0 < c → component s x p c ≡ component_text (parts_at p d.parts) c
   unfolding plan_of
-  composed_at p h k c n = go (parts_at p d.parts) refl (parts_so (λ y. y.component ≢ none) p d.parts k) (whole_at p k)
+  composed_at p h k c n = go (parts_at p d.parts) refl (parts_so (λ y. y.component ≢ None) p d.parts k) (whole_at p k)
     where
       some_part : (xs : List Part) → parts_at p d.parts ≡ xs → all_plain xs ≡ false → All (λ y. Without s.component y.text) xs
           → (b : Bool) → leb p (last_element d.parts) ≡ b → component s x p c ≡ component_text xs c
@@ -342,7 +342,7 @@ module _ (s : Separators) (d : Due) (f : Free s d) (x : Segment) (a : AsPlanned 
           component_empty s x p c (a.past p (leb-false _ _ l))
           ∙ sym (component_unfilled xs c (subst Unfilled e (parts_unfilled p d.parts (leb-false _ _ l))))
 
-      go : (xs : List Part) → parts_at p d.parts ≡ xs → All (λ y. y.component ≢ none) xs → All (λ y. Without s.component y.text) xs
+      go : (xs : List Part) → parts_at p d.parts ≡ xs → All (λ y. y.component ≢ None) xs → All (λ y. Without s.component y.text) xs
           → component s x p c ≡ component_text xs c
       go [] e m w = component_empty s x p c (text_at_lem p h ∙ ap (element_text s) e ∙ element_unfilled s [] tt) ∙ sym (component_unfilled [] c tt)
       go (y ∷ ys) e m w = some_part (y ∷ ys) e (composed_not y ys m.0) w (leb p (last_element d.parts)) refl
@@ -353,7 +353,7 @@ module _ (s : Separators) (d : Due) (f : Free s d) (x : Segment) (a : AsPlanned 
       record {
         id = a.id;
         plain_at = λ p h k.
-            text_at_lem p h ∙ element_plain s (parts_at p d.parts) (plain_all _ (parts_so (λ y. y.component ≡ none) p d.parts k)) ∙ first_planned p d.parts k;
+            text_at_lem p h ∙ element_plain s (parts_at p d.parts) (plain_all _ (parts_so (λ y. y.component ≡ None) p d.parts k)) ∙ first_planned p d.parts k;
         component_at = λ p h k c n. composed_at p h k c n ∙ component_planned p c d.parts k;
       }
 
@@ -375,7 +375,7 @@ module _ (s : Separators) (apart : Apart s) (ds : List Due) (f : All (Free s) ds
       matched [] g = tt
       matched (e ∷ es) g = (read_as s e g.0 (written (plan_of s e)) (as_planned s (plan_of s e)), matched es g.1)
 
-  pub joined_found : read_document s (joined_all s ds) ≡ some (map written (map (plan_of s) ds))
+  pub joined_found : read_document s (joined_all s ds) ≡ Some (map written (map (plan_of s) ds))
   joined_found = reads_found apart.element_segment joined_reads
 
 pub joined_append : (s : Separators) (ds es : List Due) → joined_all s (ds ++ es) ≡ joined_all s ds ++ joined_all s es

@@ -2,9 +2,9 @@
 use Prim.Native.Nat.{ℕ, zero, suc, ◌+◌, ◌-◌, ◌≤◌, ◌<◌, max}
 use mathlib.Core.Path.{◌≡◌, refl, sym, ap, ◌∙◌}
 use mathlib.Core.List.{List, [], ◌∷◌, ◌++◌, append-nil, append_assoc}
-use mathlib.Core.Option.{none, some}
 use mathlib.Core.Bool.{Bool, true, false}
 use native.Mathlib.Omega.{arith}
+use Rattle.std.specs.Prelude.{None, Some}
 use borrow.Author.Tests.{eq-eqb, ne_eqb, lt-ltb, le-ltb}
 use Rattle.segment.specs.Parts.{Part, pick, is_empty, component_of, highest, last_component, here, after, component_text}
 use Rattle.segment.specs.declared.Separators.{Separators}
@@ -134,11 +134,11 @@ module _ (part : ℕ → Part) (i e p r j : ℕ) (h : first_at p r (up_to part i
   unfolding first_at
   first_next k q = h ∙ ap (first_at p r) (up_some part j e k) ∙ rw q
 
-  pub first_found : j < e → stands_at p r (part j) ≡ true → first_at p r (up_to part i e) ≡ some (part j).text
+  pub first_found : j < e → stands_at p r (part j) ≡ true → first_at p r (up_to part i e) ≡ Some (part j).text
   unfolding first_at
   first_found k q = h ∙ ap (first_at p r) (up_some part j e k) ∙ rw q
 
-  pub first_none : e ≤ j → first_at p r (up_to part i e) ≡ none
+  pub first_none : e ≤ j → first_at p r (up_to part i e) ≡ None
   unfolding first_at
   first_none k = h ∙ ap (first_at p r) (up_none part j e k)
 

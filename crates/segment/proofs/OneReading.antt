@@ -4,8 +4,9 @@ use mathlib.Core.Path.{◌≡◌, refl, sym, ap, ◌∙◌, subst}
 use mathlib.Core.Logic.{◌≢◌, ◌↔◌}
 use mathlib.Core.Bool.{Bool, true, false}
 use mathlib.Core.List.{List, [], ◌∷◌, ◌++◌, append_assoc, cons-ne-nil}
-use mathlib.Core.Option.{Option, none, some, some-injective, none-ne-some}
 use native.Mathlib.Omega.{arith}
+use Rattle.std.specs.Prelude.{Option, None, Some}
+use Rattle.std.proofs.lemmas.Option.{same_Some, none-some}
 use lib.ListN.{length, length-append}
 use lib.Dec.{eqb}
 use borrow.Author.Tests.{eqb-true}
@@ -27,28 +28,28 @@ pub segment_bytes_lem : (s : Separators) (x : Segment) (rest : List ℕ)
 unfolding segment_bytes
 segment_bytes_lem s x rest = append_assoc (body_of s x) (s.segment ∷ line_feed s.line_break) rest
 
-feed_there : (t : Bool) (rest : List ℕ) → feed t (line_feed t ++ rest) ≡ some rest
+feed_there : (t : Bool) (rest : List ℕ) → feed t (line_feed t ++ rest) ≡ Some rest
 unfolding feed line_feed
 feed_there true rest = refl
 feed_there false rest = refl
 
-feed_back : (t : Bool) (text rest : List ℕ) → feed t text ≡ some rest → text ≡ line_feed t ++ rest
+feed_back : (t : Bool) (text rest : List ℕ) → feed t text ≡ Some rest → text ≡ line_feed t ++ rest
 unfolding feed line_feed
-feed_back false text rest e = some-injective _ _ e
-feed_back true [] rest e = absurd (none-ne-some _ e)
+feed_back false text rest e = same_Some _ _ e
+feed_back true [] rest e = absurd (none-some _ e)
 feed_back true (x ∷ text) rest e = go (eqb x 10) refl e
   where
-    go : (t : Bool) → eqb x 10 ≡ t → feed_at t text ≡ some rest → x ∷ text ≡ 10 ∷ rest
-    go true q f = ap (λ y. y ∷ text) (eqb-true x 10 q) ∙ ap (λ r. 10 ∷ r) (some-injective _ _ f)
-    go false q f = absurd (none-ne-some _ f)
+    go : (t : Bool) → eqb x 10 ≡ t → feed_at t text ≡ Some rest → x ∷ text ≡ 10 ∷ rest
+    go true q f = ap (λ y. y ∷ text) (eqb-true x 10 q) ∙ ap (λ r. 10 ∷ r) (same_Some _ _ f)
+    go false q f = absurd (none-some _ f)
 
 by_name_lem : (id body rest : List ℕ) → id ≢ [] → by_name id body rest ≡ whole body rest
 by_name_lem [] body rest d = absurd (d refl)
 by_name_lem (x ∷ id) body rest d = refl
 
-pub front_ahead : (s : Separators) (doc : List ℕ) (p : List ℕ × List ℕ) → ahead s.segment doc ≡ some p → front s doc ≡ front_of s (some p)
+pub front_ahead : (s : Separators) (doc : List ℕ) (p : List ℕ × List ℕ) → ahead s.segment doc ≡ Some p → front s doc ≡ front_of s (Some p)
 unfolding front ahead
-front_ahead s [] p e = absurd (none-ne-some _ e)
+front_ahead s [] p e = absurd (none-some _ e)
 front_ahead s (x ∷ xs) p e = ap (front_of s) e
 
 module _ (s : Separators) (apart : s.element ≢ s.segment) (x : Segment) (g : Grammatical s x) where
@@ -95,11 +96,11 @@ named_whole [] body body' rest rest' e = absurd (is_whole _ _ _ e)
 named_whole (x ∷ id) body body' rest rest' e = (cc, cc, cons-ne-nil x id)
 
 fed_whole : (s : Separators) (body body' rest : List ℕ) (o : Option (List ℕ)) → fronted s body' o ≡ whole body rest
-    → (o ≡ some rest) × (body' ≡ body) × ((cut s.element body').first ≢ [])
-fed_whole s body body' rest none e = absurd (is_whole _ _ _ e)
-fed_whole s body body' rest (some rest') e =
+    → (o ≡ Some rest) × (body' ≡ body) × ((cut s.element body').first ≢ [])
+fed_whole s body body' rest None e = absurd (is_whole _ _ _ e)
+fed_whole s body body' rest (Some rest') e =
     let n = named_whole (cut s.element body').first body body' rest rest' e in
-    (ap some n.1, n.0, n.2)
+    (ap Some n.1, n.0, n.2)
 
 pub front_begins : (s : Separators) (doc body rest : List ℕ) → front s doc ≡ whole body rest → Begins s doc body rest
 unfolding front
@@ -107,8 +108,8 @@ front_begins s [] body rest e = absurd (is_whole _ _ _ e)
 front_begins s (x ∷ xs) body rest e = go (ahead s.segment (x ∷ xs)) refl e
   where
     go : (o : Option (List ℕ × List ℕ)) → ahead s.segment (x ∷ xs) ≡ o → front_of s o ≡ whole body rest → Begins s (x ∷ xs) body rest
-    go none h f = absurd (is_whole _ _ _ f)
-    go (some p) h f =
+    go None h f = absurd (is_whole _ _ _ f)
+    go (Some p) h f =
         let w = fed_whole s body p.0 rest (feed s.line_break p.1) f in
         let a = ahead_back s.segment (x ∷ xs) p h in
         let b : p.1 ≡ line_feed s.line_break ++ rest = feed_back s.line_break p.1 rest w.0 in
@@ -145,12 +146,12 @@ named_done [] body rest h = h
 named_done (x ∷ id) body rest h = h
 
 fed_done : (s : Separators) (body : List ℕ) (o : Option (List ℕ)) → IsDone (fronted s body o) → ⊥
-fed_done s body none h = h
-fed_done s body (some rest) h = named_done (cut s.element body).first body rest h
+fed_done s body None h = h
+fed_done s body (Some rest) h = named_done (cut s.element body).first body rest h
 
 ahead_done : (s : Separators) (o : Option (List ℕ × List ℕ)) → IsDone (front_of s o) → ⊥
-ahead_done s none h = h
-ahead_done s (some p) h = fed_done s p.0 (feed s.line_break p.1) h
+ahead_done s None h = h
+ahead_done s (Some p) h = fed_done s p.0 (feed s.line_break p.1) h
 
 pub front_done : (s : Separators) (doc : List ℕ) → front s doc ≡ done → doc ≡ []
 unfolding front
@@ -160,37 +161,37 @@ front_done s (x ∷ xs) e = absurd (ahead_done s (ahead s.segment (x ∷ xs)) (s
 -- ---- the whole document
 
 read_up : (s : Separators) → s.element ≢ s.segment → (n : ℕ) (xs : List Segment) → All (Grammatical s) xs → length xs < n
-    → read_up_to s n (document_bytes s xs) ≡ some xs
+    → read_up_to s n (document_bytes s xs) ≡ Some xs
 unfolding read_up_to document_bytes front
 read_up s d zero xs g h = absurd (omega arith)
 read_up s d (suc n) [] g h = refl
 read_up s d (suc n) (x ∷ xs) g h =
     ap (read_on s (read_up_to s n)) (front_segment s d x g.0 (document_bytes s xs))
     ∙ ap (onto _) (read_up s d n xs g.1 (omega arith))
-    ∙ ap (λ y. some (y ∷ xs)) (segment_again s d x g.0)
+    ∙ ap (λ y. Some (y ∷ xs)) (segment_again s d x g.0)
 
-read_back : (s : Separators) (n : ℕ) (doc : List ℕ) (xs : List Segment) → read_up_to s n doc ≡ some xs → Reads s doc xs
+read_back : (s : Separators) (n : ℕ) (doc : List ℕ) (xs : List Segment) → read_up_to s n doc ≡ Some xs → Reads s doc xs
 unfolding read_up_to document_bytes
-read_back s zero doc xs e = absurd (none-ne-some _ e)
+read_back s zero doc xs e = absurd (none-some _ e)
 read_back s (suc n) doc xs e = go (front s doc) refl e (read_back s n)
   where
-    next : (body rest : List ℕ) (o : Option (List Segment)) → Begins s doc body rest → ((ys : List Segment) → o ≡ some ys → Reads s rest ys)
-        → onto (segment_of s body) o ≡ some xs → Reads s doc xs
-    next body rest none b r f = absurd (none-ne-some _ f)
-    next body rest (some ys) b r f =
-        subst (Reads s doc) (some-injective _ _ f)
+    next : (body rest : List ℕ) (o : Option (List Segment)) → Begins s doc body rest → ((ys : List Segment) → o ≡ Some ys → Reads s rest ys)
+        → onto (segment_of s body) o ≡ Some xs → Reads s doc xs
+    next body rest None b r f = absurd (none-some _ f)
+    next body rest (Some ys) b r f =
+        subst (Reads s doc) (same_Some _ _ f)
         (record {
           bytes = begins_bytes s doc body rest b ∙ ap (λ d. segment_bytes s (segment_of s body).id (segment_of s body).elements ++ d) (r ys refl).bytes;
           each = (begins_grammatical s doc body rest b, (r ys refl).each);
         })
 
-    go : (f : Front) → front s doc ≡ f → read_on s (read_up_to s n) f ≡ some xs
-        → ((rest : List ℕ) (ys : List Segment) → read_up_to s n rest ≡ some ys → Reads s rest ys) → Reads s doc xs
-    go done h f ih = subst (Reads s doc) (some-injective _ _ f) (record { bytes = front_done s doc h; each = tt })
+    go : (f : Front) → front s doc ≡ f → read_on s (read_up_to s n) f ≡ Some xs
+        → ((rest : List ℕ) (ys : List Segment) → read_up_to s n rest ≡ Some ys → Reads s rest ys) → Reads s doc xs
+    go done h f ih = subst (Reads s doc) (same_Some _ _ f) (record { bytes = front_done s doc h; each = tt })
     go (whole body rest) h f ih = next body rest (read_up_to s n rest) (front_begins s doc body rest h) (ih rest) f
-    go (nameless body rest) h f ih = absurd (none-ne-some _ f)
-    go unended h f ih = absurd (none-ne-some _ f)
-    go unfed h f ih = absurd (none-ne-some _ f)
+    go (nameless body rest) h f ih = absurd (none-some _ f)
+    go unended h f ih = absurd (none-some _ f)
+    go unfed h f ih = absurd (none-some _ f)
 
 -- each segment takes a byte at least
 segments_fit : (s : Separators) (xs : List Segment) → length xs ≤ length (document_bytes s xs)
@@ -202,28 +203,28 @@ segments_fit s (x ∷ xs) =
     omega (arith, segments_fit s xs, l, k)
 
 -- `read_document` finds a reading exactly where there is one
-pub reads_found : {s : Separators} {doc : List ℕ} {xs : List Segment} → s.element ≢ s.segment → Reads s doc xs → read_document s doc ≡ some xs
+pub reads_found : {s : Separators} {doc : List ℕ} {xs : List Segment} → s.element ≢ s.segment → Reads s doc xs → read_document s doc ≡ Some xs
 unfolding read_document
 reads_found {s} {doc} {xs} d r =
     ap (read_document s) r.bytes ∙ read_up s d _ xs r.each (omega (arith, segments_fit s xs))
 
-pub found_reads : {s : Separators} {doc : List ℕ} {xs : List Segment} → read_document s doc ≡ some xs → Reads s doc xs
+pub found_reads : {s : Separators} {doc : List ℕ} {xs : List Segment} → read_document s doc ≡ Some xs → Reads s doc xs
 unfolding read_document
 found_reads {s} {doc} {xs} e = read_back s (suc (length doc)) doc xs e
 
-pub reads_exactly : (s : Separators) → s.element ≢ s.segment → (doc : List ℕ) (xs : List Segment) → (read_document s doc ≡ some xs) ↔ Reads s doc xs
+pub reads_exactly : (s : Separators) → s.element ≢ s.segment → (doc : List ℕ) (xs : List Segment) → (read_document s doc ≡ Some xs) ↔ Reads s doc xs
 reads_exactly s d doc xs = (found_reads, reads_found d)
 
-pub reads_none : (s : Separators) → s.element ≢ s.segment → (doc : List ℕ) → (read_document s doc ≡ none) ↔ ((xs : List Segment) → Reads s doc xs → ⊥)
-reads_none s d doc = (λ e xs r. none-ne-some xs (sym e ∙ reads_found d r), λ f. go f (read_document s doc) refl)
+pub reads_none : (s : Separators) → s.element ≢ s.segment → (doc : List ℕ) → (read_document s doc ≡ None) ↔ ((xs : List Segment) → Reads s doc xs → ⊥)
+reads_none s d doc = (λ e xs r. none-some xs (sym e ∙ reads_found d r), λ f. go f (read_document s doc) refl)
   where
-    go : ((xs : List Segment) → Reads s doc xs → ⊥) → (o : Option (List Segment)) → read_document s doc ≡ o → o ≡ none
-    go f none e = refl
-    go f (some xs) e = absurd (f xs (found_reads e))
+    go : ((xs : List Segment) → Reads s doc xs → ⊥) → (o : Option (List Segment)) → read_document s doc ≡ o → o ≡ None
+    go f None e = refl
+    go f (Some xs) e = absurd (f xs (found_reads e))
 
 -- a document has at most one reading
 pub one_reading : {s : Separators} {doc : List ℕ} {xs ys : List Segment} → s.element ≢ s.segment → Reads s doc xs → Reads s doc ys → xs ≡ ys
-one_reading d r q = some-injective _ _ (sym (reads_found d r) ∙ reads_found d q)
+one_reading d r q = same_Some _ _ (sym (reads_found d r) ∙ reads_found d q)
 
 -- segments of the grammar, written one after the other, read as these segments and as nothing else
 pub written_reads : (s : Separators) (xs : List Segment) → All (Grammatical s) xs → Reads s (document_bytes s xs) xs

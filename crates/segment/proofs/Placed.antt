@@ -4,9 +4,9 @@ use mathlib.Core.Path.{◌≡◌, refl, sym, ap, ◌∙◌}
 use mathlib.Core.Logic.{◌≢◌}
 use mathlib.Core.Bool.{Bool, true, false}
 use mathlib.Core.List.{List, [], ◌∷◌}
-use mathlib.Core.Option.{none, some}
 use native.Mathlib.Omega.{arith}
 use native.Mathlib.Numerals.{add-one, sub-one}
+use Rattle.std.specs.Prelude.{None, Some}
 use lib.ListN.{length, get_or, take, drop, drop_of_length-le, length-drop}
 use lib.Seq.{drop-cons, drop-drop, length-take-le}
 use lib.Dec.{eqb}
@@ -82,36 +82,36 @@ module _ (b : ℕ) (doc : List ℕ) (at end next : ℕ) where
 -- ---- the segment
 
 -- the first byte is at the place that `run` counts
-ahead_some : (b : ℕ) (text : List ℕ) → run b text < length text → ahead b text ≡ some (take (run b text) text, drop (suc (run b text)) text)
+ahead_some : (b : ℕ) (text : List ℕ) → run b text < length text → ahead b text ≡ Some (take (run b text) text, drop (suc (run b text)) text)
 unfolding ahead run
 ahead_some b [] h = absurd (omega arith)
 ahead_some b (x ∷ xs) h = go (eqb x b) h (ahead_some b xs)
   where
-    go : (t : Bool) → run_at t (run b xs) < suc (length xs) → (run b xs < length xs → ahead b xs ≡ some (take (run b xs) xs, drop (suc (run b xs)) xs))
-        → ahead_at t x xs (ahead b xs) ≡ some (take (run_at t (run b xs)) (x ∷ xs), drop (suc (run_at t (run b xs))) (x ∷ xs))
+    go : (t : Bool) → run_at t (run b xs) < suc (length xs) → (run b xs < length xs → ahead b xs ≡ Some (take (run b xs) xs, drop (suc (run b xs)) xs))
+        → ahead_at t x xs (ahead b xs) ≡ Some (take (run_at t (run b xs)) (x ∷ xs), drop (suc (run_at t (run b xs))) (x ∷ xs))
     go true k ih = refl
     go false k ih = ap (ahead_at false x xs) (ih (omega arith))
 
-ahead_none : (b : ℕ) (text : List ℕ) → length text ≤ run b text → ahead b text ≡ none
+ahead_none : (b : ℕ) (text : List ℕ) → length text ≤ run b text → ahead b text ≡ None
 unfolding ahead run
 ahead_none b [] h = refl
 ahead_none b (x ∷ xs) h = go (eqb x b) h (ahead_none b xs)
   where
-    go : (t : Bool) → suc (length xs) ≤ run_at t (run b xs) → (length xs ≤ run b xs → ahead b xs ≡ none) → ahead_at t x xs (ahead b xs) ≡ none
+    go : (t : Bool) → suc (length xs) ≤ run_at t (run b xs) → (length xs ≤ run b xs → ahead b xs ≡ None) → ahead_at t x xs (ahead b xs) ≡ None
     go true k ih = absurd (omega arith)
     go false k ih = ap (ahead_at false x xs) (ih (omega arith))
 
-front_unended : (s : Separators) (text : List ℕ) → 0 < length text → ahead s.segment text ≡ none → front s text ≡ unended
+front_unended : (s : Separators) (text : List ℕ) → 0 < length text → ahead s.segment text ≡ None → front s text ≡ unended
 unfolding front
 front_unended s [] h e = absurd (omega arith)
 front_unended s (x ∷ xs) h e = ap (front_of s) e
 
-feed_starts : (text : List ℕ) → starts_feed text ≡ true → feed true text ≡ some (drop 1 text)
+feed_starts : (text : List ℕ) → starts_feed text ≡ true → feed true text ≡ Some (drop 1 text)
 unfolding feed starts_feed
 feed_starts [] e = let z : ◌≡◌ {A = Bool} false true = e in cc
 feed_starts (x ∷ text) e = rw e
 
-feed_lacks : (text : List ℕ) → starts_feed text ≡ false → feed true text ≡ none
+feed_lacks : (text : List ℕ) → starts_feed text ≡ false → feed true text ≡ None
 unfolding feed starts_feed
 feed_lacks [] e = refl
 feed_lacks (x ∷ text) e = rw e
@@ -145,7 +145,7 @@ module _ (s : Separators) (doc : List ℕ) (at : ℕ) where
         ∙ ap (λ n. fronted s (take n (drop at doc)) (feed s.line_break (drop (suc (run s.segment (drop at doc))) (drop at doc)))) r
         ∙ ap (λ t. fronted s (take (end - at) (drop at doc)) (feed s.line_break t)) p
 
-    at_fed : (rest : List ℕ) → end < length doc → feed s.line_break (drop (end + 1) doc) ≡ some rest
+    at_fed : (rest : List ℕ) → end < length doc → feed s.line_break (drop (end + 1) doc) ≡ Some rest
         → segment_at s doc at ≡ named (cut s.element (take (end - at) (drop at doc))).first end (end + ending_of s)
     unfolding segment_at
     at_fed rest h f =

@@ -2,9 +2,9 @@
 use Prim.Native.Nat.{ℕ, zero, suc, ◌+◌, ◌-◌, ◌≤◌, ◌<◌, max}
 use mathlib.Core.Path.{◌≡◌, refl, sym, ap, ◌∙◌}
 use mathlib.Core.List.{List, [], ◌∷◌, ◌++◌}
-use mathlib.Core.Option.{Option, none, some}
 use mathlib.Core.Bool.{Bool, true, false}
 use native.Mathlib.Omega.{arith}
+use Rattle.std.specs.Prelude.{Option, None, Some}
 use lib.ListN.{get_or, replicate}
 use lib.Dec.{eqb, ltb, eqb-zero-suc, eqb-suc-zero, eqb-suc-suc}
 use borrow.Author.Tests.{eqb-true, eqb-false, eq-eqb, ne_eqb, ltb-true, ltb-false, lt-ltb}
@@ -30,7 +30,7 @@ stands_not : (p r : ℕ) (x : Part) → (x.element ≡ p → ⊥) → stands_at 
 unfolding stands_at
 stands_not p r x h = rw (ne_eqb x.element p h)
 
-none_at : (p r : ℕ) (x : Part) (xs : List Part) → p < x.element → AllLow x xs → first_at p r xs ≡ none
+none_at : (p r : ℕ) (x : Part) (xs : List Part) → p < x.element → AllLow x xs → first_at p r xs ≡ None
 unfolding first_at
 none_at p r x [] h a = refl
 none_at p r x (y ∷ ys) h a =
@@ -47,12 +47,12 @@ none_high p x (y ∷ ys) h a =
     zero_pick false = omega arith
 
 -- behind a part with components no plain part stands
-none_plain : (x : Part) (xs : List Part) → 0 < rank x.component → AllLow x xs → first_at x.element 0 xs ≡ none
+none_plain : (x : Part) (xs : List Part) → 0 < rank x.component → AllLow x xs → first_at x.element 0 xs ≡ None
 unfolding first_at
 none_plain x [] h a = refl
 none_plain x (y ∷ ys) h a = go (stands_at x.element 0 y) refl (none_plain x ys h a.1)
   where
-    go : (t : Bool) → stands_at x.element 0 y ≡ t → first_at x.element 0 ys ≡ none → pick t (some y.text) (first_at x.element 0 ys) ≡ none
+    go : (t : Bool) → stands_at x.element 0 y ≡ t → first_at x.element 0 ys ≡ None → pick t (Some y.text) (first_at x.element 0 ys) ≡ None
     go true e ih =
         let b : (y.element ≡ x.element) × (rank y.component ≡ 0) = stands x.element 0 y e in
         let z : ⊥ = omega (arith, a.0.ranks (sym b.0), b.1) in absurd z
@@ -76,8 +76,8 @@ unfolding stands_at
 stands_here p r x e = rw (eq-eqb x.element p e)
 
 same_component : (o : Option ℕ) (c : ℕ) → (c ≡ 1 → ⊥) → eqb (or_one o) c ≡ eqb (rank o) (suc c)
-same_component none c h = ne_eqb 1 c (λ e. h (sym e)) ∙ sym (eqb-zero-suc c)
-same_component (some d) c h = sym (eqb-suc-suc d c)
+same_component None c h = ne_eqb 1 c (λ e. h (sym e)) ∙ sym (eqb-zero-suc c)
+same_component (Some d) c h = sym (eqb-suc-suc d c)
 
 here_component : (rest : List Part) (p c : ℕ) → (c ≡ 1 → ⊥) → InOrder rest → starts_from p rest
     → component_text (here p rest) c ≡ or_text (first_at p (suc c) rest) []
@@ -86,12 +86,12 @@ here_component [] p c h o q = refl
 here_component (x ∷ xs) p c h o q = go (eqb x.element p) refl (here_component xs p c h o.1 (starts_tail p x xs q o.0))
   where
     choose : (t : Bool) → component_text (here p xs) c ≡ or_text (first_at p (suc c) xs) []
-        → pick t x.text (component_text (here p xs) c) ≡ or_text (pick t (some x.text) (first_at p (suc c) xs)) []
+        → pick t x.text (component_text (here p xs) c) ≡ or_text (pick t (Some x.text) (first_at p (suc c) xs)) []
     choose true ih = refl
     choose false ih = ih
 
     go : (t : Bool) → eqb x.element p ≡ t → component_text (here p xs) c ≡ or_text (first_at p (suc c) xs) []
-        → component_text (pick t (x ∷ here p xs) []) c ≡ or_text (pick (stands_at p (suc c) x) (some x.text) (first_at p (suc c) xs)) []
+        → component_text (pick t (x ∷ here p xs) []) c ≡ or_text (pick (stands_at p (suc c) x) (Some x.text) (first_at p (suc c) xs)) []
     go true e ih = rw (stands_here p (suc c) x (eqb-true _ _ e), ← same_component x.component c h) (choose (eqb (or_one x.component) c) ih)
     go false e ih =
         let n : p < x.element = over p x.element q (λ f. eqb-false _ _ e (sym f)) in
@@ -103,24 +103,24 @@ unfolding here component_text first_at
 here_first [] p o q = refl
 here_first (x ∷ xs) p o q = go (eqb x.element p) refl (here_first xs p o.1 (starts_tail p x xs q o.0))
   where
-    plain_none : x.element ≡ p → 0 < rank x.component → first_at p 0 xs ≡ none
+    plain_none : x.element ≡ p → 0 < rank x.component → first_at p 0 xs ≡ None
     plain_none e h = ap (λ (n : ℕ). first_at n 0 xs) (sym e) ∙ none_plain x xs h o.0
 
-    one : (t : Bool) (d : ℕ) → eqb d 1 ≡ t → (d ≡ 1 → first_at p 0 xs ≡ none) → component_text (here p xs) 1 ≡ or_text (first_at p 0 xs) (or_text (first_at p 2 xs) [])
-        → pick t x.text (component_text (here p xs) 1) ≡ or_text (first_at p 0 xs) (or_text (pick t (some x.text) (first_at p 2 xs)) [])
+    one : (t : Bool) (d : ℕ) → eqb d 1 ≡ t → (d ≡ 1 → first_at p 0 xs ≡ None) → component_text (here p xs) 1 ≡ or_text (first_at p 0 xs) (or_text (first_at p 2 xs) [])
+        → pick t x.text (component_text (here p xs) 1) ≡ or_text (first_at p 0 xs) (or_text (pick t (Some x.text) (first_at p 2 xs)) [])
     one true d e h ih = rw (h (eqb-true _ _ e))
     one false d e h ih = ih
 
     kinds : (c : Option ℕ) → x.component ≡ c → x.element ≡ p → component_text (here p xs) 1 ≡ or_text (first_at p 0 xs) (or_text (first_at p 2 xs) [])
         → pick (eqb (or_one c) 1) x.text (component_text (here p xs) 1)
-        ≡ or_text (pick (eqb (rank c) 0) (some x.text) (first_at p 0 xs)) (or_text (pick (eqb (rank c) 2) (some x.text) (first_at p 2 xs)) [])
-    kinds none f e ih = refl
-    kinds (some d) f e ih =
+        ≡ or_text (pick (eqb (rank c) 0) (Some x.text) (first_at p 0 xs)) (or_text (pick (eqb (rank c) 2) (Some x.text) (first_at p 2 xs)) [])
+    kinds None f e ih = refl
+    kinds (Some d) f e ih =
         rw (eqb-suc-zero d, eqb-suc-suc d 1) (one (eqb d 1) d refl (λ i. plain_none e (rw f (omega arith))) ih)
 
     go : (t : Bool) → eqb x.element p ≡ t → component_text (here p xs) 1 ≡ or_text (first_at p 0 xs) (or_text (first_at p 2 xs) [])
         → component_text (pick t (x ∷ here p xs) []) 1
-        ≡ or_text (pick (stands_at p 0 x) (some x.text) (first_at p 0 xs)) (or_text (pick (stands_at p 2 x) (some x.text) (first_at p 2 xs)) [])
+        ≡ or_text (pick (stands_at p 0 x) (Some x.text) (first_at p 0 xs)) (or_text (pick (stands_at p 2 x) (Some x.text) (first_at p 2 xs)) [])
     go true e ih = rw (stands_here p 0 x (eqb-true _ _ e), stands_here p 2 x (eqb-true _ _ e)) (kinds x.component refl (eqb-true _ _ e) ih)
     go false e ih =
         let n : p < x.element = over p x.element q (λ f. eqb-false _ _ e (sym f)) in
@@ -130,7 +130,7 @@ here_text : (rest : List Part) (p c : ℕ) → InOrder rest → starts_from p re
 unfolding repeat_text
 here_text rest p c o q = go (eqb c 1) refl
   where
-    go : (t : Bool) → eqb c 1 ≡ t → component_text (here p rest) c ≡ or_text (pick t (first_at p 0 rest) none) (or_text (first_at p (suc c) rest) [])
+    go : (t : Bool) → eqb c 1 ≡ t → component_text (here p rest) c ≡ or_text (pick t (first_at p 0 rest) None) (or_text (first_at p (suc c) rest) [])
     go true e = let f : c ≡ 1 = eqb-true _ _ e in rw f (here_first rest p o q)
     go false e = here_component rest p c (eqb-false _ _ e) o q
 
@@ -158,7 +158,7 @@ after_first [] p q r h = refl
 after_first (x ∷ xs) p q r h = go (eqb x.element p) refl (after_first xs p q r h)
   where
     go : (t : Bool) → eqb x.element p ≡ t → first_at q r (after p xs) ≡ first_at q r xs
-        → first_at q r (pick t (after p xs) (x ∷ xs)) ≡ pick (stands_at q r x) (some x.text) (first_at q r xs)
+        → first_at q r (pick t (after p xs) (x ∷ xs)) ≡ pick (stands_at q r x) (Some x.text) (first_at q r xs)
     go true e ih = rw (stands_not q r x (λ f. h (sym (eqb-true _ _ e) ∙ f))) ih
     go false e ih = refl
 

@@ -2,9 +2,9 @@
 use Prim.Native.Nat.{ℕ, zero, suc, ◌+◌, ◌-◌, ◌≤◌, ◌<◌, max}
 use mathlib.Core.Path.{◌≡◌, refl, sym, ap, ◌∙◌}
 use mathlib.Core.List.{List, [], ◌∷◌, ◌++◌, append-nil}
-use mathlib.Core.Option.{Option, none, some}
 use mathlib.Core.Bool.{Bool, true, false}
 use native.Mathlib.Omega.{arith}
+use Rattle.std.specs.Prelude.{Option, None, Some}
 use lib.ListN.{replicate}
 use lib.Dec.{eqb, leb}
 use borrow.Author.Tests.{eqb-true, ne_eqb, lt-ltb, leb-true, leb-false, ltb-true}
@@ -60,8 +60,8 @@ plain_first [] h = refl
 plain_first (x ∷ xs) h = go x.component refl h
   where
     go : (o : Option ℕ) → x.component ≡ o → pick (is_plain o) (all_plain xs) false ≡ true → x.text ≡ pick (eqb (or_one x.component) 1) x.text (component_text xs 1)
-    go none e k = rw e
-    go (some c) e k = absurd (never (sym k))
+    go None e k = rw e
+    go (Some c) e k = absurd (never (sym k))
 
 plain_last : (xs : List Part) → all_plain xs ≡ true → last_component xs ≤ 1
 unfolding all_plain highest
@@ -74,8 +74,8 @@ plain_last (x ∷ xs) h = go x.component refl (plain_last xs) h
 
     go : (o : Option ℕ) → x.component ≡ o → (all_plain xs ≡ true → last_component xs ≤ 1) → pick (is_plain o) (all_plain xs) false ≡ true
         → max (pick (is_empty x.text) 0 (or_one x.component)) (last_component xs) ≤ 1
-    go none e ih k = rw e (short (is_empty x.text) (last_component xs) (ih k))
-    go (some c) e ih k = absurd (never (sym k))
+    go None e ih k = rw e (short (is_empty x.text) (last_component xs) (ih k))
+    go (Some c) e ih k = absurd (never (sym k))
 
 single : (s : Separators) (xs : List Part) (k : ℕ) → last_component xs ≡ k → k ≤ 1 → component_text xs 1 ≡ component_bytes s (texts (component_text xs) k 1)
 unfolding component_bytes texts behind

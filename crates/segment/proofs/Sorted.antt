@@ -4,14 +4,13 @@ use mathlib.Core.Path.{◌≡◌, refl, sym, ap, ◌∙◌}
 use mathlib.Core.Logic.{◌≢◌}
 use mathlib.Core.Bool.{Bool, true, false, false≢true}
 use mathlib.Core.List.{List, [], ◌∷◌}
-use mathlib.Core.Option.{Option, none, some}
 use native.Mathlib.Omega.{arith}
+use Rattle.std.specs.Prelude.{Option, None, Some}
 use lib.Dec.{eqb, leb, ltb}
 use borrow.Author.Tests.{eq-eqb, eqb-true, le-leb, ltb-true, ltb-false}
 use Rattle.segment.specs.declared.Separators.{Separators}
 use Rattle.segment.specs.Grammar.{Segment, All, Without, Plain}
 use Rattle.segment.specs.Parts.{Part, pick, rank, not_behind, insert, sorted}
-use Rattle.segment.specs.Places.{component}
 use Rattle.segment.specs.ReadParts.{is_at, text_of, RisesFrom, Free, ReadAs}
 
 -- ---- the same parts
@@ -104,7 +103,7 @@ sorted_text p c (x ∷ xs) = insert_text p c x (sorted xs) ∙ ap (pick (is_at p
 
 module _ (s : Separators) (id : List ℕ) (parts : List Part) where
   pub sorted_free : id ≢ [] → Plain s id → All (λ x. 1 ≤ x.element) parts → All (λ x. Plain s x.text) parts
-      → All (λ x. x.component ≢ none → Without s.component x.text) parts → Free s (record { id = id; parts = sorted parts })
+      → All (λ x. x.component ≢ None → Without s.component x.text) parts → Free s (record { id = id; parts = sorted parts })
   sorted_free n i e t w =
       record { named = n; id_plain = i; rises = sorted_rises 1 parts e; plain = sorted_all _ parts t; whole = sorted_all _ parts w }
 
@@ -113,6 +112,6 @@ module _ (s : Separators) (id : List ℕ) (parts : List Part) where
   sorted_read_as x r =
       record {
         id = r.id;
-        plain_at = λ p h k. r.plain_at p h (sorted_all _ parts k) ∙ sorted_text p none parts;
-        component_at = λ p h k c l. r.component_at p h (sorted_all _ parts k) c l ∙ sorted_text p (some c) parts;
+        plain_at = λ p h k. r.plain_at p h (sorted_all _ parts k) ∙ sorted_text p None parts;
+        component_at = λ p h k c l. r.component_at p h (sorted_all _ parts k) c l ∙ sorted_text p (Some c) parts;
       }

@@ -2,9 +2,9 @@
 use Prim.Native.Nat.{ℕ, ◌≤◌, ◌<◌, max}
 use mathlib.Core.Path.{◌≡◌, refl, sym, ap, ◌∙◌}
 use mathlib.Core.List.{List, [], ◌∷◌}
-use mathlib.Core.Option.{Option, some}
 use mathlib.Core.Bool.{Bool, true, false}
 use native.Mathlib.Omega.{arith}
+use Rattle.std.specs.Prelude.{Option, Some}
 use lib.Dec.{eqb, ltb, leb}
 use borrow.Author.Tests.{eqb-true, eqb-false, leb-true, leb-false, ltb-true, ltb-false}
 use Rattle.segment.specs.Parts.{Part, pick, is_empty, rank, not_behind, insert, sorted, highest}
@@ -99,7 +99,7 @@ insert_first p r x [] = refl
 insert_first p r x (y ∷ ys) = go (not_behind x y) refl (insert_first p r x ys)
   where
     apart : not_behind x y ≡ false → (t u : Bool) → stands_at p r x ≡ t → stands_at p r y ≡ u → (rest : Option (List ℕ))
-        → pick u (some y.text) (pick t (some x.text) rest) ≡ pick t (some x.text) (pick u (some y.text) rest)
+        → pick u (Some y.text) (pick t (Some x.text) rest) ≡ pick t (Some x.text) (pick u (Some y.text) rest)
     apart e true true f g rest =
         let a : (x.element ≡ p) × (rank x.component ≡ r) = stands p r x f in
         let b : (y.element ≡ p) × (rank y.component ≡ r) = stands p r y g in
@@ -108,17 +108,17 @@ insert_first p r x (y ∷ ys) = go (not_behind x y) refl (insert_first p r x ys)
     apart e false true f g rest = refl
     apart e false false f g rest = refl
 
-    go : (t : Bool) → not_behind x y ≡ t → first_at p r (insert x ys) ≡ pick (stands_at p r x) (some x.text) (first_at p r ys)
-        → first_at p r (pick t (x ∷ y ∷ ys) (y ∷ insert x ys)) ≡ pick (stands_at p r x) (some x.text) (pick (stands_at p r y) (some y.text) (first_at p r ys))
+    go : (t : Bool) → not_behind x y ≡ t → first_at p r (insert x ys) ≡ pick (stands_at p r x) (Some x.text) (first_at p r ys)
+        → first_at p r (pick t (x ∷ y ∷ ys) (y ∷ insert x ys)) ≡ pick (stands_at p r x) (Some x.text) (pick (stands_at p r y) (Some y.text) (first_at p r ys))
     go true e ih = refl
-    go false e ih = ap (λ (o : Option (List ℕ)). pick (stands_at p r y) (some y.text) o) ih
+    go false e ih = ap (λ (o : Option (List ℕ)). pick (stands_at p r y) (Some y.text) o) ih
         ∙ apart e (stands_at p r x) (stands_at p r y) refl refl (first_at p r ys)
 
 -- of parts at one place the first stays the first
 pub sorted_first : (p r : ℕ) (parts : List Part) → first_at p r (sorted parts) ≡ first_at p r parts
 unfolding sorted first_at
 sorted_first p r [] = refl
-sorted_first p r (x ∷ xs) = insert_first p r x (sorted xs) ∙ ap (λ (o : Option (List ℕ)). pick (stands_at p r x) (some x.text) o) (sorted_first p r xs)
+sorted_first p r (x ∷ xs) = insert_first p r x (sorted xs) ∙ ap (λ (o : Option (List ℕ)). pick (stands_at p r x) (Some x.text) o) (sorted_first p r xs)
 
 insert_highest : (f : Part → ℕ) (x : Part) (ys : List Part) → highest f (insert x ys) ≡ highest f (x ∷ ys)
 unfolding insert highest

@@ -1,7 +1,6 @@
 -- The calls that write a segment, in the order in which the standard has its places: for the contracts of functions that feed a pen.
 -- What the calls together store is proved in proofs/Runs.antt: the joining of the parts, whatever they are.
-use Rattle.std.specs.Prelude.{ℕ, zero, suc, ◌+◌, ◌-◌, ◌≤◌, ◌<◌, ◌≡◌, Bool, true, false, List, [], ◌∷◌, eqb, ltb}
-use Rattle.std.proofs.Math.Option.{Option, none, some}
+use Rattle.std.specs.Prelude.{ℕ, zero, suc, ◌+◌, ◌-◌, ◌≤◌, ◌<◌, ◌≡◌, Bool, true, false, List, [], ◌∷◌, eqb, ltb, Option, None, Some}
 use Rattle.lent.specs.Fit.{Stored}
 use Rattle.segment.specs.declared.Separators.{Separators}
 use Rattle.segment.specs.declared.Pen.{Pen}
@@ -47,16 +46,16 @@ stands_at p r x = pick (eqb x.element p) (eqb (rank x.component) r) false
 
 -- the first part at element p with rank r (0: plain; c + 1: component c)
 unfoldable pub first_at : ℕ → ℕ → List Part → Option (List ℕ)
-first_at p r [] = none
-first_at p r (x ∷ xs) = pick (stands_at p r x) (some x.text) (first_at p r xs)
+first_at p r [] = None
+first_at p r (x ∷ xs) = pick (stands_at p r x) (Some x.text) (first_at p r xs)
 
 abbrev pub or_text : Option (List ℕ) → List ℕ → List ℕ
-or_text none text = text
-or_text (some text) other = text
+or_text None text = text
+or_text (Some text) other = text
 
 -- component c of element p: at component 1 the first plain part stands in front of the others
 unfoldable pub repeat_text : List Part → ℕ → ℕ → List ℕ
-repeat_text parts p c = or_text (pick (eqb c 1) (first_at p 0 parts) none) (or_text (first_at p (suc c) parts) [])
+repeat_text parts p c = or_text (pick (eqb c 1) (first_at p 0 parts) None) (or_text (first_at p (suc c) parts) [])
 
 abbrev pub component_in : ℕ → Part → ℕ
 component_in p x = pick (eqb x.element p) (component_of x) 0

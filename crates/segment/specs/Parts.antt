@@ -1,7 +1,6 @@
 -- From the parts of a segment to its elements (document 01, `write/render.rs`; the reference is the Rust's `write_segment`).
 -- Trailing empty elements and components go. Of parts at one place the first stands.
-use Rattle.std.specs.Prelude.{ℕ, zero, suc, ◌+◌, max, Bool, true, false, List, [], ◌∷◌, eqb, leb, ltb}
-use Rattle.std.proofs.Math.Option.{Option, none, some}
+use Rattle.std.specs.Prelude.{ℕ, zero, suc, ◌+◌, max, Bool, true, false, List, [], ◌∷◌, eqb, leb, ltb, Option, None, Some}
 use Rattle.segment.specs.declared.Separators.{Separators}
 use Rattle.segment.specs.Joining.{component_bytes, segment_bytes}
 
@@ -21,8 +20,8 @@ is_empty (x ∷ xs) = false
 
 -- a plain part counts as component 1 where its element also has component parts
 abbrev pub or_one : Option ℕ → ℕ
-or_one none = 1
-or_one (some c) = c
+or_one None = 1
+or_one (Some c) = c
 
 abbrev pub component_of : Part → ℕ
 component_of x = or_one x.component
@@ -50,8 +49,8 @@ after p (x ∷ xs) = pick (eqb x.element p) (after p xs) (x ∷ xs)
 -- ---- one element
 
 abbrev pub is_plain : Option ℕ → Bool
-is_plain none = true
-is_plain (some c) = false
+is_plain None = true
+is_plain (Some c) = false
 
 unfoldable pub all_plain : List Part → Bool
 all_plain [] = true
@@ -90,8 +89,8 @@ joined s id parts = segment_bytes s id (elements_of s parts)
 -- ---- a repeat segment's parts are sorted by element, then component, none first; equal places keep their order
 
 abbrev pub rank : Option ℕ → ℕ
-rank none = 0
-rank (some c) = suc c
+rank None = 0
+rank (Some c) = suc c
 
 -- the place of x is not behind that of y
 abbrev pub not_behind : Part → Part → Bool

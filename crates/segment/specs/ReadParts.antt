@@ -1,6 +1,5 @@
 -- What a segment joined of parts is read as (document 01, "A complete plan": the text planned for a place is its first part's; demand 3).
-use Rattle.std.specs.Prelude.{ℕ, ◌≤◌, ◌<◌, ◌≡◌, ◌≢◌, Bool, false, List, [], ◌∷◌, ◌++◌, eqb}
-use Rattle.std.proofs.Math.Option.{Option, none, some}
+use Rattle.std.specs.Prelude.{ℕ, ◌≤◌, ◌<◌, ◌≡◌, ◌≢◌, Bool, false, List, [], ◌∷◌, ◌++◌, eqb, Option, None, Some}
 use Rattle.segment.specs.declared.Separators.{Separators}
 use Rattle.segment.specs.Grammar.{Segment, All, Without, Plain}
 use Rattle.segment.specs.Parts.{Part, pick, rank, joined}
@@ -29,11 +28,11 @@ text_of (x ∷ xs) p c = pick (is_at p c x) x.text (text_of xs p c)
 
 -- element p has no component parts
 abbrev pub PlainAt : ℕ → List Part → Type 0
-PlainAt p = All (λ x. x.element ≡ p → x.component ≡ none)
+PlainAt p = All (λ x. x.element ≡ p → x.component ≡ None)
 
 -- element p has no plain parts
 abbrev pub ComposedAt : ℕ → List Part → Type 0
-ComposedAt p = All (λ x. x.element ≡ p → x.component ≢ none)
+ComposedAt p = All (λ x. x.element ≡ p → x.component ≢ None)
 
 -- no part stands at an element below the one before it, and none below p
 abbrev pub RisesFrom : ℕ → List Part → Type 0
@@ -46,12 +45,12 @@ pub record Free (s : Separators) (d : Due) : Type 0 where
   pub id_plain : Plain s d.id
   pub rises : RisesFrom 1 d.parts
   pub plain : All (λ x. Plain s x.text) d.parts
-  pub whole : All (λ x. x.component ≢ none → Without s.component x.text) d.parts
+  pub whole : All (λ x. x.component ≢ None → Without s.component x.text) d.parts
 
 -- ---- what is read
 
 -- every place has the text that is planned for it, and is empty where none is
 pub record ReadAs (s : Separators) (d : Due) (x : Segment) : Type 0 where
   pub id : x.id ≡ d.id
-  pub plain_at : (p : ℕ) → 0 < p → PlainAt p d.parts → place x p ≡ text_of d.parts p none
-  pub component_at : (p : ℕ) → 0 < p → ComposedAt p d.parts → (c : ℕ) → 0 < c → component s x p c ≡ text_of d.parts p (some c)
+  pub plain_at : (p : ℕ) → 0 < p → PlainAt p d.parts → place x p ≡ text_of d.parts p None
+  pub component_at : (p : ℕ) → 0 < p → ComposedAt p d.parts → (c : ℕ) → 0 < c → component s x p c ≡ text_of d.parts p (Some c)

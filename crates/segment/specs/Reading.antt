@@ -1,6 +1,5 @@
 -- The grammar as functions on bytes: the reading of a document, if it has one.
-use Rattle.std.specs.Prelude.{ℕ, zero, suc, Bool, true, false, List, [], ◌∷◌, length, eqb}
-use Rattle.std.proofs.Math.Option.{Option, none, some}
+use Rattle.std.specs.Prelude.{ℕ, zero, suc, Bool, true, false, List, [], ◌∷◌, length, eqb, Option, None, Some}
 use Rattle.segment.specs.declared.Separators.{Separators}
 use Rattle.segment.specs.Grammar.{Segment}
 
@@ -20,13 +19,13 @@ cut b [] = record { first = []; more = [] }
 cut b (x ∷ xs) = cut_at (eqb x b) x (cut b xs)
 
 abbrev pub ahead_at : Bool → ℕ → List ℕ → Option (List ℕ × List ℕ) → Option (List ℕ × List ℕ)
-ahead_at true x xs o = some ([], xs)
-ahead_at false x xs none = none
-ahead_at false x xs (some p) = some (x ∷ p.0, p.1)
+ahead_at true x xs o = Some ([], xs)
+ahead_at false x xs None = None
+ahead_at false x xs (Some p) = Some (x ∷ p.0, p.1)
 
 -- what stands ahead of the first b, and what stands behind it
 unfoldable pub ahead : ℕ → List ℕ → Option (List ℕ × List ℕ)
-ahead b [] = none
+ahead b [] = None
 ahead b (x ∷ xs) = ahead_at (eqb x b) x xs (ahead b xs)
 
 abbrev pub run_at : Bool → ℕ → ℕ
@@ -48,13 +47,13 @@ pub data Front : Type 0 where
   unfed : Front
 
 abbrev pub feed_at : Bool → List ℕ → Option (List ℕ)
-feed_at true rest = some rest
-feed_at false rest = none
+feed_at true rest = Some rest
+feed_at false rest = None
 
 -- what stands behind the line feed, if one is due
 unfoldable pub feed : Bool → List ℕ → Option (List ℕ)
-feed false rest = some rest
-feed true [] = none
+feed false rest = Some rest
+feed true [] = None
 feed true (x ∷ rest) = feed_at (eqb x 10) rest
 
 abbrev pub by_name : List ℕ → List ℕ → List ℕ → Front
@@ -62,12 +61,12 @@ by_name [] body rest = nameless body rest
 by_name (x ∷ id) body rest = whole body rest
 
 abbrev pub fronted : Separators → List ℕ → Option (List ℕ) → Front
-fronted s body none = unfed
-fronted s body (some rest) = by_name (cut s.element body).first body rest
+fronted s body None = unfed
+fronted s body (Some rest) = by_name (cut s.element body).first body rest
 
 abbrev pub front_of : Separators → Option (List ℕ × List ℕ) → Front
-front_of s none = unended
-front_of s (some p) = fronted s p.0 (feed s.line_break p.1)
+front_of s None = unended
+front_of s (Some p) = fronted s p.0 (feed s.line_break p.1)
 
 -- a segment's bytes ahead of its terminator, and the document behind it
 unfoldable pub front : Separators → List ℕ → Front
@@ -81,19 +80,19 @@ abbrev pub segment_of : Separators → List ℕ → Segment
 segment_of s body = record { id = (cut s.element body).first; elements = (cut s.element body).more }
 
 abbrev pub onto : Segment → Option (List Segment) → Option (List Segment)
-onto x none = none
-onto x (some xs) = some (x ∷ xs)
+onto x None = None
+onto x (Some xs) = Some (x ∷ xs)
 
 abbrev pub read_on : Separators → (List ℕ → Option (List Segment)) → Front → Option (List Segment)
-read_on s on done = some []
+read_on s on done = Some []
 read_on s on (whole body rest) = onto (segment_of s body) (on rest)
-read_on s on (nameless body rest) = none
-read_on s on unended = none
-read_on s on unfed = none
+read_on s on (nameless body rest) = None
+read_on s on unended = None
+read_on s on unfed = None
 
 -- at most n segments
 unfoldable pub read_up_to : Separators → ℕ → List ℕ → Option (List Segment)
-read_up_to s zero doc = none
+read_up_to s zero doc = None
 read_up_to s (suc n) doc = read_on s (read_up_to s n) (front s doc)
 
 -- the reading: a segment takes a byte at least, so there are no more of them than bytes

@@ -36,15 +36,6 @@ pub struct Pen {
     pub components: usize,
 }
 
-fn less(a: usize, b: usize) -> usize
-    ensures { result ≡ a - b }
-{
-    if b <= a {
-        return a - b;
-    }
-    0
-}
-
 // Whether a text is empty.
 pub fn is_empty(job: &[u8], v: Value) -> bool
     ensures { result ≡ is_empty (value_text job.now v) }
@@ -124,12 +115,10 @@ pub fn stretch_holds(source: &[u8], start: usize, len: usize, a: u8, b: u8, c: u
     ensures { result ≡ holds_any (one_of a b c d) (stretch source.now start len) }
 {
     let n = lent::stretch_len(source, start, len);
-    let mut i = 0;
-    while i < n {
+    for i in 0..n {
         if one_of(source[start + i], a, b, c, d) {
             return true;
         }
-        i += 1;
     }
     false
 }
@@ -222,9 +211,9 @@ fn reach(doc: &mut [u8], s: Separators, pen: Pen, p: usize, c: usize) -> Pen
     ensures { Penned (reached s pen p c []) pen.at result doc.old doc.new }
 {
     let stand = components_in(pen, p);
-    let behind = less(c, 1);
-    let m = less(behind, stand);
-    let n = less(p, pen.elements);
+    let behind = c.saturating_sub(1);
+    let m = behind.saturating_sub(stand);
+    let n = p.saturating_sub(pen.elements);
     let a = lent::put_run(doc, pen.at, s.element, n);
     let b = lent::put_run(doc, a, s.component, m);
     Pen {
@@ -326,7 +315,7 @@ fn put_ending(doc: &mut [u8], s: Separators, at: usize) -> usize
 pub fn close(doc: &mut [u8], s: Separators, pen: Pen, last: usize) -> usize
     ensures { Stored doc.old pen.at (closing s pen last) result doc.new }
 {
-    let left = less(last, pen.elements);
+    let left = last.saturating_sub(pen.elements);
     let a = lent::put_run(doc, pen.at, s.element, left);
     put_ending(doc, s, a)
 }

@@ -24,14 +24,12 @@ pub enum SegmentAt {
 pub fn find(document: &[u8], at: usize, b: u8) -> usize
     ensures { result ≡ at + run b (drop at document.now) }
 {
-    let mut i = at;
-    while i < document.len() {
+    for i in at..document.len() {
         if document[i] == b {
             return i;
         }
-        i += 1;
     }
-    i
+    at.max(document.len())
 }
 
 // Whether a line feed stands at a place.

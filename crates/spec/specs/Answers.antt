@@ -1,15 +1,8 @@
 -- What the answers of the accessors stand for.
-use Rattle.std.specs.Prelude.{ℕ, ◌+◌, ◌≤◌, ◌<◌, ◌≡◌, List, Bool, true, false, length, take, drop}
-use Rattle.std.proofs.Math.Option.{Option, none, some}
+use Rattle.std.specs.Prelude.{ℕ, ◌+◌, ◌≤◌, ◌<◌, ◌≡◌, List, Bool, true, false, length, take, drop, Option, None, Some}
 use Rattle.format.specs.Spec.{Usage, required, situational, Counted, count_segments, count_children, Control}
 use Rattle.spec.specs.declared.ids.Stretch.{Stretch}
-use Rattle.spec.specs.declared.ids.Number.{Number}
-use Rattle.spec.specs.declared.ids.Number.TheVariants as number
-use Rattle.spec.specs.declared.ids.Text.{Text}
-use Rattle.spec.specs.declared.ids.Text.TheVariants as text
 use Rattle.spec.specs.declared.ids.ControlRule.{ControlRule}
-use Rattle.spec.specs.declared.ids.Controls.{Controls}
-use Rattle.spec.specs.declared.ids.Controls.TheVariants as control
 
 -- the bytes of a stretch of the job
 unfoldable pub stretch_of : List ℕ → Stretch → List ℕ
@@ -20,31 +13,27 @@ pub record Holds (b : List ℕ) (s : Stretch) (v : List ℕ) : Type 0 where
   pub bytes : stretch_of b s ≡ v
   pub within : s.start + s.len ≤ length b
 
-abbrev pub number_of : Number → Option ℕ
-number_of number.None = none
-number_of (number.Is n) = some n
-
 -- the number, 0 where it is absent
-abbrev pub number_in : Number → ℕ
-number_in number.None = 0
-number_in (number.Is n) = n
+abbrev pub number_in : Option ℕ → ℕ
+number_in None = 0
+number_in (Some n) = n
 
 -- a byte that may be absent
-pub record HoldsByte (r : Number) (v : Option ℕ) : Type 0 where
-  pub says : number_of r ≡ v
+pub record HoldsByte (r : Option ℕ) (v : Option ℕ) : Type 0 where
+  pub says : r ≡ v
   pub low : number_in r < 256
 
 -- a text that may be absent
-abbrev pub text_of : List ℕ → Text → Option (List ℕ)
-text_of b text.None = none
-text_of b (text.Is s) = some (stretch_of b s)
+abbrev pub text_of : List ℕ → Option Stretch → Option (List ℕ)
+text_of b None = None
+text_of b (Some s) = Some (stretch_of b s)
 
 -- where a text ends
-abbrev pub text_end : Text → ℕ
-text_end text.None = 0
-text_end (text.Is s) = s.start + s.len
+abbrev pub text_end : Option Stretch → ℕ
+text_end None = 0
+text_end (Some s) = s.start + s.len
 
-pub record HoldsText (b : List ℕ) (t : Text) (v : Option (List ℕ)) : Type 0 where
+pub record HoldsText (b : List ℕ) (t : Option Stretch) (v : Option (List ℕ)) : Type 0 where
   pub bytes : text_of b t ≡ v
   pub within : text_end t ≤ length b
 
@@ -55,9 +44,9 @@ counted_of true = count_children
 abbrev pub rule_of : ControlRule → Control
 rule_of c = record { opener = c.opener; closer = c.closer; count = c.count; counted = counted_of c.children }
 
-abbrev pub control_of : Controls → Option Control
-control_of control.None = none
-control_of (control.Is c) = some (rule_of c)
+abbrev pub control_of : Option ControlRule → Option Control
+control_of None = None
+control_of (Some c) = Some (rule_of c)
 
 -- a loop of which every instance of its parent holds one
 abbrev pub is_required : Usage → Bool

@@ -1,9 +1,8 @@
 -- The elements of a segment, one after the other.
-use Rattle.std.specs.Prelude.{ℕ, suc, ◌+◌, ◌-◌, ◌≤◌, ◌<◌, ◌≡◌, refl, Bool, true, false, length, get_or}
+use Rattle.std.specs.Prelude.{ℕ, suc, ◌+◌, ◌-◌, ◌≤◌, ◌<◌, ◌≡◌, refl, Bool, true, false, length, get_or, Option, None, Some}
 use Rattle.std.proofs.Math.Path.{sym, ap}
 use Rattle.std.proofs.Common.{◌∙◌, arith}
 use mathlib.Core.List.{List, [], ◌∷◌}
-use Rattle.std.proofs.Math.Option.{Option, none, some}
 use Rattle.codec.specs.Codec.{le, le_c, ◌⊗◌, list_c}
 use Rattle.codec.specs.Skip.{Is, skip, steps, count_at}
 use Rattle.codec.specs.Ways.{count_is}
@@ -13,12 +12,11 @@ use Rattle.codec.specs.Field.{is_list, is_pair, is_le}
 use Rattle.format.specs.Spec.{Kind, kind_an, kind_id, kind_n, kind_r, kind_dt, kind_tm, kind_c, ElementDef, element_c, component_c, SegmentDef, segment_c}
 use Rattle.format.specs.Fields.{is_element, kind_tag}
 use Rattle.format.specs.Sections.{plan_start}
-use Rattle.spec.specs.Answers.{Holds, HoldsText, number_of}
+use Rattle.spec.specs.Answers.{Holds, HoldsText}
 use Rattle.spec.specs.Reads.{Reads, stands}
 use Rattle.spec.specs.declared.ids.Elements.{Elements}
 use Rattle.spec.specs.declared.ids.Element.{Element}
 use Rattle.spec.specs.declared.ids.Stretch.{Stretch}
-use Rattle.spec.specs.declared.ids.Text.TheVariants as text
 
 -- these elements stand one after the other from where the cursor is
 pub record Entries (b : List ℕ) (c : Elements) (xs : SegmentDef) : Type 0 where
@@ -35,15 +33,15 @@ is_numeric kind_dt = false
 is_numeric kind_tm = false
 
 abbrev pub first_of : List (List ℕ) → Option (List ℕ)
-first_of [] = none
-first_of (x ∷ xs) = some x
+first_of [] = None
+first_of (x ∷ xs) = Some x
 
 -- what an element's answer says
 pub record ElementSays (b : List ℕ) (r : Element) (x : ℕ × ElementDef) : Type 0 where
   pub number : r.number ≡ x.0
   pub numeric : r.numeric ≡ is_numeric x.1.kind
-  pub min : number_of r.min ≡ x.1.min
-  pub max : number_of r.max ≡ x.1.max
+  pub min : r.min ≡ x.1.min
+  pub max : r.max ≡ x.1.max
   pub code : HoldsText b r.code (first_of x.1.codes)
 
 -- ---- a law for each way
@@ -73,16 +71,16 @@ module _ (b : List ℕ) (at : ℕ) where
   numeric_high h e kind_tm i = refl
 
   -- the first code of a list that stands at a place
-  pub code_none : (n : ℕ) → n ≡ le 4 b at → n ≡ 0 → (e : ℕ) (vs : List (List ℕ)) → Is (list_c bytes_c) b e at vs → HoldsText b text.None (first_of vs)
+  pub code_none : (n : ℕ) → n ≡ le 4 b at → n ≡ 0 → (e : ℕ) (vs : List (List ℕ)) → Is (list_c bytes_c) b e at vs → HoldsText b None (first_of vs)
   code_none n h q e [] i = record { bytes = refl; within = omega arith }
   code_none n h q e (x ∷ vs) i = absurd (omega (arith, (is_list bytes_c b e at (x ∷ vs) i).counted))
 
-  pub code_is : (n : ℕ) (s : Stretch) → n ≡ le 4 b at → (n ≡ 0 → ⊥) → ((e : ℕ) (v : List ℕ) → Reads bytes_c b e (at + 4) [] v → Holds b s v) → (e : ℕ) → e ≤ length b → (vs : List (List ℕ)) → Is (list_c bytes_c) b e at vs → HoldsText b (text.Is s) (first_of vs)
+  pub code_is : (n : ℕ) (s : Stretch) → n ≡ le 4 b at → (n ≡ 0 → ⊥) → ((e : ℕ) (v : List ℕ) → Reads bytes_c b e (at + 4) [] v → Holds b s v) → (e : ℕ) → e ≤ length b → (vs : List (List ℕ)) → Is (list_c bytes_c) b e at vs → HoldsText b (Some s) (first_of vs)
   unfolding steps
   code_is n s h q f e r [] i = absurd (q (h ∙ sym (is_list bytes_c b e at [] i).counted))
   code_is n s h q f e r (x ∷ vs) i =
       let w = f e x (stands r ((is_list bytes_c b e at (x ∷ vs) i).item 0 x (omega arith))) in
-      record { bytes = ap some w.bytes; within = w.within }
+      record { bytes = ap Some w.bytes; within = w.within }
 
 pub codes_at : (b : List ℕ) (e at kind min max codes : ℕ) → kind ≡ skip kind_c b at e → min ≡ skip (opt_c num_c) b kind e → max ≡ skip (opt_c num_c) b min e → codes ≡ skip (num_map_c component_c) b max e → (d : ElementDef) → Is element_c b e at d → Is (list_c bytes_c) b e codes d.codes
 codes_at b e at kind min max codes i j k l d h = rw (l, k, j, i) (is_element b e at d h).codes

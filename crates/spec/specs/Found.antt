@@ -1,9 +1,8 @@
 -- Looking a key up in a map: where its value stands.
 use Prim.Native.Nat.{ℕ, zero, suc, ◌+◌, ◌*◌, ◌-◌, ◌≤◌, ◌<◌}
-use Rattle.std.specs.Prelude.{◌≡◌, refl, List, [], ◌∷◌, Bool, true, cond, length, get_or, drop, eqb}
+use Rattle.std.specs.Prelude.{◌≡◌, refl, List, [], ◌∷◌, Bool, true, cond, length, get_or, drop, eqb, Option, None, Some}
 use Rattle.std.proofs.Math.Path.{sym, subst}
 use Rattle.std.proofs.Common.{ap, ◌∙◌, add-zero, sub-one}
-use Rattle.std.proofs.Math.Option.{Option, none, some}
 use Rattle.std.proofs.Math.Bool.{false}
 use native.Mathlib.Omega.{arith}
 use Rattle.std.proofs.Math.ListN.{length-drop}
@@ -21,32 +20,28 @@ use Rattle.format.specs.Spec.{SegmentDef, segment_c, ElementDef, element_c, Comp
 use Rattle.format.specs.Fields.{is_element, is_component}
 use Rattle.format.specs.Job.{Job}
 use Rattle.format.specs.Sections.{plan_start, job_of}
-use Rattle.spec.specs.Answers.{stretch_of, number_of}
+use Rattle.spec.specs.Answers.{stretch_of}
 use Rattle.spec.specs.Segments.{SegmentsIndexed, no_entry}
 use Rattle.spec.specs.declared.ids.Stretch.{Stretch}
-use Rattle.spec.specs.declared.ids.Number.{Number}
-use Rattle.spec.specs.declared.ids.Number.TheVariants as number
-use Rattle.spec.specs.declared.ids.Place.{Place}
-use Rattle.spec.specs.declared.ids.Place.TheVariants as place
 
 -- where a value stands, if there is one
 pub record StandsAt {A : Type 0} (C : Codec A) (b : List ℕ) (e at : ℕ) (v : Option A) : Type 0 where
   pub value : A
-  pub there : v ≡ some value
+  pub there : v ≡ Some value
   pub is : Is C b e at value
 
-unfoldable pub PlaceOf : {A : Type 0} → Codec A → List ℕ → ℕ → Place → Option A → Type 0
-PlaceOf C b e place.Nowhere v = v ≡ none
-PlaceOf C b e (place.At p) v = StandsAt C b e p v
+unfoldable pub PlaceOf : {A : Type 0} → Codec A → List ℕ → ℕ → Option ℕ → Option A → Type 0
+PlaceOf C b e None v = v ≡ None
+PlaceOf C b e (Some p) v = StandsAt C b e p v
 
 -- ---- the first entry whose key passes
 module _ {K A : Type 0} (P : K → Bool) where
-  pub found_first : (xs : List (K × A)) (i : ℕ) (d : K × A) → i < length xs → ((k : ℕ) → k < i → P (get_or xs k d).0 ≡ false) → P (get_or xs i d).0 ≡ true → found P xs ≡ some (get_or xs i d).1
+  pub found_first : (xs : List (K × A)) (i : ℕ) (d : K × A) → i < length xs → ((k : ℕ) → k < i → P (get_or xs k d).0 ≡ false) → P (get_or xs i d).0 ≡ true → found P xs ≡ Some (get_or xs i d).1
   found_first [] i d q h k = absurd (omega arith)
   found_first (x ∷ xs) zero d q h k = rw k
   found_first (x ∷ xs) (suc i) d q h k = rw (h 0 (omega arith)) (found_first xs i d (omega arith) (λ j r. h (suc j) (omega arith)) k)
 
-  pub found_none : (xs : List (K × A)) (d : K × A) → ((k : ℕ) → k < length xs → P (get_or xs k d).0 ≡ false) → found P xs ≡ none
+  pub found_none : (xs : List (K × A)) (d : K × A) → ((k : ℕ) → k < length xs → P (get_or xs k d).0 ≡ false) → found P xs ≡ None
   found_none [] d h = refl
   found_none (x ∷ xs) d h = rw (h 0 (omega arith)) (found_none xs d (λ j r. h (suc j) (omega arith)))
 
@@ -97,7 +92,7 @@ module _ {A : Type 0} (C : Codec A) (b : List ℕ) (e at number : ℕ) where
           is = rw w t.1;
         }
 
-  pub number_missing : (n k : ℕ) → Others k → n ≡ count_at b at e → n ≤ k → (xs : List (ℕ × A)) → Is (num_map_c C) b e at xs → found (eqb number) xs ≡ none
+  pub number_missing : (n k : ℕ) → Others k → n ≡ count_at b at e → n ≤ k → (xs : List (ℕ × A)) → Is (num_map_c C) b e at xs → found (eqb number) xs ≡ None
   number_missing n k o c r [] h = refl
   number_missing n k o c r (x ∷ xs) h =
       let l = is_list (num_c ⊗ C) b e at (x ∷ xs) (is_num_map C b e at (x ∷ xs) h).0 in
@@ -212,49 +207,49 @@ module _ (b idx : List ℕ) (w : SegmentsIndexed b idx) (id : List ℕ) where
           is = rw z name_at.1;
         }
 
-  pub name_missing : (n k : ℕ) → OtherNames b id k → n ≡ length (segs b) → n ≤ k → segment_def (job_of b) id ≡ none
+  pub name_missing : (n k : ℕ) → OtherNames b id k → n ≡ length (segs b) → n ≤ k → segment_def (job_of b) id ≡ None
   unfolding segment_def
   name_missing n k o c r = found_none (same_bytes id) (segs b) no_entry (λ i u. o i (omega arith) u)
 
 -- ---- an element of a segment
-pub element_nowhere : (j : Job) (id : List ℕ) (n : ℕ) → segment_def j id ≡ none → element_def j id n ≡ none
+pub element_nowhere : (j : Job) (id : List ℕ) (n : ℕ) → segment_def j id ≡ None → element_def j id n ≡ None
 unfolding element_def
 element_nowhere j id n h = rw h
 
-pub element_there : (j : Job) (id : List ℕ) (n : ℕ) (b : List ℕ) (e e' p : ℕ) (r : Place) → e' ≡ e → StandsAt segment_c b e p (segment_def j id) → ((xs : SegmentDef) → Is segment_c b e' p xs → PlaceOf element_c b e' r (found (eqb n) xs)) → PlaceOf element_c b e r (element_def j id n)
+pub element_there : (j : Job) (id : List ℕ) (n : ℕ) (b : List ℕ) (e e' p : ℕ) (r : Option ℕ) → e' ≡ e → StandsAt segment_c b e p (segment_def j id) → ((xs : SegmentDef) → Is segment_c b e' p xs → PlaceOf element_c b e' r (found (eqb n) xs)) → PlaceOf element_c b e r (element_def j id n)
 unfolding element_def
 element_there j id n b e e' p r i s h = rw (s.there, ← i) (h s.value (rw i s.is))
 
 -- what a place says, by its case
-module _ {A : Type 0} (C : Codec A) (b : List ℕ) (e : ℕ) (r : Place) (v : Option A) (h : PlaceOf C b e r v) where
-  pub place_nowhere : r ≡ place.Nowhere → v ≡ none
+module _ {A : Type 0} (C : Codec A) (b : List ℕ) (e : ℕ) (r : Option ℕ) (v : Option A) (h : PlaceOf C b e r v) where
+  pub place_nowhere : r ≡ None → v ≡ None
   unfolding PlaceOf
-  place_nowhere i = subst (λ (x : Place). PlaceOf C b e x v) i h
+  place_nowhere i = subst (λ (x : Option ℕ). PlaceOf C b e x v) i h
 
-  pub place_at : (p : ℕ) → r ≡ place.At p → StandsAt C b e p v
+  pub place_at : (p : ℕ) → r ≡ Some p → StandsAt C b e p v
   unfolding PlaceOf
-  place_at p i = subst (λ (x : Place). PlaceOf C b e x v) i h
+  place_at p i = subst (λ (x : Option ℕ). PlaceOf C b e x v) i h
 
 pub stands_low : {A : Type 0} (C : Codec A) (b : List ℕ) (e p : ℕ) (v : Option A) → StandsAt C b e p v → p ≤ e
 stands_low C b e p v s = is_in C b e p s.value s.is
 
 -- the most that an element's definition, or that of its component, gives
 abbrev pub max_in : ElementDef → Option ℕ → Option ℕ
-max_in d none = d.max
-max_in d (some c) = on (found (eqb c) d.components) (λ (k : ComponentDef). k.max) none
+max_in d None = d.max
+max_in d (Some c) = on (found (eqb c) d.components) (λ (k : ComponentDef). k.max) None
 
 module _ (j : Job) (id : List ℕ) (n : ℕ) where
-  pub max_nowhere : (o : Option ℕ) → element_def j id n ≡ none → none ≡ max_of j id n o
+  pub max_nowhere : (o : Option ℕ) → element_def j id n ≡ None → None ≡ max_of j id n o
   unfolding max_of
-  max_nowhere none h = rw h
-  max_nowhere (some c) h = rw h
+  max_nowhere None h = rw h
+  max_nowhere (Some c) h = rw h
 
   pub max_there : (b : List ℕ) (e e' p : ℕ) (o r : Option ℕ) → e' ≡ e → StandsAt element_c b e p (element_def j id n) → ((d : ElementDef) → Is element_c b e' p d → r ≡ max_in d o) → r ≡ max_of j id n o
   unfolding max_of
-  max_there b e e' p none r i s h = rw s.there (h s.value (rw i s.is))
-  max_there b e e' p (some c) r i s h = rw s.there (h s.value (rw i s.is))
+  max_there b e e' p None r i s h = rw s.there (h s.value (rw i s.is))
+  max_there b e e' p (Some c) r i s h = rw s.there (h s.value (rw i s.is))
 
-  pub min_nowhere : element_def j id n ≡ none → none ≡ min_of j id n
+  pub min_nowhere : element_def j id n ≡ None → None ≡ min_of j id n
   unfolding min_of
   min_nowhere h = rw h
 
@@ -262,10 +257,10 @@ module _ (j : Job) (id : List ℕ) (n : ℕ) where
   unfolding min_of
   min_there b e e' p r i s h = rw s.there (h s.value (rw i s.is))
 
-pub component_none : (c : ℕ) (d : ElementDef) → found (eqb c) d.components ≡ none → none ≡ max_in d (some c)
+pub component_none : (c : ℕ) (d : ElementDef) → found (eqb c) d.components ≡ None → None ≡ max_in d (Some c)
 component_none c d h = rw h
 
-pub component_there : (b : List ℕ) (e p c : ℕ) (r : Option ℕ) (d : ElementDef) → StandsAt component_c b e p (found (eqb c) d.components) → ((k : ComponentDef) → Is component_c b e p k → r ≡ k.max) → r ≡ max_in d (some c)
+pub component_there : (b : List ℕ) (e p c : ℕ) (r : Option ℕ) (d : ElementDef) → StandsAt component_c b e p (found (eqb c) d.components) → ((k : ComponentDef) → Is component_c b e p k → r ≡ k.max) → r ≡ max_in d (Some c)
 component_there b e p c r d s h = rw s.there (h s.value s.is)
 
 -- ---- the fields of an element that stands at a place, by the places that were read on the way
@@ -280,8 +275,8 @@ module _ (b : List ℕ) (e at kind min max : ℕ) (i : kind ≡ skip kind_c b at
   components_at k d h = rw (k, j, i) (is_element b e at d h).components
 
 -- which definition's most is asked
-pub max_in_none : (o : Number) (r : Option ℕ) (d : ElementDef) → o ≡ number.None → r ≡ d.max → r ≡ max_in d (number_of o)
+pub max_in_none : (o : Option ℕ) (r : Option ℕ) (d : ElementDef) → o ≡ None → r ≡ d.max → r ≡ max_in d o
 max_in_none o r d i h = rw i h
 
-pub max_in_is : (o : Number) (c : ℕ) (r : Option ℕ) (d : ElementDef) → o ≡ number.Is c → r ≡ max_in d (some c) → r ≡ max_in d (number_of o)
+pub max_in_is : (o : Option ℕ) (c : ℕ) (r : Option ℕ) (d : ElementDef) → o ≡ Some c → r ≡ max_in d (Some c) → r ≡ max_in d o
 max_in_is o c r d i h = rw i h

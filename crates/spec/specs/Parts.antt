@@ -1,6 +1,5 @@
 -- The items of the lists that the index has places of, each with its codec.
-use Rattle.std.specs.Prelude.{ℕ, Bool, List}
-use Rattle.std.proofs.Math.Option.{Option}
+use Rattle.std.specs.Prelude.{ℕ, Bool, List, Option}
 use Rattle.codec.specs.Codec.{Codec, list_c}
 use Rattle.codec.specs.Forms.{num_c, opt_c, flag_c}
 use Rattle.format.specs.Plan.{SegmentPlan as SegmentPlanIn, segment_plan_c}

@@ -1,9 +1,8 @@
 -- What a reader by place meets: a value that stands there, or the zero of its kind past the job's end, where every byte reads as 0.
-use Rattle.std.specs.Prelude.{ℕ, zero, suc, ◌+◌, ◌*◌, ◌-◌, ◌≤◌, ◌<◌, ◌≡◌, Bool, true, false, not, get_or, take, drop}
+use Rattle.std.specs.Prelude.{ℕ, zero, suc, ◌+◌, ◌*◌, ◌-◌, ◌≤◌, ◌<◌, ◌≡◌, Bool, true, false, not, get_or, take, drop, Option, None, Some}
 use Rattle.std.proofs.Math.Path.{refl, sym}
 use Rattle.std.proofs.Common.{ap, ◌∙◌, length-drop, ext_get_or}
 use mathlib.Core.List.{List, [], ◌∷◌}
-use Rattle.std.proofs.Math.Option.{Option, none, some}
 use native.Mathlib.Omega.{arith}
 use Rattle.std.proofs.Math.ListN.{length, get_or-eq_default}
 use Rattle.std.proofs.Math.Seq.{get_or-take, get_or-drop, length-take-le}
@@ -15,12 +14,9 @@ use Rattle.codec.specs.Answers.{byte_item}
 use Rattle.format.specs.Spec.{Usage, required, situational, usage_c, Counted, count_segments, count_children, counted_c, Control, control_c, Repeat, repeat_c}
 use Rattle.format.specs.Fields.{is_control, is_repeat, usage_tag, counted_tag}
 use Rattle.format.specs.Ask.{on}
-use Rattle.spec.specs.Answers.{stretch_of, Holds, number_of, HoldsText, counted_of, control_of, is_required}
+use Rattle.spec.specs.Answers.{stretch_of, Holds, HoldsText, counted_of, control_of, is_required}
 use Rattle.spec.specs.declared.ids.Stretch.{Stretch}
-use Rattle.spec.specs.declared.ids.Number.TheVariants as number
-use Rattle.spec.specs.declared.ids.Text.TheVariants as text
 use Rattle.spec.specs.declared.ids.ControlRule.{ControlRule}
-use Rattle.spec.specs.declared.ids.Controls.TheVariants as control
 
 pub data Reads {A : Type 0} (C : Codec A) (b : List ℕ) (e at : ℕ) (z v : A) : Type 0 where
   stands : e ≤ length b → Is C b e at v → Reads C b e at z v
@@ -59,24 +55,24 @@ module _ (b : List ℕ) (at : ℕ) where
   count_reads C n h e vs (stands r i) = h ∙ sym (is_list C b e at vs i).counted
   count_reads C n h e vs (past r i) = h ∙ le_past 4 b at r ∙ rw i
 
-  pub number_none : get_or b at 0 ≡ 0 → (e : ℕ) (v : Option ℕ) → Reads (opt_c num_c) b e at none v → number_of number.None ≡ v
-  number_none h e none r = refl
-  number_none h e (some x) (stands r i) = absurd (omega (arith, (is_some num_c b e at x i).0))
-  number_none h e (some x) (past r i) = sym i
+  pub number_none : get_or b at 0 ≡ 0 → (e : ℕ) (v : Option ℕ) → Reads (opt_c num_c) b e at None v → None ≡ v
+  number_none h e None r = refl
+  number_none h e (Some x) (stands r i) = absurd (omega (arith, (is_some num_c b e at x i).0))
+  number_none h e (Some x) (past r i) = sym i
 
-  pub number_is : (n : ℕ) → (get_or b at 0 ≡ 0 → ⊥) → n ≡ le 4 b (at + 1) → (e : ℕ) (v : Option ℕ) → Reads (opt_c num_c) b e at none v → number_of (number.Is n) ≡ v
+  pub number_is : (n : ℕ) → (get_or b at 0 ≡ 0 → ⊥) → n ≡ le 4 b (at + 1) → (e : ℕ) (v : Option ℕ) → Reads (opt_c num_c) b e at None v → (Some n) ≡ v
   number_is n h q e v (past r i) = absurd (h (byte_past b at r))
-  number_is n h q e none (stands r i) = absurd (h (is_none num_c b e at i))
-  number_is n h q e (some x) (stands r i) = ap some (q ∙ sym (is_le 4 b e (at + 1) x (is_some num_c b e at x i).1).1)
+  number_is n h q e None (stands r i) = absurd (h (is_none num_c b e at i))
+  number_is n h q e (Some x) (stands r i) = ap Some (q ∙ sym (is_le 4 b e (at + 1) x (is_some num_c b e at x i).1).1)
 
   pub byte_reads : (n : ℕ) → n ≡ get_or b at 0 → (e v : ℕ) → Is byte_c b e at v → n ≡ v
   unfolding le
   byte_reads n h e v i = let j : v ≡ le 1 b at = (is_le 1 b e at v i).1 in omega arith
 
-  pub byte_none : get_or b at 0 ≡ 0 → (e : ℕ) (v : Option ℕ) → Reads (opt_c byte_c) b e at none v → number_of number.None ≡ v
-  byte_none h e none r = refl
-  byte_none h e (some x) (stands r i) = absurd (omega (arith, (is_some byte_c b e at x i).0))
-  byte_none h e (some x) (past r i) = sym i
+  pub byte_none : get_or b at 0 ≡ 0 → (e : ℕ) (v : Option ℕ) → Reads (opt_c byte_c) b e at None v → None ≡ v
+  byte_none h e None r = refl
+  byte_none h e (Some x) (stands r i) = absurd (omega (arith, (is_some byte_c b e at x i).0))
+  byte_none h e (Some x) (past r i) = sym i
 
   -- ---- items of a list of numbers
   pub item_none : (n k : ℕ) → n ≡ le 4 b at → n ≤ k → (e : ℕ) (vs : List ℕ) → Reads (list_c num_c) b e at [] vs → 0 ≡ get_or vs k 0
@@ -111,15 +107,15 @@ module _ (b : List ℕ) (at : ℕ) where
   stretch_is n h q s k l e v (past r i) = absurd (q (h ∙ le_past 4 b at r))
   stretch_is n h q s k l e v (stands r i) = stretch_stands n h s k l e v r (omega arith) i
 
-  pub text_none : get_or b at 0 ≡ 0 → (e : ℕ) (v : Option (List ℕ)) → Reads (opt_c bytes_c) b e at none v → HoldsText b text.None v
-  text_none h e none r = record { bytes = refl; within = omega arith }
-  text_none h e (some x) (stands r i) = absurd (omega (arith, (is_some bytes_c b e at x i).0))
-  text_none h e (some x) (past r i) = record { bytes = sym i; within = omega arith }
+  pub text_none : get_or b at 0 ≡ 0 → (e : ℕ) (v : Option (List ℕ)) → Reads (opt_c bytes_c) b e at None v → HoldsText b None v
+  text_none h e None r = record { bytes = refl; within = omega arith }
+  text_none h e (Some x) (stands r i) = absurd (omega (arith, (is_some bytes_c b e at x i).0))
+  text_none h e (Some x) (past r i) = record { bytes = sym i; within = omega arith }
 
-  pub text_is : (s : Stretch) → (get_or b at 0 ≡ 0 → ⊥) → ((e : ℕ) (v : List ℕ) → Reads bytes_c b e (at + 1) [] v → Holds b s v) → (e : ℕ) (v : Option (List ℕ)) → Reads (opt_c bytes_c) b e at none v → HoldsText b (text.Is s) v
+  pub text_is : (s : Stretch) → (get_or b at 0 ≡ 0 → ⊥) → ((e : ℕ) (v : List ℕ) → Reads bytes_c b e (at + 1) [] v → Holds b s v) → (e : ℕ) (v : Option (List ℕ)) → Reads (opt_c bytes_c) b e at None v → HoldsText b (Some s) v
   text_is s h q e v (past r i) = absurd (h (byte_past b at r))
-  text_is s h q e none (stands r i) = absurd (h (is_none bytes_c b e at i))
-  text_is s h q e (some x) (stands r i) = let w = q e x (stands r (is_some bytes_c b e at x i).1) in record { bytes = ap some w.bytes; within = w.within }
+  text_is s h q e None (stands r i) = absurd (h (is_none bytes_c b e at i))
+  text_is s h q e (Some x) (stands r i) = let w = q e x (stands r (is_some bytes_c b e at x i).1) in record { bytes = ap Some w.bytes; within = w.within }
 
   -- ---- items of a list of byte strings
   pub string_none : (n k : ℕ) → n ≡ le 4 b at → n ≤ k → (s : Stretch) → s.start ≡ 0 → s.len ≡ 0 → (e : ℕ) (vs : List (List ℕ)) → Reads (list_c bytes_c) b e at [] vs → Holds b s (get_or vs k [])
@@ -151,35 +147,35 @@ module _ (b : List ℕ) (at : ℕ) where
   usage_reads x h e v (past r i) = rw (i, h.unset (byte_past b at r))
 
   -- ---- how far a repeat row stands behind the one before
-  pub step_none : get_or b at 0 ≡ 0 → (e : ℕ) (v : Option Repeat) → Reads (opt_c repeat_c) b e at none v → 0 ≡ on v (λ (r : Repeat). r.step) 0
-  step_none h e none r = refl
-  step_none h e (some x) (stands r i) = absurd (omega (arith, (is_some repeat_c b e at x i).0))
-  step_none h e (some x) (past r i) = absurd (let z : ◌≡◌ {A = ℕ} 0 1 = cc in omega arith)
+  pub step_none : get_or b at 0 ≡ 0 → (e : ℕ) (v : Option Repeat) → Reads (opt_c repeat_c) b e at None v → 0 ≡ on v (λ (r : Repeat). r.step) 0
+  step_none h e None r = refl
+  step_none h e (Some x) (stands r i) = absurd (omega (arith, (is_some repeat_c b e at x i).0))
+  step_none h e (Some x) (past r i) = absurd (let z : ◌≡◌ {A = ℕ} 0 1 = cc in omega arith)
 
-  pub step_is : (n : ℕ) → (get_or b at 0 ≡ 0 → ⊥) → n ≡ le 4 b (at + 5) → (e : ℕ) (v : Option Repeat) → Reads (opt_c repeat_c) b e at none v → n ≡ on v (λ (r : Repeat). r.step) 0
+  pub step_is : (n : ℕ) → (get_or b at 0 ≡ 0 → ⊥) → n ≡ le 4 b (at + 5) → (e : ℕ) (v : Option Repeat) → Reads (opt_c repeat_c) b e at None v → n ≡ on v (λ (r : Repeat). r.step) 0
   step_is n h q e v (past r i) = absurd (h (byte_past b at r))
-  step_is n h q e none (stands r i) = absurd (h (is_none repeat_c b e at i))
-  step_is n h q e (some x) (stands r i) =
+  step_is n h q e None (stands r i) = absurd (h (is_none repeat_c b e at i))
+  step_is n h q e (Some x) (stands r i) =
       let t = is_repeat b e (at + 1) x (is_some repeat_c b e at x i).1 in
       let a : at + 1 + 4 ≤ e = (is_le 4 b e (at + 1) _ t.from).0 in
       let m : at + 5 ≡ skip num_c b (at + 1) e = (omega arith) ∙ sym (skip_le 4 b (at + 1) e a) in
       q ∙ rw m (sym (is_le 4 b e _ _ t.step).1)
 
   -- ---- control rules
-  pub control_none : get_or b at 0 ≡ 0 → (e : ℕ) (v : Option Control) → Reads (opt_c control_c) b e at none v → control_of control.None ≡ v
-  control_none h e none r = refl
-  control_none h e (some x) (stands r i) = absurd (omega (arith, (is_some control_c b e at x i).0))
-  control_none h e (some x) (past r i) = sym i
+  pub control_none : get_or b at 0 ≡ 0 → (e : ℕ) (v : Option Control) → Reads (opt_c control_c) b e at None v → control_of None ≡ v
+  control_none h e None r = refl
+  control_none h e (Some x) (stands r i) = absurd (omega (arith, (is_some control_c b e at x i).0))
+  control_none h e (Some x) (past r i) = sym i
 
   counted_is : (x : Bool) (v : Counted) (e p : ℕ) → ByteSays b p x → Is counted_c b e p v → counted_of x ≡ v
   counted_is x count_segments e p h i = rw (h.unset (counted_tag b e p count_segments i))
   counted_is x count_children e p h i = rw (h.set (λ q. omega (arith, counted_tag b e p count_children i)))
 
   pub control_is : (c : ControlRule) → (get_or b at 0 ≡ 0 → ⊥) → c.opener ≡ le 4 b (at + 1) → c.closer ≡ le 4 b (at + 5) → c.count ≡ le 4 b (at + 9) → ByteSays b (at + 13) c.children
-      → (e : ℕ) (v : Option Control) → Reads (opt_c control_c) b e at none v → control_of (control.Is c) ≡ v
+      → (e : ℕ) (v : Option Control) → Reads (opt_c control_c) b e at None v → control_of (Some c) ≡ v
   control_is c h q₀ q₁ q₂ q₃ e v (past r i) = absurd (h (byte_past b at r))
-  control_is c h q₀ q₁ q₂ q₃ e none (stands r i) = absurd (h (is_none control_c b e at i))
-  control_is c h q₀ q₁ q₂ q₃ e (some x) (stands r i) =
+  control_is c h q₀ q₁ q₂ q₃ e None (stands r i) = absurd (h (is_none control_c b e at i))
+  control_is c h q₀ q₁ q₂ q₃ e (Some x) (stands r i) =
       let t = is_control b e (at + 1) x (is_some control_c b e at x i).1 in
       let a₀ : at + 1 + 4 ≤ e = (is_le 4 b e (at + 1) _ t.opener).0 in
       let m₁ : at + 5 ≡ skip num_c b (at + 1) e = (omega arith) ∙ sym (skip_le 4 b (at + 1) e a₀) in
@@ -194,9 +190,9 @@ module _ (b : List ℕ) (at : ℕ) where
       let e₁ : c.closer ≡ x.closer = q₁ ∙ sym (is_le 4 b e (at + 5) _ t₁).1 in
       let e₂ : c.count ≡ x.count = q₂ ∙ sym (is_le 4 b e (at + 9) _ t₂).1 in
       let e₃ : counted_of c.children ≡ x.counted = counted_is c.children x.counted e (at + 13) q₃ t₃ in
-      ap some (rw (e₀, e₁, e₂, e₃))
+      ap Some (rw (e₀, e₁, e₂, e₃))
 
-pub byte_is : (b : List ℕ) (at n : ℕ) → (get_or b at 0 ≡ 0 → ⊥) → n ≡ get_or b (at + 1) 0 → (e : ℕ) (v : Option ℕ) → Reads (opt_c byte_c) b e at none v → number_of (number.Is n) ≡ v
+pub byte_is : (b : List ℕ) (at n : ℕ) → (get_or b at 0 ≡ 0 → ⊥) → n ≡ get_or b (at + 1) 0 → (e : ℕ) (v : Option ℕ) → Reads (opt_c byte_c) b e at None v → (Some n) ≡ v
 byte_is b at n h q e v (past r i) = absurd (h (byte_past b at r))
-byte_is b at n h q e none (stands r i) = absurd (h (is_none byte_c b e at i))
-byte_is b at n h q e (some x) (stands r i) = ap some (byte_reads b (at + 1) n q e x (is_some byte_c b e at x i).1)
+byte_is b at n h q e None (stands r i) = absurd (h (is_none byte_c b e at i))
+byte_is b at n h q e (Some x) (stands r i) = ap Some (byte_reads b (at + 1) n q e x (is_some byte_c b e at x i).1)

@@ -6,9 +6,12 @@ ghost use Rattle.format.specs.Sections.{plan_start};
 ghost use Rattle.spec.specs.Answers.{HoldsText};
 ghost use Rattle.spec.specs.Cursor.{Entries, ElementSays, is_numeric, first_of};
 
-use crate::ids::{Element, Elements, Text};
+use crate::ids::{Element, Elements, Stretch};
 use crate::read::{spec_end, stretch_at};
 use crate::segments::{element_max, element_min};
+use codec::forms::NumMap;
+use codec::{Form, Section};
+use format::Component;
 
 // From where the elements of a segment stand (`elements_of`).
 pub fn elements(job: &[u8], at: usize) -> Elements
@@ -16,42 +19,31 @@ pub fn elements(job: &[u8], at: usize) -> Elements
     ensures { (xs : SegmentDef) → Is segment_c job.now (plan_start job.now) at xs → Entries job.now result xs }
 {
     let left = codec::num(job, at) as u32;
-    Elements {
-        left: left,
-        at: at + 4,
-    }
+    Elements { left, at: at + 4 }
 }
 
 pub fn numeric_at(b: &[u8], at: usize) -> bool
     ensures { (e : ℕ) (v : Kind) → Is kind_c b.now e at v → result ≡ is_numeric v }
 {
-    let t = codec::byte_at(b, at);
-    if t < 2 {
-        return false;
-    }
-    if t < 3 {
-        return true;
-    }
-    false
+    codec::byte_at(b, at) == 2
 }
 
 // The first code of the element at a place.
-pub fn first_code(b: &[u8], at: usize, end: u32) -> Text
-    requires { end ≤ length b.now }
-    ensures { (d : ElementDef) → Is element_c b.now end at d → HoldsText b.now result (first_of d.codes) }
+pub fn first_code(s: Section, at: usize) -> Option<Stretch>
+    ensures { (d : ElementDef) → Is element_c s.entry.bytes.now s.entry.end at d → HoldsText s.entry.bytes.now result (first_of d.codes) }
 {
-    let kind = format::kind_at(b, at, end);
-    let min = codec::opt_num_at(b, kind, end);
-    let max = codec::opt_num_at(b, min, end);
-    let codes = format::components_at(b, max, end);
-    if (end as usize) < codes {
-        return Text::None;
+    let kind = format::Kind::ends_at(s, at);
+    let min = s.opt_num_at(kind);
+    let max = s.opt_num_at(min);
+    let codes = NumMap::<Component>::ends_at(s, max);
+    if (s.end as usize) < codes {
+        return None;
     }
-    let n = codec::num(b, codes);
+    let n = codec::num(s.bytes, codes);
     if n == 0 {
-        return Text::None;
+        return None;
     }
-    Text::Is(stretch_at(b, codes + 4))
+    Some(stretch_at(s.bytes, codes + 4))
 }
 
 // The element where the cursor is.
@@ -60,19 +52,22 @@ pub fn element(job: &[u8], c: Elements) -> Element
     ensures { (x : ℕ × ElementDef) (xs : SegmentDef) → Entries job.now c (x ∷ xs) → ElementSays job.now result x }
 {
     let at = c.at;
-    let end = spec_end(job);
-    let number = codec::count_at(job, at, end) as u32;
-    let value = codec::le_at(job, 4, at, end);
+    let s = Section {
+        bytes: job,
+        end: spec_end(job),
+    };
+    let number = s.count_at(at) as u32;
+    let value = s.le_at(4, at);
     let numeric = numeric_at(job, value);
-    let min = element_min(job, value, end);
-    let max = element_max(job, value, end);
-    let code = first_code(job, value, end);
+    let min = element_min(s, value);
+    let max = element_max(s, value);
+    let code = first_code(s, value);
     Element {
-        number: number,
-        numeric: numeric,
-        min: min,
-        max: max,
-        code: code,
+        number,
+        numeric,
+        min,
+        max,
+        code,
     }
 }
 
@@ -83,9 +78,12 @@ pub fn next_element(job: &[u8], c: Elements) -> Elements
 {
     let at = c.at;
     let left = c.left;
-    let end = spec_end(job);
-    let value = codec::le_at(job, 4, at, end);
-    let next = format::element_at(job, value, end);
+    let s = Section {
+        bytes: job,
+        end: spec_end(job),
+    };
+    let value = s.le_at(4, at);
+    let next = format::Element::ends_at(s, value);
     Elements {
         left: left - 1,
         at: next,

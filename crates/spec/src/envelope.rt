@@ -1,10 +1,10 @@
-// The envelope of a job.
+// The envelope of a job. Fifteen readers and not one over the field's number: each promises a field of its own, in the type of that field.
 ghost use Rattle.std.specs.Prelude.{◌≡◌};
 ghost use Rattle.format.specs.Sections.{job_of};
 ghost use Rattle.spec.specs.Answers.{Holds, HoldsByte, HoldsText};
 ghost use Rattle.spec.specs.EnvelopeIndex.{EnvelopeIndexed};
 
-use crate::ids::{Number, Stretch, Text};
+use crate::ids::Stretch;
 use crate::read::{byte_number_at, flag_at, stretch_at, text_at};
 
 pub fn sender_qualifier(job: &[u8], index: &[u16]) -> Stretch
@@ -39,7 +39,7 @@ pub fn receiver_id(job: &[u8], index: &[u16]) -> Stretch
     stretch_at(job, p)
 }
 
-pub fn application_sender(job: &[u8], index: &[u16]) -> Text
+pub fn application_sender(job: &[u8], index: &[u16]) -> Option<Stretch>
     requires { EnvelopeIndexed job.now index.now }
     ensures { HoldsText job.now result (job_of job.now).envelope.application_sender }
 {
@@ -47,7 +47,7 @@ pub fn application_sender(job: &[u8], index: &[u16]) -> Text
     text_at(job, p)
 }
 
-pub fn application_receiver(job: &[u8], index: &[u16]) -> Text
+pub fn application_receiver(job: &[u8], index: &[u16]) -> Option<Stretch>
     requires { EnvelopeIndexed job.now index.now }
     ensures { HoldsText job.now result (job_of job.now).envelope.application_receiver }
 {
@@ -113,7 +113,7 @@ pub fn segment_terminator(job: &[u8], index: &[u16]) -> u8
     codec::byte_at(job, p) as u8
 }
 
-pub fn repetition(job: &[u8], index: &[u16]) -> Number
+pub fn repetition(job: &[u8], index: &[u16]) -> Option<u32>
     requires { EnvelopeIndexed job.now index.now }
     ensures { HoldsByte result (job_of job.now).envelope.repetition }
 {

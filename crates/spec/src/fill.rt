@@ -15,6 +15,9 @@ ghost use Rattle.spec.specs.Kept.{Kept};
 ghost use Rattle.spec.specs.Rows.{loop_row, table_row, loop_rows, table_rows, entry_rows};
 
 use crate::read::spec_end;
+use codec::forms::{Bytes, Items, Le, NumMap, Opt};
+use codec::{Form, Section};
+use format::{Control, Element, Repeat};
 
 pub fn put6(
     index: &mut [u16],
@@ -34,81 +37,72 @@ pub fn put6(
 }
 
 // Stores where the parts of a loop stand.
-pub fn loop_into(b: &[u8], index: &mut [u16], k: u32, at: usize, end: u32) -> usize
-    requires { (k < 10752) × (end ≤ length b.now) }
-    ensures { (result ≡ skip loop_c b.now at end) × (index.new ≡ stored index.old k (loop_row b.now end at)) }
+pub fn loop_into(s: Section, index: &mut [u16], k: u32, at: usize) -> usize
+    requires { k < 10752 }
+    ensures { (result ≡ skip loop_c s.entry.bytes.now at s.entry.end) × (index.new ≡ stored index.old k (loop_row s.entry.bytes.now s.entry.end at)) }
 {
-    let trigger = codec::opt_num_at(b, at, end);
-    let occurrences = codec::bytes_at(b, trigger, end);
-    let usage = codec::strings_at(b, occurrences, end);
-    let last = codec::case_at(b, 2, usage, end);
-    let control = codec::opt_bytes_at(b, last, end);
-    let children = format::opt_control_at(b, control, end);
+    let trigger = s.opt_num_at(at);
+    let occurrences = s.bytes_at(trigger);
+    let usage = Items::<Bytes>::ends_at(s, occurrences);
+    let last = s.case_at(2, usage);
+    let control = s.opt_bytes_at(last);
+    let children = Opt::<Control>::ends_at(s, control);
     put6(index, k, at, trigger, occurrences, usage, last, control);
     codec::put(index, k as usize + 6, children);
-    codec::les_at(b, 4, children, end)
+    s.les_at(4, children)
 }
 
 // Stores where the parts of a table stand.
-pub fn table_into(b: &[u8], index: &mut [u16], k: u32, at: usize, end: u32) -> usize
-    requires { (k < 10752) × (end ≤ length b.now) }
-    ensures { (result ≡ skip table_c b.now at end) × (index.new ≡ stored index.old k (table_row b.now end at)) }
+pub fn table_into(s: Section, index: &mut [u16], k: u32, at: usize) -> usize
+    requires { k < 10752 }
+    ensures { (result ≡ skip table_c s.entry.bytes.now at s.entry.end) × (index.new ≡ stored index.old k (table_row s.entry.bytes.now s.entry.end at)) }
 {
-    let segment = codec::les_at(b, 4, at, end);
-    let repeat = codec::case_at(b, 2, segment, end);
-    let columns = format::opt_repeat_at(b, repeat, end);
-    let parent = codec::le_at(b, 4, columns, end);
-    let ancestors = codec::opt_num_at(b, parent, end);
+    let segment = s.les_at(4, at);
+    let repeat = s.case_at(2, segment);
+    let columns = Opt::<Repeat>::ends_at(s, repeat);
+    let parent = s.le_at(4, columns);
+    let ancestors = s.opt_num_at(parent);
     put6(index, k, at, segment, repeat, columns, parent, ancestors);
-    codec::les_at(b, 4, ancestors, end)
+    s.les_at(4, ancestors)
 }
 
 // Stores the loops' rows; answers the place behind them.
-pub fn loops_into(b: &[u8], index: &mut [u16], end: u32) -> usize
-    requires { (count_at b.now 0 end ≤ 32) × (end ≤ length b.now) }
-    ensures { (result ≡ skip (list_c loop_c) b.now 0 end) × (index.new ≡ stored index.old 8 (loop_rows b.now end 0)) }
+pub fn loops_into(s: Section, index: &mut [u16]) -> usize
+    requires { count_at s.bytes.now 0 s.end ≤ 32 }
+    ensures { (result ≡ skip (list_c loop_c) s.entry.bytes.now 0 s.entry.end) × (index.new ≡ stored index.old 8 (loop_rows s.entry.bytes.now s.entry.end 0)) }
 {
-    let mut left = codec::count_at(b, 0, end);
-    let mut p = codec::le_at(b, 4, 0, end);
-    let mut k: u32 = 8;
-    while 0 < left {
-        p = loop_into(b, index, k, p, end);
-        k = k + 7;
-        left = left - 1;
+    let n = s.count_at(0);
+    let mut p = s.le_at(4, 0);
+    for i in 0..n {
+        p = loop_into(s, index, 8 + 7 * i as u32, p);
     }
     p
 }
 
 // Stores the tables' rows; answers the place behind them.
-pub fn tables_into(b: &[u8], index: &mut [u16], at: usize, end: u32) -> usize
-    requires { (count_at b.now at end ≤ 16) × (end ≤ length b.now) }
-    ensures { (result ≡ skip (list_c table_c) b.now at end) × (index.new ≡ stored index.old 232 (table_rows b.now end at)) }
+pub fn tables_into(s: Section, index: &mut [u16], at: usize) -> usize
+    requires { count_at s.bytes.now at s.end ≤ 16 }
+    ensures { (result ≡ skip (list_c table_c) s.entry.bytes.now at s.entry.end) × (index.new ≡ stored index.old 232 (table_rows s.entry.bytes.now s.entry.end at)) }
 {
-    let mut left = codec::count_at(b, at, end);
-    let mut p = codec::le_at(b, 4, at, end);
-    let mut k: u32 = 232;
-    while 0 < left {
-        p = table_into(b, index, k, p, end);
-        k = k + 6;
-        left = left - 1;
+    let n = s.count_at(at);
+    let mut p = s.le_at(4, at);
+    for i in 0..n {
+        p = table_into(s, index, 232 + 6 * i as u32, p);
     }
     p
 }
 
 // Stores the places of the segments; answers the place behind them.
-pub fn entries_into(b: &[u8], index: &mut [u16], at: usize, end: u32) -> usize
-    requires { (count_at b.now at end ≤ 6655) × (end ≤ length b.now) }
-    ensures { (result ≡ skip (list_c (bytes_c ⊗ segment_c)) b.now at end) × (index.new ≡ stored index.old 4097 (entry_rows b.now end at)) }
+pub fn entries_into(s: Section, index: &mut [u16], at: usize) -> usize
+    requires { count_at s.bytes.now at s.end ≤ 6655 }
+    ensures { (result ≡ skip (list_c (bytes_c ⊗ segment_c)) s.entry.bytes.now at s.entry.end) × (index.new ≡ stored index.old 4097 (entry_rows s.entry.bytes.now s.entry.end at)) }
 {
-    let mut left = codec::count_at(b, at, end);
-    let mut p = codec::le_at(b, 4, at, end);
-    let mut k: usize = 4097;
-    while 0 < left {
-        codec::put(index, k, p);
-        let value = codec::bytes_at(b, p, end);
-        p = format::elements_at(b, value, end);
-        k = k + 1;
-        left = left - 1;
+    let n = s.count_at(at);
+    let mut p = s.le_at(4, at);
+    for i in 0..n {
+        codec::put(index, 4097 + i, p);
+        let value = s.bytes_at(p);
+        p = NumMap::<Element>::ends_at(s, value);
     }
     p
 }
@@ -126,7 +120,7 @@ pub fn fill_segments(job: &[u8], index: &mut [u16], at: usize, end: u32) -> usiz
     ensures { (result ≡ spec_tables job.now end 0) × (10752 ≤ length index.old → SegmentsIndexed job.now index.new) × Kept 4096 10752 index.old index.new }
 {
     codec::put(index, 4096, at);
-    entries_into(job, index, at, end)
+    entries_into(Section { bytes: job, end }, index, at)
 }
 
 // The regions of the spec and of the segments.
@@ -134,32 +128,34 @@ pub fn fill_spec(job: &[u8], index: &mut [u16])
     requires { Passed job.now }
     ensures { SpecFilled job.now index.old index.new }
 {
-    let end = spec_end(job);
-    let roots = loops_into(job, index, end);
-    let segments = codec::les_at(job, 4, roots, end);
-    let tables = fill_segments(job, index, segments, end);
-    let version = tables_into(job, index, tables, end);
+    let s = Section {
+        bytes: job,
+        end: spec_end(job),
+    };
+    let roots = loops_into(s, index);
+    let segments = s.les_at(4, roots);
+    let tables = fill_segments(job, index, segments, s.end);
+    let version = tables_into(s, index, tables);
     heads_into(index, roots, tables, version);
 }
 
-pub fn envelope_into(b: &[u8], index: &mut [u16], at: usize, end: u32)
-    requires { end ≤ length b.now }
-    ensures { index.new ≡ stored index.old 2560 (envelope_row b.now end at) }
+pub fn envelope_into(s: Section, index: &mut [u16], at: usize)
+    ensures { index.new ≡ stored index.old 2560 (envelope_row s.entry.bytes.now s.entry.end at) }
 {
-    let sender_id = codec::bytes_at(b, at, end);
-    let receiver_qualifier = codec::bytes_at(b, sender_id, end);
-    let receiver_id = codec::bytes_at(b, receiver_qualifier, end);
-    let application_sender = codec::bytes_at(b, receiver_id, end);
-    let application_receiver = codec::opt_bytes_at(b, application_sender, end);
-    let date = codec::opt_bytes_at(b, application_receiver, end);
-    let time = codec::le_at(b, 4, date, end);
-    let usage_indicator = codec::le_at(b, 4, time, end);
-    let control_number = codec::bytes_at(b, usage_indicator, end);
-    let element = codec::le_at(b, 8, control_number, end);
-    let component = codec::le_at(b, 1, element, end);
-    let segment = codec::le_at(b, 1, component, end);
-    let repetition = codec::le_at(b, 1, segment, end);
-    let line_break = format::opt_byte_at(b, repetition, end);
+    let sender_id = s.bytes_at(at);
+    let receiver_qualifier = s.bytes_at(sender_id);
+    let receiver_id = s.bytes_at(receiver_qualifier);
+    let application_sender = s.bytes_at(receiver_id);
+    let application_receiver = s.opt_bytes_at(application_sender);
+    let date = s.opt_bytes_at(application_receiver);
+    let time = s.le_at(4, date);
+    let usage_indicator = s.le_at(4, time);
+    let control_number = s.bytes_at(usage_indicator);
+    let element = s.le_at(8, control_number);
+    let component = s.le_at(1, element);
+    let segment = s.le_at(1, component);
+    let repetition = s.le_at(1, segment);
+    let line_break = Opt::<Le<1>>::ends_at(s, repetition);
     put6(
         index,
         2560,
@@ -192,7 +188,14 @@ pub fn fill_envelope(job: &[u8], index: &mut [u16])
     let t = job.len() - 24;
     let at = codec::num(job, t + 12);
     let end = codec::num(job, t + 16);
-    envelope_into(job, index, at, end as u32);
+    envelope_into(
+        Section {
+            bytes: job,
+            end: end as u32,
+        },
+        index,
+        at,
+    );
 }
 
 // All three regions.

@@ -16,18 +16,6 @@ pub struct Stretch {
     pub len: usize,
 }
 
-#[derive(Clone, Copy)]
-pub enum Number {
-    None,
-    Is(u32),
-}
-
-#[derive(Clone, Copy)]
-pub enum Text {
-    None,
-    Is(Stretch),
-}
-
 // The elements of the control number in opener and closer, that of the count, and whether it counts child loops or segments.
 #[derive(Clone, Copy)]
 pub struct ControlRule {
@@ -35,19 +23,6 @@ pub struct ControlRule {
     pub closer: u32,
     pub count: u32,
     pub children: bool,
-}
-
-#[derive(Clone, Copy)]
-pub enum Controls {
-    None,
-    Is(ControlRule),
-}
-
-// Where something stands in the job.
-#[derive(Clone, Copy)]
-pub enum Place {
-    Nowhere,
-    At(usize),
 }
 
 // The segment and the element of the version, and the value that comes first.
@@ -58,13 +33,8 @@ pub struct VersionRule {
     pub first: Stretch,
 }
 
-#[derive(Clone, Copy)]
-pub enum Version {
-    None,
-    Is(VersionRule),
-}
-
-// What is left of the elements of a segment.
+// What is left of the elements of a segment. No Iterator: it would keep the job beside these two numbers, and say again of its bytes what each
+// caller's `requires` says.
 #[derive(Clone, Copy)]
 pub struct Elements {
     pub left: u32,
@@ -76,7 +46,7 @@ pub struct Elements {
 pub struct Element {
     pub number: u32,
     pub numeric: bool,
-    pub min: Number,
-    pub max: Number,
-    pub code: Text,
+    pub min: Option<u32>,
+    pub max: Option<u32>,
+    pub code: Option<Stretch>,
 }

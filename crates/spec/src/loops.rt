@@ -2,13 +2,14 @@
 ghost use Rattle.std.specs.Prelude.{◌<◌, ◌≡◌, [], get_or, length};
 ghost use Rattle.format.specs.Sections.{job_of};
 ghost use Rattle.format.specs.Ask.{loop_of};
-ghost use Rattle.spec.specs.Answers.{Holds, HoldsText, number_of, control_of, is_required};
+ghost use Rattle.spec.specs.Answers.{Holds, HoldsText, control_of, is_required};
 ghost use Rattle.spec.specs.Index.{SpecIndexed, row_place};
 
-use crate::ids::{Controls, LoopId, Number, Stretch, Text};
+use crate::ids::{ControlRule, LoopId, Stretch};
 use crate::read::{
     control_at, flag_at, item_at, number_at, row_place, spec_end, stretch_at, string_at, text_at,
 };
+use codec::Section;
 
 pub fn loop_count(job: &[u8], index: &[u16]) -> u32
     requires { SpecIndexed job.now index.now }
@@ -41,9 +42,9 @@ pub fn loop_field(job: &[u8], index: &[u16], l: LoopId, f: u32) -> usize
     row_place(job, index, 0, 8, 7, l.0, f)
 }
 
-pub fn loop_parent(job: &[u8], index: &[u16], l: LoopId) -> Number
+pub fn loop_parent(job: &[u8], index: &[u16], l: LoopId) -> Option<u32>
     requires { SpecIndexed job.now index.now }
-    ensures { number_of result ≡ (loop_of (job_of job.now) l.0).parent }
+    ensures { result ≡ (loop_of (job_of job.now) l.0).parent }
 {
     let p = loop_field(job, index, l, 0);
     number_at(job, p)
@@ -76,7 +77,7 @@ pub fn occurrence(job: &[u8], index: &[u16], l: LoopId, k: u32) -> Stretch
         return Stretch { start: 0, len: 0 };
     }
     let e = spec_end(job);
-    let q = string_at(job, p, k, e);
+    let q = string_at(Section { bytes: job, end: e }, p, k);
     stretch_at(job, q)
 }
 
@@ -88,7 +89,7 @@ pub fn required(job: &[u8], index: &[u16], l: LoopId) -> bool
     !flag_at(job, p)
 }
 
-pub fn loop_end(job: &[u8], index: &[u16], l: LoopId) -> Text
+pub fn loop_end(job: &[u8], index: &[u16], l: LoopId) -> Option<Stretch>
     requires { SpecIndexed job.now index.now }
     ensures { HoldsText job.now result (loop_of (job_of job.now) l.0).end }
 {
@@ -96,7 +97,7 @@ pub fn loop_end(job: &[u8], index: &[u16], l: LoopId) -> Text
     text_at(job, p)
 }
 
-pub fn control(job: &[u8], index: &[u16], l: LoopId) -> Controls
+pub fn control(job: &[u8], index: &[u16], l: LoopId) -> Option<ControlRule>
     requires { SpecIndexed job.now index.now }
     ensures { control_of result ≡ (loop_of (job_of job.now) l.0).control }
 {

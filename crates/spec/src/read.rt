@@ -1,27 +1,27 @@
 // Readers by place. Past the job's end every byte reads as 0, so that a place there reads as none, empty, false or 0.
-ghost use Rattle.std.specs.Prelude.{ℕ, ◌+◌, ◌*◌, ◌<◌, ◌≤◌, ◌≡◌, List, [], get_or, length};
-ghost use Rattle.std.proofs.Math.Option.{Option, none};
+ghost use Rattle.std.specs.Prelude.{ℕ, ◌+◌, ◌*◌, ◌<◌, ◌≤◌, ◌≡◌, List, [], get_or, length, Option, None};
 ghost use Rattle.codec.specs.Codec.{list_c};
 ghost use Rattle.codec.specs.Skip.{steps};
 ghost use Rattle.codec.specs.Forms.{num_c, byte_c, bytes_c, opt_c};
 ghost use Rattle.format.specs.Spec.{Control, control_c, Repeat, repeat_c};
 ghost use Rattle.format.specs.Sections.{plan_start};
 ghost use Rattle.format.specs.Ask.{on};
-ghost use Rattle.spec.specs.Answers.{Holds, HoldsByte, HoldsText, number_of, control_of};
+ghost use Rattle.spec.specs.Answers.{Holds, HoldsByte, HoldsText, control_of};
 ghost use Rattle.spec.specs.Reads.{Reads, ByteSays};
 ghost use Rattle.spec.specs.Index.{row_place};
 
-use crate::ids::{ControlRule, Controls, Number, Stretch, Text};
+use crate::ids::{ControlRule, Stretch};
+use codec::Section;
 
-pub fn number_at(b: &[u8], at: usize) -> Number
+pub fn number_at(b: &[u8], at: usize) -> Option<u32>
     requires { at < 4294967296 }
-    ensures { (e : ℕ) (v : Option ℕ) → Reads (opt_c num_c) b.now e at none v → number_of result ≡ v }
+    ensures { (e : ℕ) (v : Option ℕ) → Reads (opt_c num_c) b.now e at None v → result ≡ v }
 {
     let t = codec::byte_at(b, at);
     if t == 0 {
-        return Number::None;
+        return None;
     }
-    Number::Is(codec::num(b, at + 1) as u32)
+    Some(codec::num(b, at + 1) as u32)
 }
 
 // Number k of a list, 0 past its last.
@@ -50,30 +50,26 @@ pub fn stretch_at(b: &[u8], at: usize) -> Stretch
     }
 }
 
-pub fn text_at(b: &[u8], at: usize) -> Text
+pub fn text_at(b: &[u8], at: usize) -> Option<Stretch>
     requires { at < 4294967296 }
-    ensures { (e : ℕ) (v : Option (List ℕ)) → Reads (opt_c bytes_c) b.now e at none v → HoldsText b.now result v }
+    ensures { (e : ℕ) (v : Option (List ℕ)) → Reads (opt_c bytes_c) b.now e at None v → HoldsText b.now result v }
 {
     let t = codec::byte_at(b, at);
     if t == 0 {
-        return Text::None;
+        return None;
     }
-    Text::Is(stretch_at(b, at + 1))
+    Some(stretch_at(b, at + 1))
 }
 
 pub fn flag_at(b: &[u8], at: usize) -> bool
     ensures { ByteSays b.now at result }
 {
-    let t = codec::byte_at(b, at);
-    if t == 0 {
-        return false;
-    }
-    true
+    codec::byte_at(b, at) != 0
 }
 
 pub fn step_at(b: &[u8], at: usize) -> u32
     requires { at < 4294967296 }
-    ensures { (e : ℕ) (v : Option Repeat) → Reads (opt_c repeat_c) b.now e at none v → result ≡ on v (λ (s : Repeat). s.step) 0 }
+    ensures { (e : ℕ) (v : Option Repeat) → Reads (opt_c repeat_c) b.now e at None v → result ≡ on v (λ (s : Repeat). s.step) 0 }
 {
     let t = codec::byte_at(b, at);
     if t == 0 {
@@ -82,36 +78,34 @@ pub fn step_at(b: &[u8], at: usize) -> u32
     codec::num(b, at + 5) as u32
 }
 
-pub fn control_at(b: &[u8], at: usize) -> Controls
+pub fn control_at(b: &[u8], at: usize) -> Option<ControlRule>
     requires { at < 4294967296 }
-    ensures { (e : ℕ) (v : Option Control) → Reads (opt_c control_c) b.now e at none v → control_of result ≡ v }
+    ensures { (e : ℕ) (v : Option Control) → Reads (opt_c control_c) b.now e at None v → control_of result ≡ v }
 {
     let t = codec::byte_at(b, at);
     if t == 0 {
-        return Controls::None;
+        return None;
     }
     let opener = codec::num(b, at + 1) as u32;
     let closer = codec::num(b, at + 5) as u32;
     let count = codec::num(b, at + 9) as u32;
     let children = flag_at(b, at + 13);
-    Controls::Is(ControlRule {
-        opener: opener,
-        closer: closer,
-        count: count,
-        children: children,
+    Some(ControlRule {
+        opener,
+        closer,
+        count,
+        children,
     })
 }
 
 // Where byte string k of a list stands.
-pub fn string_at(b: &[u8], at: usize, k: u32, end: u32) -> usize
-    requires { (at < 4294967296) × (end ≤ length b.now) }
-    ensures { result ≡ steps bytes_c b.now end k (at + 4) }
+pub fn string_at(s: Section, at: usize, k: u32) -> usize
+    requires { at < 4294967296 }
+    ensures { result ≡ steps bytes_c s.entry.bytes.now s.entry.end k (at + 4) }
 {
-    let mut left = k;
     let mut p = at + 4;
-    while 0 < left {
-        p = codec::bytes_at(b, p, end);
-        left = left - 1;
+    for _i in 0..k {
+        p = s.bytes_at(p);
     }
     p
 }
@@ -125,7 +119,8 @@ pub fn spec_end(b: &[u8]) -> u32
     codec::num(b, t + 4) as u32
 }
 
-// The place of field f of row i, past every job where the list has no such row.
+// The place of field f of row i, past every job where the list has no such row. No Option: a place past the job reads as none, empty, false or 0,
+// which is the answer for a row that is not there, so that an Option would make each caller say it again.
 pub fn row_place(b: &[u8], index: &[u16], list: u32, from: u32, width: u8, i: u32, f: u32) -> usize
     ensures { (result ≡ row_place b.now index.now list from width i f) × (result < 4294967296) }
 {
@@ -141,13 +136,13 @@ pub fn row_place(b: &[u8], index: &[u16], list: u32, from: u32, width: u8, i: u3
 }
 
 // A byte that may be absent.
-pub fn byte_number_at(b: &[u8], at: usize) -> Number
+pub fn byte_number_at(b: &[u8], at: usize) -> Option<u32>
     requires { at < 4294967296 }
-    ensures { (e : ℕ) (v : Option ℕ) → Reads (opt_c byte_c) b.now e at none v → HoldsByte result v }
+    ensures { (e : ℕ) (v : Option ℕ) → Reads (opt_c byte_c) b.now e at None v → HoldsByte result v }
 {
     let t = codec::byte_at(b, at);
     if t == 0 {
-        return Number::None;
+        return None;
     }
-    Number::Is(codec::byte_at(b, at + 1) as u32)
+    Some(codec::byte_at(b, at + 1) as u32)
 }

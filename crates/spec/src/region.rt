@@ -6,6 +6,10 @@ ghost use Rattle.spec.specs.Kept.{Kept};
 ghost use Rattle.spec.specs.Parts.{part_c};
 ghost use Rattle.spec.specs.Region.{put_item, Stored};
 
+use codec::forms::{Flag, Items, Opt};
+use codec::{Form, Section};
+use format::{Column, Item, SegmentPlan};
+
 // The lists whose places are stored, by what their items are.
 #[derive(Clone, Copy)]
 pub enum Part {
@@ -18,17 +22,16 @@ pub enum Part {
 }
 
 // The place behind the part that stands at a place.
-pub fn part_at(job: &[u8], part: Part, at: usize, end: u32) -> usize
-    requires { end ≤ length job.now }
-    ensures { result ≡ skip (part_c part) job.now at end }
+pub fn part_at(s: Section, part: Part, at: usize) -> usize
+    ensures { result ≡ skip (part_c part) s.entry.bytes.now at s.entry.end }
 {
     match part {
-        Part::SegmentPlan => format::segment_plan_at(job, at, end),
-        Part::Order => format::items_at(job, at, end),
-        Part::Forced => format::flags_at(job, at, end),
-        Part::Columns => codec::les_at(job, 4, at, end),
-        Part::Depth => codec::opt_num_at(job, at, end),
-        Part::Column => format::opt_column_at(job, at, end),
+        Part::SegmentPlan => SegmentPlan::ends_at(s, at),
+        Part::Order => Items::<Item>::ends_at(s, at),
+        Part::Forced => Items::<Flag>::ends_at(s, at),
+        Part::Columns => s.les_at(4, at),
+        Part::Depth => s.opt_num_at(at),
+        Part::Column => Opt::<Column>::ends_at(s, at),
     }
 }
 
@@ -39,22 +42,19 @@ pub fn put_item(index: &mut [u16], k: usize, i: usize, p: usize)
 {
     if i < 32 {
         codec::put(index, k + 1 + i, p);
-        return;
     }
 }
 
 // Stores the place of a list and those of its items; answers the place behind it.
-pub fn list_into(job: &[u8], index: &mut [u16], part: Part, k: usize, at: usize, end: u32) -> usize
-    requires { (k < 4294967296) × (end ≤ length job.now) }
-    ensures { (result ≡ skip (list_c (part_c part)) job.now at end) × Kept k (k + 33) index.old index.new × Stored (part_c part) job.now end at k index.new }
+pub fn list_into(s: Section, index: &mut [u16], part: Part, k: usize, at: usize) -> usize
+    requires { k < 4294967296 }
+    ensures { (result ≡ skip (list_c (part_c part)) s.entry.bytes.now at s.entry.end) × Kept k (k + 33) index.old index.new × Stored (part_c part) s.entry.bytes.now s.entry.end at k index.new }
 {
-    let n = codec::count_at(job, at, end);
-    let mut p = codec::le_at(job, 4, at, end);
-    let mut i: usize = 0;
-    while i < n {
+    let n = s.count_at(at);
+    let mut p = s.le_at(4, at);
+    for i in 0..n {
         put_item(index, k, i, p);
-        p = part_at(job, part, p, end);
-        i = i + 1;
+        p = part_at(s, part, p);
     }
     codec::put(index, k, at);
     p

@@ -2,10 +2,9 @@
 ghost use Rattle.std.specs.Prelude.{◌<◌, ◌≡◌, get_or, length};
 ghost use Rattle.format.specs.Sections.{job_of};
 ghost use Rattle.format.specs.Ask.{table_of, step_of};
-ghost use Rattle.spec.specs.Answers.{number_of};
 ghost use Rattle.spec.specs.Index.{SpecIndexed, row_place};
 
-use crate::ids::{LoopId, Number, TableId};
+use crate::ids::{LoopId, TableId};
 use crate::read::{flag_at, item_at, number_at, row_place, step_at};
 
 pub fn table_count(job: &[u8], index: &[u16]) -> u32
@@ -64,9 +63,9 @@ pub fn column_count(job: &[u8], index: &[u16], t: TableId) -> u32
     codec::num(job, p) as u32
 }
 
-pub fn table_parent(job: &[u8], index: &[u16], t: TableId) -> Number
+pub fn table_parent(job: &[u8], index: &[u16], t: TableId) -> Option<u32>
     requires { SpecIndexed job.now index.now }
-    ensures { number_of result ≡ (table_of (job_of job.now) t.0).parent }
+    ensures { result ≡ (table_of (job_of job.now) t.0).parent }
 {
     let p = table_field(job, index, t, 4);
     number_at(job, p)

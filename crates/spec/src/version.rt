@@ -1,6 +1,5 @@
 // The version of the spec.
-ghost use Rattle.std.specs.Prelude.{ℕ, ◌<◌};
-ghost use Rattle.std.proofs.Math.Option.{none};
+ghost use Rattle.std.specs.Prelude.{ℕ, ◌<◌, None};
 ghost use Rattle.codec.specs.Forms.{opt_c};
 ghost use Rattle.format.specs.Spec.{version_c};
 ghost use Rattle.format.specs.Sections.{job_of};
@@ -8,29 +7,29 @@ ghost use Rattle.spec.specs.VersionIs.{HoldsVersion, OptVersion};
 ghost use Rattle.spec.specs.Reads.{Reads};
 ghost use Rattle.spec.specs.Index.{SpecIndexed};
 
-use crate::ids::{Version, VersionRule};
+use crate::ids::VersionRule;
 use crate::read::stretch_at;
 
-pub fn version_at(b: &[u8], at: usize) -> Version
+pub fn version_at(b: &[u8], at: usize) -> Option<VersionRule>
     requires { at < 4294967296 }
-    ensures { (e : ℕ) (v : OptVersion) → Reads (opt_c version_c) b.now e at none v → HoldsVersion b.now result v }
+    ensures { (e : ℕ) (v : OptVersion) → Reads (opt_c version_c) b.now e at None v → HoldsVersion b.now result v }
 {
     let t = codec::byte_at(b, at);
     if t == 0 {
-        return Version::None;
+        return None;
     }
     let n = codec::num(b, at + 1);
     let segment = stretch_at(b, at + 1);
     let element = codec::num(b, at + 5 + n) as u32;
     let first = stretch_at(b, at + 9 + n);
-    Version::Is(VersionRule {
-        segment: segment,
-        element: element,
-        first: first,
+    Some(VersionRule {
+        segment,
+        element,
+        first,
     })
 }
 
-pub fn version(job: &[u8], index: &[u16]) -> Version
+pub fn version(job: &[u8], index: &[u16]) -> Option<VersionRule>
     requires { SpecIndexed job.now index.now }
     ensures { HoldsVersion job.now result (job_of job.now).spec.version }
 {

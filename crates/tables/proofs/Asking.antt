@@ -2,15 +2,13 @@
 use Prim.Native.Nat.{ℕ, zero, suc, ◌+◌, ◌*◌, ◌≤◌, ◌<◌}
 use mathlib.Core.Path.{◌≡◌, refl, sym, ap, ◌∙◌}
 use mathlib.Core.List.{List, [], ◌∷◌}
-use mathlib.Core.Option.{Option, none, some}
 use native.Mathlib.Omega.{arith}
+use Rattle.std.specs.Prelude.{Option, None, Some}
 use lib.ListN.{length, get_or, get_or-eq_default}
 use Rattle.codec.specs.Codec.{le}
 use Rattle.codec.specs.Forms.{opt_c}
 use Rattle.codec.specs.Skip.{skip, Is}
 use Rattle.codec.specs.Field.{is_list, is_le, is_in}
-use Rattle.codec.specs.declared.OptNum.{OptNum}
-use Rattle.codec.specs.declared.OptNum.TheVariants.{Num, Nothing}
 use Rattle.format.specs.Data.{Column, column_c, TableData, table_data_c, no_table_data}
 use Rattle.format.specs.Sections.{job_of, trailer}
 use Rattle.format.specs.Refusal.{rows_of_all}
@@ -48,28 +46,28 @@ module _ (b idx : List ℕ) (x : TablesIndexed b idx) where
   refs_there n t p h q i = rw i (x.refs t (omega arith))
 
   -- the columns of a table
-  pub column_there : (t n i p q : ℕ) → t < length (job_of b).tables → p ≡ get_or idx (2674 + t * 33) 0 → n ≡ le 4 b p → i < n → q ≡ get_or idx (2674 + t * 33 + 1 + i) 0 → Is (opt_c column_c) b (trailer b) q (get_or (data_of (job_of b) t).columns i none)
+  pub column_there : (t n i p q : ℕ) → t < length (job_of b).tables → p ≡ get_or idx (2674 + t * 33) 0 → n ≡ le 4 b p → i < n → q ≡ get_or idx (2674 + t * 33 + 1 + i) 0 → Is (opt_c column_c) b (trailer b) q (get_or (data_of (job_of b) t).columns i None)
   column_there t n i p q h j k m o =
       let l = x.columns t h in
       let c : n ≡ length (data_of (job_of b) t).columns = k ∙ rw j (sym (is_list (opt_c column_c) b (trailer b) _ _ l.list).counted) in
       let f = x.few_columns t in
-      rw o (l.item i none (omega arith) (omega arith))
+      rw o (l.item i None (omega arith) (omega arith))
 
-  pub column_past : (t n i p row : ℕ) → t < length (job_of b).tables → p ≡ get_or idx (2674 + t * 33) 0 → n ≡ le 4 b p → n ≤ i → Reads b cell.Null (some (cell_of (data_of (job_of b) t) i row))
+  pub column_past : (t n i p row : ℕ) → t < length (job_of b).tables → p ≡ get_or idx (2674 + t * 33) 0 → n ≡ le 4 b p → n ≤ i → Reads b cell.Null (Some (cell_of (data_of (job_of b) t) i row))
   unfolding cell_at Within
   column_past t n i p row h j k m =
       let l = x.columns t h in
       let c : n ≡ length (data_of (job_of b) t).columns = k ∙ rw j (sym (is_list (opt_c column_c) b (trailer b) _ _ l.list).counted) in
-      record { cell = ap some (sym (past_cell (data_of (job_of b) t) i row (omega arith))); within = search }
+      record { cell = ap Some (sym (past_cell (data_of (job_of b) t) i row (omega arith))); within = search }
 
 -- ---- a table's data at a place
-pub at_num : (b : List ℕ) (r : OptNum) (p : ℕ) (v : TableData) → r ≡ Num p → TableAt b r v → Is table_data_c b (trailer b) p v
+pub at_num : (b : List ℕ) (r : Option ℕ) (p : ℕ) (v : TableData) → r ≡ Some p → TableAt b r v → Is table_data_c b (trailer b) p v
 at_num b r p v e h = rw e at h
 
-pub at_nothing : (b : List ℕ) (r : OptNum) (v : TableData) → r ≡ Nothing → TableAt b r v → v ≡ no_table_data
+pub at_nothing : (b : List ℕ) (r : Option ℕ) (v : TableData) → r ≡ None → TableAt b r v → v ≡ no_table_data
 at_nothing b r v e h = rw e at h
 
-pub num_small : (r : OptNum) (p : ℕ) → r ≡ Num p → place_of r < 4294967296 → p < 4294967296
+pub num_small : (r : Option ℕ) (p : ℕ) → r ≡ Some p → place_of r < 4294967296 → p < 4294967296
 num_small r p e h = rw e at h
 
 module _ (b : List ℕ) (p : ℕ) (v : TableData) (h : Is table_data_c b (trailer b) p v) where
@@ -90,9 +88,9 @@ module _ (b : List ℕ) (p : ℕ) (v : TableData) (h : Is table_data_c b (traile
     segment_in = let i : s ≤ trailer b = is_in _ b (trailer b) s _ segment_there in omega arith
 
 -- ---- a table that is not there
-pub none_cell : (b : List ℕ) (v : TableData) (column row : ℕ) → v ≡ no_table_data → Reads b cell.Null (some (cell_of v column row))
+pub none_cell : (b : List ℕ) (v : TableData) (column row : ℕ) → v ≡ no_table_data → Reads b cell.Null (Some (cell_of v column row))
 unfolding cell_at Within
-none_cell b v column row h = record { cell = rw h (ap some (sym (absent_cell row))); within = search }
+none_cell b v column row h = record { cell = rw h (ap Some (sym (absent_cell row))); within = search }
 
 pub none_segment : (b : List ℕ) (v : TableData) (row : ℕ) → v ≡ no_table_data → Reads b cell.None (segment_cell v row)
 unfolding cell_at Within opt_get
@@ -101,7 +99,7 @@ none_segment b v row h = record { cell = rw h; within = search }
 pub none_key : (v : TableData) (row : ℕ) → v ≡ no_table_data → row ≡ key_of v row
 none_key v row h = rw h (sym (absent_key row))
 
-pub none_reference : (v : TableData) (above row : ℕ) → v ≡ no_table_data → none ≡ reference_of v above row
+pub none_reference : (v : TableData) (above row : ℕ) → v ≡ no_table_data → None ≡ reference_of v above row
 unfolding reference_in ref_column opt_get
 none_reference v above row h = rw h
 

@@ -1,10 +1,9 @@
 -- What is read of the lists of data that the index has places of.
+use Rattle.std.specs.Prelude.{Option, Some, None}
 use Rattle.std.specs.Prelude.{ℕ, zero, suc, ◌+◌, ◌≡◌, List, get_or, take}
 use Rattle.codec.specs.Codec.{le, le_c}
 use Rattle.codec.specs.Forms.{opt_c}
 use Rattle.codec.specs.Skip.{skip, Is}
-use Rattle.codec.specs.declared.OptNum.{OptNum}
-use Rattle.codec.specs.declared.OptNum.TheVariants.{Num, Nothing}
 use Rattle.format.specs.Data.{column_c, TableData, table_data_c, no_table_data}
 use Rattle.format.specs.Sections.{trailer}
 use Rattle.format.specs.Refusal.{rows_of_all}
@@ -27,6 +26,6 @@ rows_by b idx zero = 0
 rows_by b idx (suc t) = rows_by b idx t + le 4 b (get_or idx (2625 + t) 0)
 
 -- the place of a table's data; nothing where there is no such table
-abbrev pub TableAt : List ℕ → OptNum → TableData → Type 0
-TableAt b (Num p) v = Is table_data_c b (trailer b) p v
-TableAt b Nothing v = v ≡ no_table_data
+abbrev pub TableAt : List ℕ → Option ℕ → TableData → Type 0
+TableAt b (Some p) v = Is table_data_c b (trailer b) p v
+TableAt b None v = v ≡ no_table_data

@@ -1,16 +1,14 @@
 // What is asked of a job's data. A table that is not there has no rows and no columns.
-ghost use Rattle.std.specs.Prelude.{◌≡◌, ◌<◌, length};
-ghost use Rattle.std.proofs.Math.Option.{some};
+ghost use Rattle.std.specs.Prelude.{◌≡◌, ◌<◌, length, Some};
 ghost use Rattle.format.specs.Sections.{job_of};
 ghost use Rattle.format.specs.Ask.{data_of};
 ghost use Rattle.column.specs.Cell.{cell_of, segment_cell, key_of, reference_of};
-ghost use Rattle.column.specs.Answers.{Reads, int_is, place_of};
+ghost use Rattle.column.specs.Answers.{Reads, place_of};
 ghost use Rattle.tables.specs.Parts.{TableAt, rows_before};
 ghost use Rattle.tables.specs.Index.{TablesIndexed};
 
-use codec::OptNum;
+use column::Cell;
 use column::data::after_opt;
-use column::{Cell, OptInt};
 use spec::ids::{RowId, TableId};
 
 // How many tables data has.
@@ -22,15 +20,15 @@ pub fn data_count(job: &[u8], index: &[u16]) -> u32
 }
 
 // Where a table stands.
-pub fn table_at(job: &[u8], index: &[u16], t: TableId) -> OptNum
+pub fn table_at(job: &[u8], index: &[u16], t: TableId) -> Option<usize>
     requires { TablesIndexed job.now index.now }
     ensures { TableAt job.now result (data_of (job_of job.now) t.0) × (place_of result < 4294967296) }
 {
     let n = data_count(job, index);
     if n <= t.0 {
-        return OptNum::Nothing;
+        return None;
     }
-    OptNum::Num(codec::place(index, 2625 + t.0 as usize))
+    Some(codec::place(index, 2625 + t.0 as usize))
 }
 
 pub fn row_count(job: &[u8], index: &[u16], t: TableId) -> u32
@@ -39,8 +37,8 @@ pub fn row_count(job: &[u8], index: &[u16], t: TableId) -> u32
 {
     let found = table_at(job, index, t);
     match found {
-        OptNum::Num(p) => codec::num(job, p) as u32,
-        OptNum::Nothing => 0,
+        Some(p) => codec::num(job, p) as u32,
+        None => 0,
     }
 }
 
@@ -59,7 +57,7 @@ pub fn first_row(job: &[u8], index: &[u16], t: TableId) -> u32
 // The cell of a row; no answer reads as null.
 pub fn cell(job: &[u8], index: &[u16], t: TableId, column: u32, row: RowId) -> Cell
     requires { TablesIndexed job.now index.now }
-    ensures { Reads job.now result (some (cell_of (data_of (job_of job.now) t.0) column row.0)) }
+    ensures { Reads job.now result (Some (cell_of (data_of (job_of job.now) t.0) column row.0)) }
 {
     let n = data_count(job, index);
     if n <= t.0 {
@@ -82,8 +80,8 @@ pub fn segment_cell(job: &[u8], index: &[u16], t: TableId, row: RowId) -> Cell
 {
     let found = table_at(job, index, t);
     match found {
-        OptNum::Num(p) => column::data::opt_get(job, after_opt(job, p + 4), row.0),
-        OptNum::Nothing => Cell::None,
+        Some(p) => column::data::opt_get(job, after_opt(job, p + 4), row.0),
+        None => Cell::None,
     }
 }
 
@@ -94,19 +92,19 @@ pub fn key(job: &[u8], index: &[u16], t: TableId, row: RowId) -> u64
 {
     let found = table_at(job, index, t);
     match found {
-        OptNum::Num(p) => column::data::key(job, p + 4, row.0),
-        OptNum::Nothing => row.0 as u64,
+        Some(p) => column::data::key(job, p + 4, row.0),
+        None => row.0 as u64,
     }
 }
 
 // The reference of a row to a table above, by its 64 bits.
-pub fn reference(job: &[u8], index: &[u16], t: TableId, above: u32, row: RowId) -> OptInt
+pub fn reference(job: &[u8], index: &[u16], t: TableId, above: u32, row: RowId) -> Option<u64>
     requires { TablesIndexed job.now index.now }
-    ensures { int_is result ≡ reference_of (data_of (job_of job.now) t.0) above row.0 }
+    ensures { result ≡ reference_of (data_of (job_of job.now) t.0) above row.0 }
 {
     let n = data_count(job, index);
     if n <= t.0 {
-        return OptInt::NoNumber;
+        return None;
     }
     let p = codec::place(index, 3203 + t.0 as usize);
     column::data::reference(job, p, above, row.0)

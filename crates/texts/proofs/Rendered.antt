@@ -1,14 +1,15 @@
 -- The ways of `render`: what each test that the code makes leaves of the definitions.
-use Rattle.std.proofs.Common.{◌≡◌, ℕ, ◌/◌, ◌%◌, ◌<◌, ◌≤◌, Bool, true, false, List, ◌++◌, length, ℤ, sym, refl, ap, ◌∙◌, subst, arith, to_z-of_z, w32, SFits, eq-eqb, ne_eqb}
-use lib.Signed.{mag}
+use Rattle.std.proofs.Common.{◌≡◌, ℕ, ◌/◌, ◌%◌, ◌<◌, ◌≤◌, Bool, true, false, List, ◌++◌, length, ℤ, sym, refl, ap, ◌∙◌, subst, arith, to_z-of_z, w32, SFits, eq-eqb, ne_eqb, Option, Some, None, Ok, Err, Result}
+use Rattle.std.specs.Bool.{then_some}
+use Rattle.std.specs.Option.{ok_or}
+use Rattle.std.specs.Result.{IsErrAnd}
+use Rattle.std.proofs.lemmas.Option.{same_Some}
 use Rattle.texts.specs.declared.Text.{Text}
-use Rattle.texts.specs.declared.parse.Civil.{Civil}
-use Rattle.texts.specs.declared.parse.Civil.TheVariants.{Date, Beyond}
-use Rattle.texts.specs.declared.render.Max.{Max}
-use Rattle.texts.specs.declared.render.Said.{Said}
-use Rattle.texts.specs.Calendar.{Day, day_of, dated, pick_civil, leap, civil_of, civil_from, near}
+use Rattle.texts.specs.declared.parse.Date.{Date}
+use Rattle.texts.specs.declared.render.Refused.{Refused}
+use Rattle.texts.specs.Calendar.{Day, day_of, dated, leap, civil_of, civil_from, near}
 use Rattle.texts.specs.Held.{held, added}
-use Rattle.texts.specs.Reason.{Outcome, gives, refuses, reason_of, Says, shorter}
+use Rattle.texts.specs.Reason.{Width, Outcome, gives, refuses, reason_of, Says, shorter}
 use Rattle.texts.specs.DateText.{two, between, long_date, short_date, date_text, without_century, envelope_date}
 use Rattle.texts.specs.Clock.{hours_minutes, hours_minutes_seconds, clock, time_text, short_clock, envelope_time}
 use Rattle.texts.proofs.Sums.{Back}
@@ -23,11 +24,29 @@ paired t xs n e h = ap (λ (u : Text). added u (two n)) e ∙ added_held xs (two
 pub room : (t : Text) (xs : List ℕ) → t ≡ held xs → length xs ≤ 46 → t.len ≤ 46
 room t xs e h = let q : t.len ≡ length xs = ap (λ (u : Text). u.len) e ∙ held_len xs in omega arith
 
-pub spelt_says : (r : Said) (t : Text) (xs : List ℕ) (o : Outcome) → (r.text ≡ t) × (reason_of r.refused ≡ 0) → t ≡ held xs → o ≡ gives xs → Says r o
-spelt_says r t xs o h e p = subst (λ (q : Outcome). Says r q) (sym p) (record { text = h.0 ∙ e; reason = h.1 })
+pub text_says : (t : Text) (xs : List ℕ) (o : Outcome) → t ≡ held xs → o ≡ gives xs → Says (Ok t) o
+text_says t xs o e p = rw p (record { text = e; reason = refl })
 
-pub says_as : (r : Said) (o p : Outcome) → Says r o → p ≡ o → Says r p
-says_as r o p h e = subst (λ (q : Outcome). Says r q) (sym e) h
+pub why_says : (w : Refused) (o : Outcome) → o ≡ refuses (reason_of w) → Says (Err w) o
+why_says w o p = rw p (record { text = refl; reason = refl })
+
+same_Err : {A E : Type 0} (x y : E) → ◌≡◌ {A = Result A E} (Err x) (Err y) → x ≡ y
+same_Err x y e = cc
+
+-- the error that a `?` hands on where there is nothing
+pub none_says : {A : Type 0} (w : Refused) {r : Result Text Refused} {n : Option A} {x : Refused} {o : Outcome} → IsErrAnd r (λ y. y ≡ x) → Err x ≡ ok_or n w → n ≡ None
+    → o ≡ refuses (reason_of w) → Says r o
+none_says {A} w {r} {n} {x} {o} h e f p = go r h
+  where
+    same : x ≡ w
+    same = same_Err _ _ (rw f at e)
+
+    go : (r : Result Text Refused) → IsErrAnd r (λ y. y ≡ x) → Says r o
+    go (Ok _) g = absurd g
+    go (Err y) g = rw (g, same) (why_says w o p)
+
+pub says_as : {r : Result Text Refused} {o p : Outcome} → Says r o → p ≡ o → Says r p
+says_as {r} h e = subst (λ (q : Outcome). Says r q) (sym e) h
 
 -- a date of a year within its bounds, and of another
 pub long_is : (z : ℤ) (y m d : ℕ) → Inside 1 9999 z y
@@ -55,31 +74,30 @@ pub record Told (d y : ℤ) (m n : ℕ) : Type 0 where
   pub month : m < 100
   pub day : n < 100
 
-not_beyond : (y : ℤ) (m n : ℕ) → ◌≡◌ {A = Civil} Beyond (Date y m n) → ⊥
-not_beyond y m n e = let z : ◌≡◌ {A = ℕ} 0 1 = cc in omega arith
+none_some : {A : Type 0} (x : A) → ◌≡◌ {A = Option A} None (Some x) → ⊥
+none_some x e = cc
 
-pub far : (d : ℤ) → SFits w32 d → civil_from (Back d) ≡ Beyond → near d ≡ false
+pub far : (d : ℤ) → SFits w32 d → civil_from (Back d) ≡ None → near d ≡ false
 unfolding civil_from
 far d f e = go (near d) refl (ap civil_from (sym (to_z-of_z f)) ∙ e)
   where
-    go : (t : Bool) → near d ≡ t → pick_civil t (dated (civil_of d)) Beyond ≡ Beyond → near d ≡ false
+    go : (t : Bool) → near d ≡ t → then_some t (dated (civil_of d)) ≡ None → near d ≡ false
     go false p h = p
-    go true p h = absurd (not_beyond _ _ _ (sym h))
+    go true p h = absurd (none_some _ (sym h))
 
-pub told : (d y : ℤ) (m n : ℕ) → SFits w32 d → mag y < 2147483648 → civil_from (Back d) ≡ Date y m n → Told d (Back y) m n
+pub told : (d : ℤ) (x : Date) → SFits w32 d → civil_from (Back d) ≡ Some x → Told d x.year x.month x.day
 unfolding civil_from
-told d y m n f s e = go (near d) refl (ap civil_from (sym (to_z-of_z f)) ∙ e)
+told d x f e = go (near d) refl (ap civil_from (sym (to_z-of_z f)) ∙ e)
   where
-    go : (t : Bool) → near d ≡ t → pick_civil t (dated (civil_of d)) Beyond ≡ Date y m n → Told d (Back y) m n
-    go false p h = absurd (not_beyond y m n h)
+    go : (t : Bool) → near d ≡ t → then_some t (dated (civil_of d)) ≡ Some x → Told d x.year x.month x.day
+    go false p h = absurd (none_some x h)
     go true p h =
-        let a : (civil_of d).year ≡ y = cc in
-        let b : (civil_of d).month ≡ m = cc in
-        let c : (civil_of d).day ≡ n = cc in
+        let q : dated (civil_of d) ≡ x = same_Some _ _ h in
         let v = civil_valid d in
         let l = month_long (leap (civil_of d).year) (civil_of d).month v.to_december in
-        let f : day_of (civil_of d).year (civil_of d).month (civil_of d).day ≡ day_of y m n = cc in
-        record { in_reach = p; date = f ∙ ap (λ (z : ℤ). day_of z m n) (sym (to_z-of_z {w = w32} {z = y} (record { sfits = s }))); month = omega (arith, v.to_december); day = omega (arith, l.1, v.to_last) }
+        let m : (civil_of d).month ≡ x.month = ap (λ (t : Date). t.month) q in
+        let n : (civil_of d).day ≡ x.day = ap (λ (t : Date). t.day) q in
+        record { in_reach = p; date = ap (λ (t : Date). day_of t.year t.month t.day) q; month = omega (arith, v.to_december); day = omega (arith, l.1, v.to_last) }
 
 -- without its century a long date is a short one, of any year that has four digits
 no_century : (t : Day) → without_century true (long_date t) ≡ short_date 1 9999 1 t
@@ -95,7 +113,7 @@ nothing_less true = refl
 nothing_less false = refl
 
 -- a date by the element's max
-module _ {d y : ℤ} {m n : ℕ} (max : Max) (h : Told d y m n) where
+module _ {d y : ℤ} {m n : ℕ} (max : Width) (h : Told d y m n) where
   pub date_short : shorter max 8 ≡ true → date_text d max ≡ short_date 1950 2049 2 (day_of y m n)
   unfolding date_text
   date_short e = simp (h.in_reach, e) (ap (short_date 1950 2049 2) h.date)
@@ -112,7 +130,7 @@ module _ {d y : ℤ} {m n : ℕ} (max : Max) (h : Told d y m n) where
   unfolding envelope_date date_text
   envelope_long e = simp (h.in_reach, e) (ap long_date h.date)
 
-module _ (d : ℤ) (max : Max) (h : near d ≡ false) where
+module _ (d : ℤ) (max : Width) (h : near d ≡ false) where
   pub date_far : date_text d max ≡ refuses 1
   unfolding date_text
   date_far = simp h
@@ -122,7 +140,7 @@ module _ (d : ℤ) (max : Max) (h : near d ≡ false) where
   envelope_far = simp h (nothing_less (shorter max 8))
 
 -- a time within one day, and outside it
-module _ (z : ℤ) (max : Max) (h : between 0 86399 z ≡ false) where
+module _ (z : ℤ) (max : Width) (h : between 0 86399 z ≡ false) where
   pub time_out : time_text z max ≡ refuses 3
   unfolding time_text
   time_out = simp h
@@ -131,7 +149,7 @@ module _ (z : ℤ) (max : Max) (h : between 0 86399 z ≡ false) where
   unfolding envelope_time
   envelope_out = simp h
 
-module _ {z : ℤ} {n : ℕ} (max : Max) (h : Inside 0 86399 z n) where
+module _ {z : ℤ} {n : ℕ} (max : Width) (h : Inside 0 86399 z n) where
   time_in : time_text z max ≡ clock n max
   unfolding time_text
   time_in = rw h.is (simp (within 0 86399 n h.from h.to))

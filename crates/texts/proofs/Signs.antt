@@ -1,5 +1,6 @@
 -- Laws of signed texts, one for each way through the code.
-use Rattle.std.proofs.Common.{◌≡◌, ℕ, suc, ◌+◌, ◌-◌, ◌*◌, ◌/◌, ◌^◌, ◌<◌, ◌≤◌, true, false, List, ◌++◌, ℤ, pos, negsuc, ap, ◌∙◌, append-nil, div-one, arith}
+use Rattle.std.proofs.Common.{◌≡◌, ℕ, suc, ◌+◌, ◌-◌, ◌*◌, ◌/◌, ◌^◌, ◌<◌, ◌≤◌, true, false, ◌++◌, ℤ, pos, negsuc, nat_abs, refl, ap, ◌∙◌, append-nil, div-one, arith, le-ltb}
+use lib.Signed.{lt_z}
 use Rattle.texts.specs.Wide.{signed128}
 use Rattle.texts.specs.Number.{figures, trimmed, count_text, int_text, fixed_text, decimal_text, minus}
 use Rattle.texts.proofs.Halves.{below_half, from_half}
@@ -10,15 +11,10 @@ pub fixed_whole : (n : ℕ) → fixed_text n 0 ≡ count_text n
 unfolding fixed_text trimmed figures
 fixed_whole n = append-nil (count_text (n / 1)) ∙ ap count_text (div-one n)
 
-pub int_plus : (z : ℤ) (n : ℕ) → pos n ≡ z → count_text n ≡ int_text z
+pub int_is : (z : ℤ) (n : ℕ) → n ≡ nat_abs z → minus (lt_z z (pos 0)) ++ count_text n ≡ int_text z
 unfolding int_text
-int_plus z n e = rw (← e)
-
-pub int_minus : (z : ℤ) (r n : ℕ) → negsuc r ≡ z → n ≡ r + 1 → minus true ++ count_text n ≡ int_text z
-unfolding int_text
-int_minus z r n e h =
-    let s : n ≡ suc r = omega arith in
-    ap (λ (t : List ℕ). minus true ++ t) (ap count_text s) ∙ ap int_text e
+int_is (pos m) n e = let h : 0 ≤ m = omega arith in rw (e, le-ltb m 0 h) refl
+int_is (negsuc m) n e = rw e refl
 
 pub decimal_plus : (lo hi s : ℕ) → lo < 2 ^ 64 → hi < 2 ^ 63 → minus false ++ fixed_text (lo + hi * 2 ^ 64) s ≡ decimal_text (signed128 (lo + hi * 2 ^ 64)) s
 unfolding decimal_text

@@ -1,9 +1,9 @@
 -- The Gregorian calendar, run forwards and backwards over all years, the year 0 and those before it too (ISO 8601), told day by day from
 -- 1970-01-01, which is day 0.
-use Rattle.std.specs.Prelude.{ℕ, zero, suc, ◌+◌, ◌-◌, ◌%◌, ◌≤◌, Bool, true, false, not, [], ◌∷◌, ℤ, pos, negsuc, ◌+ℤ◌, ◌-ℤ◌, ◌==◌, int_le, nat_lt, slice_index, unsigned_abs}
+use Rattle.std.specs.Prelude.{ℕ, zero, suc, ◌+◌, ◌-◌, ◌%◌, ◌≤◌, Bool, true, false, not, [], ◌∷◌, ℤ, pos, negsuc, ◌+ℤ◌, ◌-ℤ◌, ◌==◌, int_le, nat_lt, slice_index, unsigned_abs, Option}
 use Rattle.std.proofs.Math.IntN.{suc_ℤ, pred_ℤ}
-use Rattle.texts.specs.declared.parse.Civil.{Civil}
-use Rattle.texts.specs.declared.parse.Civil.TheVariants.{Date, Beyond}
+use Rattle.std.specs.Bool.{then_some}
+use Rattle.texts.specs.declared.parse.Date.{Date}
 
 pub record Day : Type 0 where
   pub year : ℤ
@@ -94,17 +94,13 @@ day_number t = new_year t.year +ℤ pos (days_before (leap t.year) t.month + (t.
 unfoldable pub from_march : ℕ → Day
 from_march e = civil_of (pos e -ℤ pos 719468)
 
-abbrev pub pick_civil : Bool → Civil → Civil → Civil
-pick_civil true a b = a
-pick_civil false a b = b
-
-abbrev pub dated : Day → Civil
-dated t = Date t.year t.month t.day
+abbrev pub dated : Day → Date
+dated t = record { year = t.year; month = t.month; day = t.day }
 
 -- 719,468 days more do not overflow an i32 (document 01, module `render`)
 abbrev pub near : ℤ → Bool
 near d = int_le (d +ℤ pos 719468) (pos 2147483647)
 
--- what is answered of a day: its date, or Beyond
-unfoldable pub civil_from : ℤ → Civil
-civil_from d = pick_civil (near d) (dated (civil_of d)) Beyond
+-- what is answered of a day: its date, or none
+unfoldable pub civil_from : ℤ → Option Date
+civil_from d = then_some (near d) (dated (civil_of d))

@@ -1,9 +1,7 @@
 -- Dates as X12.6 writes them, CCYYMMDD or YYMMDD, with the years and reasons of document 01 (module `render`).
-use Rattle.std.specs.Prelude.{ℕ, ◌+◌, ◌/◌, ◌%◌, Bool, true, false, List, [], ◌∷◌, ◌++◌, drop, ℤ, pos, negsuc, nat_le, unsigned_abs}
-use Rattle.texts.specs.declared.render.Max.{Max}
-use Rattle.texts.specs.declared.render.Max.TheVariants.{Free}
+use Rattle.std.specs.Prelude.{ℕ, ◌+◌, ◌/◌, ◌%◌, Bool, true, false, List, [], ◌∷◌, ◌++◌, drop, ℤ, pos, negsuc, nat_le, unsigned_abs, None}
 use Rattle.texts.specs.Calendar.{Day, and, civil_of, near}
-use Rattle.texts.specs.Reason.{Outcome, gives, refuses, pick, shorter}
+use Rattle.texts.specs.Reason.{Width, Outcome, gives, refuses, pick, shorter}
 
 -- two digits; 48 is the digit 0
 abbrev pub two : ℕ → List ℕ
@@ -28,11 +26,11 @@ short_date low high reason t =
     pick (between low high t.year) (gives (two (unsigned_abs t.year % 100) ++ month_day t)) (refuses reason)
 
 -- a cell's date: six digits where the element holds fewer than eight, of the years that they are read as
-abbrev pub day_text : Day → Max → Outcome
+abbrev pub day_text : Day → Width → Outcome
 day_text t max = pick (shorter max 8) (short_date 1950 2049 2 t) (long_date t)
 
 -- days too far on have none
-unfoldable pub date_text : ℤ → Max → Outcome
+unfoldable pub date_text : ℤ → Width → Outcome
 date_text d max = pick (near d) (day_text (civil_of d) max) (refuses 1)
 
 abbrev pub without_century : Bool → Outcome → Outcome
@@ -40,5 +38,5 @@ without_century true o = record { text = drop 2 o.text; reason = o.reason }
 without_century false o = o
 
 -- an envelope's date, CCYYMMDD in GS and YYMMDD in ISA (X12.5): a short one loses its first two digits whatever the century
-unfoldable pub envelope_date : ℤ → Max → Outcome
-envelope_date d max = without_century (shorter max 8) (date_text d Free)
+unfoldable pub envelope_date : ℤ → Width → Outcome
+envelope_date d max = without_century (shorter max 8) (date_text d None)

@@ -1,7 +1,5 @@
 -- Signed numbers: two's complement, division towards minus infinity, bounds.
-use Rattle.std.specs.Prelude.{ℕ, ◌-◌, ◌/◌, ◌%◌, ◌^◌, Bool, true, false, ℤ, pos, negsuc, nat_le}
-use Rattle.texts.specs.declared.signed.Ranged.{Ranged}
-use Rattle.texts.specs.declared.signed.Ranged.TheVariants.{Is, Out}
+use Rattle.std.specs.Prelude.{ℕ, ◌-◌, ◌/◌, ◌%◌, ◌^◌, Bool, true, false, ℤ, pos, negsuc, nat_le, Option, Some, None}
 use Rattle.texts.specs.Wide.{signed}
 
 -- 32 bits as two's complement
@@ -18,11 +16,11 @@ abbrev pub floor_rem : ℤ → ℕ → ℕ
 floor_rem (pos n) k = n % k
 floor_rem (negsuc n) k = k - 1 - n % k
 
-abbrev pub pick_ranged : Bool → Ranged → Ranged → Ranged
+abbrev pub pick_ranged : Bool → Option ℕ → Option ℕ → Option ℕ
 pick_ranged true a b = a
 pick_ranged false a b = b
 
 -- a number from low to high
-unfoldable pub ranged_of : ℕ → ℕ → ℤ → Ranged
-ranged_of low high (pos n) = pick_ranged (nat_le low n) (pick_ranged (nat_le n high) (Is n) Out) Out
-ranged_of low high (negsuc n) = Out
+unfoldable pub ranged_of : ℕ → ℕ → ℤ → Option ℕ
+ranged_of low high (pos n) = pick_ranged (nat_le low n) (pick_ranged (nat_le n high) (Some n) None) None
+ranged_of low high (negsuc n) = None

@@ -1,10 +1,8 @@
 -- The text of a cell, or why it has none: document 01's reasons 1 to 4 (its module `render`), and what an answer of the code stands for.
-use Rattle.std.specs.Prelude.{◌≡◌, ℕ, Bool, true, false, List, [], nat_lt}
-use Rattle.texts.specs.declared.render.Max.{Max}
-use Rattle.texts.specs.declared.render.Max.TheVariants.{Free, At}
+use Rattle.std.specs.Prelude.{◌≡◌, ℕ, Bool, true, false, List, [], nat_lt, Option, Some, None, Result, Ok, Err}
 use Rattle.texts.specs.declared.render.Refused.{Refused}
-use Rattle.texts.specs.declared.render.Refused.TheVariants.{Nothing, Year, Window, Day, Seconds}
-use Rattle.texts.specs.declared.render.Said.{Said}
+use Rattle.texts.specs.declared.render.Refused.TheVariants.{Year, Window, Day, Seconds}
+use Rattle.texts.specs.declared.Text.{Text}
 use Rattle.texts.specs.Held.{held}
 
 -- a text with the reason 0, or no text with its reason
@@ -23,18 +21,35 @@ pick true a b = a
 pick false a b = b
 
 abbrev pub reason_of : Refused → ℕ
-reason_of Nothing = 0
 reason_of Year = 1
 reason_of Window = 2
 reason_of Day = 3
 reason_of Seconds = 4
 
+-- the text of an answer, empty where it is refused, and the reason of that, or 0
+abbrev pub text_of : Result Text Refused → Text
+text_of (Ok t) = t
+text_of (Err e) = held []
+
+abbrev pub why_of : Result Text Refused → ℕ
+why_of (Ok t) = 0
+why_of (Err e) = reason_of e
+
+-- the same reason alone
+abbrev pub why_in : Option Refused → ℕ
+why_in None = 0
+why_in (Some e) = reason_of e
+
 -- the answer has this text, and this reason
-pub record Says (r : Said) (o : Outcome) : Type 0 where
-  pub text : r.text ≡ held o.text
-  pub reason : reason_of r.refused ≡ o.reason
+pub record Says (r : Result Text Refused) (o : Outcome) : Type 0 where
+  pub text : text_of r ≡ held o.text
+  pub reason : why_of r ≡ o.reason
+
+-- how long an element's text is at least, or at most, where the element says so
+abbrev pub Width : Type 0
+Width = Option ℕ
 
 -- an element's max is below n
-abbrev pub shorter : Max → ℕ → Bool
-shorter Free n = false
-shorter (At m) n = nat_lt m n
+abbrev pub shorter : Width → ℕ → Bool
+shorter None n = false
+shorter (Some m) n = nat_lt m n

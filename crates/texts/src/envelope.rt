@@ -2,15 +2,6 @@
 ghost use Rattle.std.specs.Prelude.{◌≡◌, ℕ, ◌-◌, List, ◌++◌, length, replicate};
 ghost use Rattle.texts.specs.Pad.{padded, zero_padded, is_at};
 
-use crate::render::Max;
-
-// The shortest text that an element takes.
-#[derive(Clone, Copy)]
-pub enum Min {
-    Free,
-    At(usize),
-}
-
 // The zeros to the left of a text and the spaces to its right.
 #[derive(Clone, Copy)]
 pub struct Padding {
@@ -22,24 +13,21 @@ pub struct Padding {
 fn missing(len: usize, width: usize) -> usize
     ensures { result ≡ width - len }
 {
-    if len < width { width - len } else { 0 }
+    width.saturating_sub(len)
 }
 
 // Whether an element's max is `width`.
-fn max_is(max: Max, width: usize) -> bool
+fn max_is(max: Option<usize>, width: usize) -> bool
     ensures { result ≡ is_at max width }
 {
-    match max {
-        Max::At(most) => most == width,
-        Max::Free => false,
-    }
+    matches!(max, Some(most) if most == width)
 }
 
 // A value shorter than its element's minimum is filled up if it is a number, by zeros, or if the element has one width, by spaces.
-pub fn pad(len: usize, numeric: bool, min: Min, max: Max) -> Padding
+pub fn pad(len: usize, numeric: bool, min: Option<usize>, max: Option<usize>) -> Padding
     ensures { (text : List ℕ) → length text ≡ len → replicate result.zeros 48 ++ (text ++ replicate result.spaces 32) ≡ padded numeric min max text }
 {
-    let Min::At(least) = min else {
+    let Some(least) = min else {
         return Padding {
             zeros: 0,
             spaces: 0,
@@ -65,11 +53,11 @@ pub fn pad(len: usize, numeric: bool, min: Min, max: Max) -> Padding
 }
 
 // The zeros to the left of a control number, whatever its element's kind.
-pub fn control_padding(len: usize, min: Min) -> usize
+pub fn control_padding(len: usize, min: Option<usize>) -> usize
     ensures { (text : List ℕ) → length text ≡ len → replicate result 48 ++ text ≡ zero_padded min text }
 {
     match min {
-        Min::At(least) => missing(len, least),
-        Min::Free => 0,
+        Some(least) => missing(len, least),
+        None => 0,
     }
 }

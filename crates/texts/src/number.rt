@@ -5,7 +5,7 @@ ghost use Rattle.texts.specs.Wide.{value, signed64, signed128};
 ghost use Rattle.texts.specs.Number.{size, count_text, int_text, decimal_text, fixed_text, minus};
 ghost use Rattle.texts.specs.Digits.{Tenths, Written, FirstFilled, Shortens, down};
 
-use crate::{Text, signed};
+use crate::Text;
 
 // A 128-bit two's complement number in two halves.
 #[derive(Clone, Copy)]
@@ -34,10 +34,7 @@ fn negated(w: Wide) -> Wide
 pub fn from_bits64(n: u64) -> i64
     ensures { result ≡ signed64 n }
 {
-    if n < 9223372036854775808 {
-        return signed::plain64(n);
-    }
-    signed::minus_one_less64(18446744073709551615 - n)
+    n.cast_signed()
 }
 
 // A number divided by ten, and the digit left, as a byte of text.
@@ -71,10 +68,7 @@ fn tenth(w: Wide) -> Divided
 fn positive(w: Wide) -> bool
     ensures { result ≡ nat_lt 0 (value w) }
 {
-    if w.hi == 0 {
-        return 0 < w.lo;
-    }
-    true
+    0 < w.hi || 0 < w.lo
 }
 
 // The digits of a number as bytes of text, the lowest first, and how many there are; zeros stand behind them.
@@ -90,6 +84,7 @@ fn places_of(w: Wide) -> Places
     let mut bytes = [48u8; 48];
     let mut count: usize = 0;
     let mut rest = w;
+    // No `for`: the digits end the loop, and no count that is known before it.
     while positive(rest) {
         let t = tenth(rest);
         bytes[count] = t.figure;
@@ -104,12 +99,10 @@ fn first_filled(places: [u8; 48], scale: usize) -> usize
     requires { scale ≤ 48 }
     ensures { FirstFilled places scale result }
 {
-    let mut i: usize = 0;
-    while i < scale {
+    for i in 0..scale {
         if places[i] != 48 {
             return i;
         }
-        i += 1;
     }
     scale
 }
@@ -121,9 +114,7 @@ fn with_places(t: Text, places: [u8; 48], low: usize, top: usize) -> Text
 {
     let mut bytes = t.bytes;
     let mut len = t.len;
-    let mut i = top;
-    while low < i {
-        i -= 1;
+    for i in (low..top).rev() {
         bytes[len] = places[i];
         len += 1;
     }
@@ -155,12 +146,6 @@ fn sign_text(negative: bool) -> Text
     Text { bytes, len: 0 }
 }
 
-fn larger(a: usize, b: usize) -> usize
-    ensures { result ≡ max a b }
-{
-    if a < b { b } else { a }
-}
-
 // A number in fixed point by its places: those down to the point, then those below up to the last that is no zero.
 fn placed_text(negative: bool, w: Wide, scale: usize) -> Text
     requires { scale ≤ 38 }
@@ -168,7 +153,7 @@ fn placed_text(negative: bool, w: Wide, scale: usize) -> Text
 {
     let p = places_of(w);
     let places = p.bytes;
-    let top = larger(p.count, scale + 1);
+    let top = p.count.max(scale + 1);
     let low = first_filled(places, scale);
     let whole = with_places(sign_text(negative), places, scale, top);
     if low == scale {
@@ -188,15 +173,16 @@ fn without_zeros(n: u64, scale: usize) -> Shortened
     ensures { Shortens n scale result }
 {
     let mut rest = n;
-    let mut left = scale;
-    while 0 < left {
+    for left in (0..scale).rev() {
         if rest % 10 != 0 {
-            return Shortened { rest, scale: left };
+            return Shortened {
+                rest,
+                scale: left + 1,
+            };
         }
         rest /= 10;
-        left -= 1;
     }
-    Shortened { rest, scale: left }
+    Shortened { rest, scale: 0 }
 }
 
 // How many digits a number is written with.
@@ -208,6 +194,7 @@ fn size_of(n: u64) -> usize
     }
     let mut count: usize = 1;
     let mut power: u64 = 10;
+    // No `for`: a last turn too many would overflow the power.
     while power <= n {
         power *= 10;
         count += 1;
@@ -224,9 +211,7 @@ fn whole_text(negative: bool, n: u64) -> Text
     let mut bytes = t.bytes;
     let len = first + size_of(n);
     let mut rest = n;
-    let mut at = len;
-    while first < at {
-        at -= 1;
+    for at in (first..len).rev() {
         bytes[at] = 48 + (rest % 10) as u8;
         rest /= 10;
     }
@@ -256,17 +241,14 @@ pub fn count_text(value: u64) -> Text
 pub fn int_text(value: i64) -> Text
     ensures { result ≡ held (int_text value) }
 {
-    if value < 0 {
-        return whole_text(true, signed::below_zero64(value) + 1);
-    }
-    count_text(signed::from_zero64(value))
+    whole_text(value < 0, value.unsigned_abs())
 }
 
 // A scale above 38 is taken as 38: a decimal of 128 bits has no more digits behind its first.
 fn scale_of(scale: u8) -> usize
     ensures { result ≡ min scale 38 }
 {
-    if scale < 38 { scale as usize } else { 38 }
+    scale.min(38) as usize
 }
 
 pub fn decimal_text(w: Wide, scale: u8) -> Text

@@ -4,13 +4,11 @@ ghost use Rattle.std.specs.Int.Signed.{mag};
 ghost use Rattle.texts.specs.Floor.{signed32};
 ghost use Rattle.texts.specs.Calendar.{civil_from, day_of, from_march};
 
-use crate::signed;
-
-// A date: its year, month and day. Beyond: a day count that overflows where the calendar's start is added.
 #[derive(Clone, Copy)]
-pub enum Civil {
-    Date(i32, u8, u8),
-    Beyond,
+pub struct Date {
+    pub year: i32,
+    pub month: u8,
+    pub day: u8,
 }
 
 // A day of the 400 years from a first of March: the year of those, the month and the day.
@@ -25,10 +23,7 @@ struct EraDay {
 pub fn from_bits(n: u32) -> i32
     ensures { result ≡ signed32 n }
 {
-    if n < 2147483648 {
-        return signed::plain(n);
-    }
-    signed::minus_one_less(4294967295 - n)
+    n.cast_signed()
 }
 
 // The date e days after the first of March of the year 0.
@@ -59,19 +54,22 @@ fn year_of(era: i32, y: u32) -> i32
     requires { (mag era ≤ 14699) × (y ≤ 400) }
     ensures { result ≡ era *ℤ pos 400 +ℤ pos y }
 {
-    era * 400 + signed::plain(y)
+    era * 400 + y as i32
 }
 
-// The date `days` days after 1970-01-01, which is 719,468 days after the first of March of the year 0.
-pub fn civil_from_days(days: i32) -> Civil
+// The date `days` days after 1970-01-01, which is 719,468 days after the first of March of the year 0; none where that sum overflows.
+pub fn civil_from_days(days: i32) -> Option<Date>
     ensures { result ≡ civil_from days }
 {
     if 2146764179 < days {
-        return Civil::Beyond;
+        return None;
     }
     let shifted = days + 719468;
-    let era = signed::floor_div(shifted, 146097);
-    let e = era_day(signed::floor_rem(shifted, 146097));
-    let year = year_of(era, e.year);
-    Civil::Date(year, e.month, e.day)
+    let era = shifted.div_euclid(146097);
+    let e = era_day(shifted.rem_euclid(146097) as u32);
+    Some(Date {
+        year: year_of(era, e.year),
+        month: e.month,
+        day: e.day,
+    })
 }

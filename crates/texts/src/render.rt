@@ -6,68 +6,34 @@ ghost use Rattle.texts.specs.Reason.{refuses, reason_of, Says, shorter};
 ghost use Rattle.texts.specs.DateText.{two, long_date, short_date, date_text, envelope_date};
 ghost use Rattle.texts.specs.Clock.{time_text, envelope_time};
 
-use crate::parse::Civil;
-use crate::signed::Ranged;
+use crate::parse::Date;
 use crate::{Text, parse, signed};
-
-// The longest text that an element takes.
-#[derive(Clone, Copy)]
-pub enum Max {
-    Free,
-    At(usize),
-}
 
 // Why a value has no text: its year is none of four digits, its year is outside the window of two digits, its time is outside
 // one day, its seconds find no room.
 #[derive(Clone, Copy)]
 pub enum Refused {
-    Nothing,
     Year,
     Window,
     Day,
     Seconds,
 }
 
-// A text, empty where it is refused.
-#[derive(Clone, Copy)]
-pub struct Said {
-    pub text: Text,
-    pub refused: Refused,
-}
-
 // Whether an element takes fewer than n bytes.
-fn is_below(max: Max, n: usize) -> bool
+fn is_below(max: Option<usize>, n: usize) -> bool
     ensures { result ≡ shorter max n }
 {
-    match max {
-        Max::Free => false,
-        Max::At(m) => m < n,
-    }
+    matches!(max, Some(m) if m < n)
 }
 
-fn empty() -> Text
+// No text.
+pub fn empty() -> Text
     ensures { result ≡ held [] }
 {
     Text {
         bytes: [0u8; 48],
         len: 0,
     }
-}
-
-fn spelt(text: Text) -> Said
-    ensures { (result.text ≡ text) × (reason_of result.refused ≡ 0) }
-{
-    Said {
-        text,
-        refused: Refused::Nothing,
-    }
-}
-
-fn refusal(why: Refused) -> Said
-    ensures { Says result (refuses (reason_of why)) }
-{
-    let text = empty();
-    Said { text, refused: why }
 }
 
 // Two more digits.
@@ -105,87 +71,66 @@ fn eight(a: u32, b: u32, c: u32, d: u32) -> Text
 }
 
 // CCYYMMDD.
-fn long_date(year: i32, month: u8, day: u8) -> Said
-    requires { (month < 100) × (day < 100) }
-    ensures { Says result (long_date (day_of year month day)) }
+fn long_date(d: Date) -> Result<Text, Refused>
+    requires { (d.month < 100) × (d.day < 100) }
+    ensures { Says result (long_date (day_of d.year d.month d.day)) }
 {
-    match signed::in_range(year, 1, 9999) {
-        Ranged::Is(y) => spelt(eight(y / 100, y % 100, month as u32, day as u32)),
-        Ranged::Out => refusal(Refused::Year),
-    }
+    let y = signed::in_range(d.year, 1, 9999).ok_or(Refused::Year)?;
+    Ok(eight(y / 100, y % 100, d.month as u32, d.day as u32))
 }
 
 // YYMMDD of the years from low to high, refused for `why` otherwise.
-fn short_date(year: i32, month: u8, day: u8, low: u32, high: u32, why: Refused) -> Said
-    requires { (month < 100) × (day < 100) }
-    ensures { Says result (short_date low high (reason_of why) (day_of year month day)) }
+fn short_date(d: Date, low: u32, high: u32, why: Refused) -> Result<Text, Refused>
+    requires { (d.month < 100) × (d.day < 100) }
+    ensures { Says result (short_date low high (reason_of why) (day_of d.year d.month d.day)) }
 {
-    match signed::in_range(year, low, high) {
-        Ranged::Is(y) => spelt(six(y % 100, month as u32, day as u32)),
-        Ranged::Out => refusal(why),
-    }
+    let y = signed::in_range(d.year, low, high).ok_or(why)?;
+    Ok(six(y % 100, d.month as u32, d.day as u32))
 }
 
 // A cell's date: CCYYMMDD, or YYMMDD of the years 1950 to 2049 where the element holds fewer than eight bytes.
-pub fn date_text(days: i32, max: Max) -> Said
+pub fn date_text(days: i32, max: Option<usize>) -> Result<Text, Refused>
     ensures { Says result (date_text days max) }
 {
-    match parse::civil_from_days(days) {
-        Civil::Date(year, month, day) => {
-            if is_below(max, 8) {
-                short_date(year, month, day, 1950, 2049, Refused::Window)
-            } else {
-                long_date(year, month, day)
-            }
-        }
-        Civil::Beyond => refusal(Refused::Year),
+    let date = parse::civil_from_days(days).ok_or(Refused::Year)?;
+    if is_below(max, 8) {
+        return short_date(date, 1950, 2049, Refused::Window);
     }
+    long_date(date)
 }
 
 // An envelope's date: CCYYMMDD, or YYMMDD of any century.
-pub fn envelope_date(days: i32, max: Max) -> Said
+pub fn envelope_date(days: i32, max: Option<usize>) -> Result<Text, Refused>
     ensures { Says result (envelope_date days max) }
 {
-    match parse::civil_from_days(days) {
-        Civil::Date(year, month, day) => {
-            if is_below(max, 8) {
-                short_date(year, month, day, 1, 9999, Refused::Year)
-            } else {
-                long_date(year, month, day)
-            }
-        }
-        Civil::Beyond => refusal(Refused::Year),
+    let date = parse::civil_from_days(days).ok_or(Refused::Year)?;
+    if is_below(max, 8) {
+        return short_date(date, 1, 9999, Refused::Year);
     }
+    long_date(date)
 }
 
 // A cell's time: HHMM, or HHMMSS where it has seconds and the element holds them.
-pub fn time_text(seconds: i32, max: Max) -> Said
+pub fn time_text(seconds: i32, max: Option<usize>) -> Result<Text, Refused>
     ensures { Says result (time_text seconds max) }
 {
-    let Ranged::Is(n) = signed::in_range(seconds, 0, 86399) else {
-        return refusal(Refused::Day);
-    };
+    let n = signed::in_range(seconds, 0, 86399).ok_or(Refused::Day)?;
     if n % 60 == 0 {
-        return spelt(four(n / 3600, n / 60 % 60));
+        return Ok(four(n / 3600, n / 60 % 60));
     }
     if is_below(max, 6) {
-        return refusal(Refused::Seconds);
+        return Err(Refused::Seconds);
     }
-    spelt(six(n / 3600, n / 60 % 60, n % 60))
+    Ok(six(n / 3600, n / 60 % 60, n % 60))
 }
 
 // An envelope's time: HHMM, or HHMMSS where it has seconds; a short one loses them.
-pub fn envelope_time(seconds: i32, max: Max) -> Said
+pub fn envelope_time(seconds: i32, max: Option<usize>) -> Result<Text, Refused>
     ensures { Says result (envelope_time seconds max) }
 {
-    let Ranged::Is(n) = signed::in_range(seconds, 0, 86399) else {
-        return refusal(Refused::Day);
-    };
-    if n % 60 == 0 {
-        return spelt(four(n / 3600, n / 60 % 60));
+    let n = signed::in_range(seconds, 0, 86399).ok_or(Refused::Day)?;
+    if n % 60 == 0 || is_below(max, 6) {
+        return Ok(four(n / 3600, n / 60 % 60));
     }
-    if is_below(max, 6) {
-        return spelt(four(n / 3600, n / 60 % 60));
-    }
-    spelt(six(n / 3600, n / 60 % 60, n % 60))
+    Ok(six(n / 3600, n / 60 % 60, n % 60))
 }

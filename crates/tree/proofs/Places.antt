@@ -17,11 +17,9 @@ use Rattle.tree.specs.Parts.{Placed}
 
 module _ (b : List ℕ) (e at : ℕ) (ps : List ℕ) (i : ℕ) (d : Placed b e at ps) (h : i + i + 1 < length ps) (k : i < count_at b at e) where
   pub placed_at : get_or ps (i + i) 0 ≡ steps loop_c b e i (skip (le_c 4) b at e)
-  unfolding Placed
   placed_at = (d i h k).0
 
   pub placed_below : get_or ps (i + i + 1) 0 ≡ loop_children b e (steps loop_c b e i (skip (le_c 4) b at e))
-  unfolding Placed
   placed_below = (d i h k).1
 
 -- the last step
@@ -70,9 +68,7 @@ module _ (b : List ℕ) (e at : ℕ) where
           )
 
   pub filling_full : (p k : ℕ) (ps : List ℕ) → Filling b e at p k ps → length ps ≤ k + k + 1 → Placed b e at ps
-  unfolding Placed
   filling_full p k ps d h i l m = d.kept i (omega (arith, l, h)) l
 
   pub filling_done : (p k n : ℕ) (ps : List ℕ) → Filling b e at p k ps → n ≡ count_at b at e → n ≤ k → Placed b e at ps
-  unfolding Placed
   filling_done p k n ps d h j i l m = d.kept i (omega (arith, h, j, m)) l

@@ -2,16 +2,14 @@
 use Prim.Native.Nat.{ℕ, ◌+◌, ◌≤◌, ◌<◌}
 use mathlib.Core.Path.{◌≡◌, refl, sym, ◌∙◌, ap}
 use mathlib.Core.List.{List, [], ◌∷◌}
-use mathlib.Core.Option.{Option, none, some}
 use mathlib.Core.Bool.{Bool, true, false}
 use native.Mathlib.Omega.{arith}
 use lib.ListN.{length, get_or-eq_default}
 use lib.Dec.{leb, eqb}
-use borrow.Author.Tests.{leb-true, leb-false}
 use Rattle.codec.specs.Codec.{pick, le_c, list_c}
 use Rattle.codec.specs.Forms.{opt_c, num_c}
-use Rattle.codec.specs.Skip.{skip, steps, count_at, tag_at, Is, skip_le}
-use Rattle.codec.specs.Field.{ListIs, is_list, is_in, is_some, count_list, is_le}
+use Rattle.codec.specs.Skip.{skip, steps, count_at, tag_at, skip_le}
+use Rattle.codec.specs.Field.{ListIs, is_list, is_in, is_none, is_some, count_list}
 use Rattle.codec.specs.Ways.{tag_in, tag_case}
 use Rattle.codec.specs.Limits.{any_of}
 use Rattle.format.specs.Words.{member_of, repeats}
@@ -20,7 +18,8 @@ use Rattle.format.specs.Layout.{Item, segment_item, loop_item, item_c}
 use Rattle.format.specs.Fields.{loop_children, item_tag, is_loop_item, is_loop}
 use Rattle.format.specs.Refusal.{loop_at, loops_in, outside}
 use Rattle.says.specs.Says.{Says, SaysRest, SaysBefore}
-use Rattle.tree.specs.Parts.{on_loop}
+use Rattle.std.specs.Prelude.{Some, None}
+use Rattle.tree.specs.Parts.{on_loop, held}
 use Rattle.says.proofs.Walk.{number_is, says_at}
 
 pub outside_says : (b : List ℕ) (e at m n : ℕ) → m ≡ count_at b at e → Says num_c b e at (outside n) (leb n m)
@@ -78,30 +77,23 @@ pub below_says : {B : Type 0} (b : List ℕ) (e at n i : ℕ) (g : List ℕ → 
 below_says b e at n i g r h q k p s = loop_says b e at n i (λ (v : Loop). g v.children) r h (steps loop_c b e i (skip (le_c 4) b at e)) k (λ o. refl)
     (λ v l. says_at (list_c num_c) b e q _ g r v.children s (is_loop b e _ v l).children (p (omega (arith, h, k))))
 
--- the number that an option holds
-pub held_number : (b : List ℕ) (e at p m : ℕ) → p ≡ skip (le_c 1) b at e → m ≡ count_at b p e → (o : Option ℕ) → Is (opt_c num_c) b e at o → (x : ℕ) → o ≡ some x → m ≡ x
-held_number b e at p m h i none k x q = absurd (let z : ◌≡◌ {A = ℕ} 0 1 = cc in omega arith)
-held_number b e at p m h i (some y) k x q =
-    let w : y ≡ x = cc in
-    let j = (is_some num_c b e at y k).1 in
-    let l : at + 1 + 4 ≤ e = (is_le 4 b e (at + 1) y j).0 in
-    number_is b e m p (at + 1) y i (h ∙ skip_le 1 b at e (omega arith)) j ∙ w
+-- ---- what an option holds: t is the mark, p the place behind it
+module _ (b : List ℕ) (e at t : ℕ) (h : t ≡ tag_at b at e) where
+  pub held_there : (p m : ℕ) → t ≡ 1 → p ≡ skip (le_c 1) b at e → m ≡ count_at b p e → Says (opt_c num_c) b e at held (Some m)
+  held_there p m i q j None k =
+      let l : at < e = tag_case b at e 1 (sym h ∙ i) (omega arith) in
+      absurd (omega (arith, is_none num_c b e at k, tag_in b at e l))
+  held_there p m i q j (Some x) k =
+      let l : at < e = tag_case b at e 1 (sym h ∙ i) (omega arith) in
+      let z : m ≡ x = number_is b e m p (at + 1) x j (q ∙ skip_le 1 b at e (omega arith)) (is_some num_c b e at x k).1 in
+      rw z
 
-pub parent_held : (b : List ℕ) (e at c p q m : ℕ) → (c < count_at b at e → p ≡ steps loop_c b e c (skip (le_c 4) b at e)) → q ≡ skip (le_c 1) b p e → m ≡ count_at b q e
-    → (ls : List Loop) → Is (list_c loop_c) b e at ls → (x : ℕ) → (loop_at ls c).parent ≡ some x → m ≡ x
-parent_held b e at c p q m h i j ls k x o = go (leb (length ls) c) refl
-  where
-    go : (t : Bool) → leb (length ls) c ≡ t → m ≡ x
-    go true w =
-        let z : loop_at ls c ≡ no_loop = get_or-eq_default ls no_loop {n = c} (leb-true _ _ w) in
-        let y : none ≡ some x = sym (ap (λ (v : Loop). v.parent) z) ∙ o in
-        absurd (let u : ◌≡◌ {A = ℕ} 0 1 = cc in omega arith)
-    go false w =
-        let l : ListIs loop_c b e at ls = is_list loop_c b e at ls k in
-        let g : c < length ls = leb-false _ _ w in
-        let y : p ≡ steps loop_c b e c (at + 4) = h (omega (arith, g, count_list loop_c b e at ls l)) ∙ rw (skip_le 4 b at e l.room) in
-        let u : Is loop_c b e p (loop_at ls c) = rw y (l.item c no_loop g) in
-        held_number b e p q m i j (loop_at ls c).parent (is_loop b e p (loop_at ls c) u).parent x o
+  pub held_not : (t ≡ 1 → ⊥) → Says (opt_c num_c) b e at held None
+  held_not i None k = refl
+  held_not i (Some x) k =
+      let m = is_some num_c b e at x k in
+      let l : at + 1 ≤ e = is_in num_c b e (at + 1) x m.1 in
+      absurd (i (h ∙ tag_in b at e (omega arith) ∙ m.0))
 
 -- ---- numbers that repeat
 abbrev pub again : List ℕ → ℕ → Bool

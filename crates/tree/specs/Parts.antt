@@ -1,5 +1,5 @@
 -- Loops that an order names, places of loops, numbers noted, and loop numbers of the spec that are out of range.
-use Rattle.std.specs.Prelude.{ℕ, ◌+◌, ◌<◌, ◌≡◌, List, [], ◌∷◌, ◌++◌, Bool, false, length, get_or, take}
+use Rattle.std.specs.Prelude.{ℕ, ◌+◌, ◌<◌, ◌≡◌, List, [], ◌∷◌, ◌++◌, Bool, false, length, get_or, take, Option, Some, None}
 use Rattle.codec.specs.Codec.{le_c}
 use Rattle.codec.specs.Limits.{any, any_of}
 use Rattle.codec.specs.Skip.{count_at, skip, steps}
@@ -13,8 +13,13 @@ abbrev pub on_loop : (ℕ → Bool) → Item → Bool
 on_loop f (segment_item k) = false
 on_loop f (loop_item l) = f l
 
+-- what an option of a job holds, as a function answers it
+abbrev pub held : Option ℕ → Option ℕ
+held None = None
+held (Some x) = Some x
+
 -- ps has, pair by pair, the places of the loops that stand at a place and of their children, of the first ones where it is shorter
-unfoldable pub Placed : List ℕ → ℕ → ℕ → List ℕ → Type 0
+abbrev pub Placed : List ℕ → ℕ → ℕ → List ℕ → Type 0
 Placed b e at ps = (i : ℕ) → i + i + 1 < length ps → i < count_at b at e
     → (get_or ps (i + i) 0 ≡ steps loop_c b e i (skip (le_c 4) b at e)) × (get_or ps (i + i + 1) 0 ≡ loop_children b e (steps loop_c b e i (skip (le_c 4) b at e)))
 

@@ -1,8 +1,9 @@
-// Loop numbers of a job: those that are no loop's, a loop by its number, and numbers that repeat. `loops` is the place of the spec's loops.
+// Loop numbers of a job: those that are no loop's, a loop by its number, and numbers that repeat.
 #![tactic(auto)]
 
-ghost use Rattle.std.specs.Prelude.{◌≡◌, List, ◌<◌, ◌≤◌, ℕ, drop, length, take, eqb};
-ghost use Rattle.std.proofs.Math.Option.{some};
+mod loops;
+
+ghost use Rattle.std.specs.Prelude.{◌≡◌, List, ◌<◌, ◌≤◌, ℕ, drop, length, take, eqb, Some};
 ghost use Rattle.codec.specs.Codec.{le_c, list_c};
 ghost use Rattle.codec.specs.Forms.{num_c, opt_c};
 ghost use Rattle.codec.specs.Skip.{count_at, Is, skip, steps};
@@ -12,314 +13,136 @@ ghost use Rattle.format.specs.Spec.{Loop, loop_c, spec_c, table_c};
 ghost use Rattle.format.specs.Layout.{item_c};
 ghost use Rattle.format.specs.Fields.{loop_children, spec_roots, spec_tables};
 ghost use Rattle.format.specs.Refusal.{loop_at, outside, outside_loop, outside_order, outside_table};
-ghost use Rattle.says.specs.Says.{Says, Passes, SaysRest};
+ghost use Rattle.says.specs.Says.{Says, Clears, SaysRest};
 ghost use Rattle.tree.specs.Parts.{on_loop, Placed, Noted, outside_spec};
 
-use says::Told;
+use codec::forms::{Bytes, Items, Le, Opt};
+use codec::{Form, Section};
+use format::{Control, Item, Table};
+pub use loops::Loops;
 
 // ---- numbers that are no loop's, of n loops
 
-fn outside_at(b: &[u8], at: usize, end: u32, n: usize) -> bool
-    requires { end ≤ length b.now }
-    ensures { Says num_c b.now end at (outside n) result }
+fn outside_at(s: Section, at: usize, n: usize) -> bool
+    ensures { Says num_c s.entry.bytes.now s.entry.end at (outside n) result }
 {
-    n <= codec::count_at(b, at, end)
+    n <= s.count_at(at)
 }
 
-fn opt_outside_at(b: &[u8], at: usize, end: u32, n: usize) -> bool
-    requires { end ≤ length b.now }
-    ensures { Says (opt_c num_c) b.now end at (if_some (outside n)) result }
+fn opt_outside_at(s: Section, at: usize, n: usize) -> bool
+    ensures { Says (opt_c num_c) s.entry.bytes.now s.entry.end at (if_some (outside n)) result }
 {
-    if codec::tag_at(b, at, end) == 1 {
-        let p = codec::le_at(b, 1, at, end);
-        return outside_at(b, p, end, n);
-    }
-    false
+    says::lists::opt_at::<Le<4>, _>(s, at, |p| outside_at(s, p, n))
 }
 
-fn outsides_at(b: &[u8], at: usize, end: u32, n: usize) -> bool
-    requires { end ≤ length b.now }
-    ensures { Says (list_c num_c) b.now end at (any_of (outside n)) result }
+fn outsides_at(s: Section, at: usize, n: usize) -> bool
+    ensures { Says (list_c num_c) s.entry.bytes.now s.entry.end at (any_of (outside n)) result }
 {
-    let mut left = codec::count_at(b, at, end);
-    let mut p = codec::le_at(b, 4, at, end);
-    while 0 < left {
-        if outside_at(b, p, end, n) {
-            return true;
-        }
-        p = codec::le_at(b, 4, p, end);
-        left = left - 1;
-    }
-    false
+    says::lists::any_at::<Le<4>, _>(s, at, |p| outside_at(s, p, n))
 }
 
 // Where the children of a loop stand.
-fn children_at(b: &[u8], at: usize, end: u32) -> usize
-    requires { end ≤ length b.now }
-    ensures { result ≡ loop_children b.now end at }
+fn children_at(s: Section, at: usize) -> usize
+    ensures { result ≡ loop_children s.entry.bytes.now s.entry.end at }
 {
-    let parent = codec::opt_num_at(b, at, end);
-    let trigger = codec::bytes_at(b, parent, end);
-    let occurrences = codec::strings_at(b, trigger, end);
-    let usage = codec::case_at(b, 2, occurrences, end);
-    let last = codec::opt_bytes_at(b, usage, end);
-    format::opt_control_at(b, last, end)
+    let parent = s.opt_num_at(at);
+    let trigger = s.bytes_at(parent);
+    let occurrences = Items::<Bytes>::ends_at(s, trigger);
+    let usage = s.case_at(2, occurrences);
+    let last = s.opt_bytes_at(usage);
+    Opt::<Control>::ends_at(s, last)
 }
 
-fn loop_outside(b: &[u8], at: usize, end: u32, n: usize) -> Told
-    requires { end ≤ length b.now }
-    ensures { Passes loop_c b.now end at (outside_loop n) result.found result.next }
+fn loop_outside(s: Section, at: usize, n: usize) -> Option<usize>
+    ensures { Clears loop_c s.entry.bytes.now s.entry.end at (outside_loop n) result }
 {
-    let children = children_at(b, at, end);
-    let x = opt_outside_at(b, at, end, n);
-    let y = outsides_at(b, children, end, n);
-    let found = codec::either(x, y);
-    let next = codec::les_at(b, 4, children, end);
-    Told {
-        found: found,
-        next: next,
+    let children = children_at(s, at);
+    if opt_outside_at(s, at, n) {
+        return None;
     }
-}
-
-fn loops_outside(b: &[u8], at: usize, end: u32, n: usize) -> Told
-    requires { end ≤ length b.now }
-    ensures { Passes (list_c loop_c) b.now end at (any_of (outside_loop n)) result.found result.next }
-{
-    let mut left = codec::count_at(b, at, end);
-    let mut p = codec::le_at(b, 4, at, end);
-    while 0 < left {
-        let t = loop_outside(b, p, end, n);
-        if t.found {
-            return t;
-        }
-        p = t.next;
-        left = left - 1;
+    if outsides_at(s, children, n) {
+        return None;
     }
-    Told {
-        found: false,
-        next: p,
-    }
+    Some(s.les_at(4, children))
 }
 
-fn table_outside(b: &[u8], at: usize, end: u32, n: usize) -> bool
-    requires { end ≤ length b.now }
-    ensures { Says table_c b.now end at (outside_table n) result }
+fn loops_outside(s: Section, at: usize, n: usize) -> Option<usize>
+    ensures { Clears (list_c loop_c) s.entry.bytes.now s.entry.end at (any_of (outside_loop n)) result }
 {
-    outsides_at(b, at, end, n)
+    says::lists::list_clear::<format::Loop, _>(s, at, |p| loop_outside(s, p, n))
 }
 
-fn tables_outside(b: &[u8], at: usize, end: u32, n: usize) -> bool
-    requires { end ≤ length b.now }
-    ensures { Says (list_c table_c) b.now end at (any_of (outside_table n)) result }
+fn table_outside(s: Section, at: usize, n: usize) -> bool
+    ensures { Says table_c s.entry.bytes.now s.entry.end at (outside_table n) result }
 {
-    let mut left = codec::count_at(b, at, end);
-    let mut p = codec::le_at(b, 4, at, end);
-    while 0 < left {
-        if table_outside(b, p, end, n) {
-            return true;
-        }
-        p = format::table_at(b, p, end);
-        left = left - 1;
+    outsides_at(s, at, n)
+}
+
+fn tables_outside(s: Section, at: usize, n: usize) -> bool
+    ensures { Says (list_c table_c) s.entry.bytes.now s.entry.end at (any_of (outside_table n)) result }
+{
+    says::lists::any_at::<Table, _>(s, at, |p| table_outside(s, p, n))
+}
+
+fn item_outside(s: Section, at: usize, n: usize) -> bool
+    ensures { Says item_c s.entry.bytes.now s.entry.end at (on_loop (outside n)) result }
+{
+    if s.tag_at(at) == 1 {
+        let p = s.le_at(1, at);
+        return outside_at(s, p, n);
     }
     false
 }
 
-fn item_outside(b: &[u8], at: usize, end: u32, n: usize) -> bool
-    requires { end ≤ length b.now }
-    ensures { Says item_c b.now end at (on_loop (outside n)) result }
+fn order_outside(s: Section, at: usize, n: usize) -> bool
+    ensures { Says (list_c item_c) s.entry.bytes.now s.entry.end at (outside_order n) result }
 {
-    if codec::tag_at(b, at, end) == 1 {
-        let p = codec::le_at(b, 1, at, end);
-        return outside_at(b, p, end, n);
+    says::lists::any_at::<Item, _>(s, at, |p| item_outside(s, p, n))
+}
+
+pub fn orders_outside(s: Section, at: usize, n: usize) -> bool
+    ensures { Says (list_c (list_c item_c)) s.entry.bytes.now s.entry.end at (any_of (outside_order n)) result }
+{
+    says::lists::any_at::<Items<Item>, _>(s, at, |p| order_outside(s, p, n))
+}
+
+pub fn spec_outside(s: Section, at: usize, roots: usize, tables: usize) -> bool
+    requires { (roots ≡ spec_roots s.bytes.now s.end at) × (tables ≡ spec_tables s.bytes.now s.end at) }
+    ensures { Says spec_c s.entry.bytes.now s.entry.end at outside_spec result }
+{
+    let n = s.count_at(at);
+    if loops_outside(s, at, n).is_none() {
+        return true;
     }
-    false
-}
-
-fn order_outside(b: &[u8], at: usize, end: u32, n: usize) -> bool
-    requires { end ≤ length b.now }
-    ensures { Says (list_c item_c) b.now end at (outside_order n) result }
-{
-    let mut left = codec::count_at(b, at, end);
-    let mut p = codec::le_at(b, 4, at, end);
-    while 0 < left {
-        if item_outside(b, p, end, n) {
-            return true;
-        }
-        p = format::item_at(b, p, end);
-        left = left - 1;
+    if outsides_at(s, roots, n) {
+        return true;
     }
-    false
+    tables_outside(s, tables, n)
 }
 
-pub fn orders_outside(b: &[u8], at: usize, end: u32, n: usize) -> bool
-    requires { end ≤ length b.now }
-    ensures { Says (list_c (list_c item_c)) b.now end at (any_of (outside_order n)) result }
-{
-    let mut left = codec::count_at(b, at, end);
-    let mut p = codec::le_at(b, 4, at, end);
-    while 0 < left {
-        if order_outside(b, p, end, n) {
-            return true;
-        }
-        p = format::items_at(b, p, end);
-        left = left - 1;
-    }
-    false
-}
-
-pub fn spec_outside(b: &[u8], at: usize, end: u32, roots: usize, tables: usize) -> bool
-    requires { (roots ≡ spec_roots b.now end at) × (tables ≡ spec_tables b.now end at) × (end ≤ length b.now) }
-    ensures { Says spec_c b.now end at outside_spec result }
-{
-    let n = codec::count_at(b, at, end);
-    let x = loops_outside(b, at, end, n);
-    let y = outsides_at(b, roots, end, n);
-    let z = tables_outside(b, tables, end, n);
-    codec::either(x.found, codec::either(y, z))
-}
-
-// ---- a loop by its number
-
-fn loop_place(b: &[u8], at: usize, end: u32, i: usize) -> usize
-    requires { end ≤ length b.now }
-    ensures { result ≡ steps loop_c b.now end i (skip (le_c 4) b.now at end) }
-{
-    let mut left = i;
-    let mut p = codec::le_at(b, 4, at, end);
-    while 0 < left {
-        p = format::loop_at(b, p, end);
-        left = left - 1;
-    }
-    p
-}
+// ---- where the loops stand, and a number
 
 // Where the loops and their children stand, as far as there is room.
-pub fn fill_places(b: &[u8], at: usize, end: u32, places: &mut [usize])
-    requires { end ≤ length b.now }
-    ensures { Placed b.now end at places.new }
+pub fn fill_places(s: Section, at: usize, places: &mut [usize])
+    ensures { Placed s.entry.bytes.now s.entry.end at places.new }
 {
-    let n = codec::count_at(b, at, end);
-    let mut p = codec::le_at(b, 4, at, end);
-    let mut k: usize = 0;
-    while k < n {
+    let n = s.count_at(at);
+    let mut p = s.le_at(4, at);
+    for k in 0..n {
         if places.len() <= k + k + 1 {
             return;
         }
-        let children = children_at(b, p, end);
+        let children = children_at(s, p);
         places[k + k] = p;
         places[k + k + 1] = children;
-        p = codec::les_at(b, 4, children, end);
-        k = k + 1;
+        p = s.les_at(4, children);
     }
 }
 
-// Where loop i stands, by the places kept.
-pub fn place_of(b: &[u8], at: usize, end: u32, places: &[usize], i: usize) -> usize
-    requires { Placed b.now end at places.now × (end ≤ length b.now) }
-    ensures { i < count_at b.now at end → result ≡ steps loop_c b.now end i (skip (le_c 4) b.now at end) }
+pub fn same_at(s: Section, at: usize, i: usize) -> bool
+    ensures { Says num_c s.entry.bytes.now s.entry.end at (eqb i) result }
 {
-    if i < 32 {
-        if i + i + 1 < places.len() {
-            return places[i + i];
-        }
-    }
-    loop_place(b, at, end, i)
-}
-
-// Where the children of loop i stand.
-pub fn below(b: &[u8], at: usize, end: u32, places: &[usize], i: usize) -> usize
-    requires { Placed b.now end at places.now × (end ≤ length b.now) }
-    ensures { i < count_at b.now at end → result ≡ loop_children b.now end (steps loop_c b.now end i (skip (le_c 4) b.now at end)) }
-{
-    if i < 32 {
-        if i + i + 1 < places.len() {
-            return places[i + i + 1];
-        }
-    }
-    let p = loop_place(b, at, end, i);
-    children_at(b, p, end)
-}
-
-pub fn same_at(b: &[u8], at: usize, end: u32, i: usize) -> bool
-    requires { end ≤ length b.now }
-    ensures { Says num_c b.now end at (eqb i) result }
-{
-    i == codec::count_at(b, at, end)
-}
-
-fn opt_same_at(b: &[u8], at: usize, end: u32, i: usize) -> bool
-    requires { end ≤ length b.now }
-    ensures { Says (opt_c num_c) b.now end at (if_some (eqb i)) result }
-{
-    if codec::tag_at(b, at, end) == 1 {
-        let p = codec::le_at(b, 1, at, end);
-        return same_at(b, p, end, i);
-    }
-    false
-}
-
-fn member_at(b: &[u8], at: usize, end: u32, i: usize) -> bool
-    requires { end ≤ length b.now }
-    ensures { Says (list_c num_c) b.now end at (member_of i) result }
-{
-    let mut left = codec::count_at(b, at, end);
-    let mut p = codec::le_at(b, 4, at, end);
-    while 0 < left {
-        if same_at(b, p, end, i) {
-            return true;
-        }
-        p = codec::le_at(b, 4, p, end);
-        left = left - 1;
-    }
-    false
-}
-
-// Whether the parent of loop c is i.
-pub fn parent_is(b: &[u8], at: usize, end: u32, places: &[usize], i: usize, c: usize) -> bool
-    requires { Placed b.now end at places.now × (end ≤ length b.now) }
-    ensures { Says (list_c loop_c) b.now end at (λ ls. if_some (eqb i) (loop_at ls c).parent) result }
-{
-    let n = codec::count_at(b, at, end);
-    if n <= c {
-        return false;
-    }
-    let p = place_of(b, at, end, places, c);
-    opt_same_at(b, p, end, i)
-}
-
-pub fn has_parent(b: &[u8], at: usize, end: u32, places: &[usize], c: usize) -> bool
-    requires { Placed b.now end at places.now × (end ≤ length b.now) }
-    ensures { Says (list_c loop_c) b.now end at (λ ls. present (loop_at ls c).parent) result }
-{
-    let n = codec::count_at(b, at, end);
-    if n <= c {
-        return false;
-    }
-    let p = place_of(b, at, end, places, c);
-    codec::tag_at(b, p, end) == 1
-}
-
-// Whether i is a child of loop c.
-pub fn is_child(b: &[u8], at: usize, end: u32, places: &[usize], i: usize, c: usize) -> bool
-    requires { Placed b.now end at places.now × (end ≤ length b.now) }
-    ensures { Says (list_c loop_c) b.now end at (λ ls. member_of i (loop_at ls c).children) result }
-{
-    let n = codec::count_at(b, at, end);
-    if n <= c {
-        return false;
-    }
-    let children = below(b, at, end, places, c);
-    member_at(b, children, end, i)
-}
-
-// The parent of loop c, where it has one.
-pub fn parent_number(b: &[u8], at: usize, end: u32, places: &[usize], c: usize) -> usize
-    requires { Placed b.now end at places.now × (end ≤ length b.now) }
-    ensures { (ls : List Loop) → Is (list_c loop_c) b.now end at ls → (x : ℕ) → (loop_at ls c).parent ≡ some x → result ≡ x }
-{
-    let p = place_of(b, at, end, places, c);
-    let q = codec::le_at(b, 1, p, end);
-    codec::count_at(b, q, end)
+    i == s.count_at(at)
 }
 
 // ---- numbers that repeat
@@ -329,12 +152,10 @@ fn name_behind(names: &[usize], n: usize, i: usize, x: usize) -> bool
     requires { n ≤ length names.now }
     ensures { result ≡ member_of x (drop i (take n names.now)) }
 {
-    let mut j = i;
-    while j < n {
+    for j in i..n {
         if x == names[j] {
             return true;
         }
-        j = j + 1;
     }
     false
 }
@@ -344,87 +165,75 @@ pub fn names_repeat(names: &[usize], n: usize) -> bool
     requires { n ≤ length names.now }
     ensures { result ≡ repeats (take n names.now) }
 {
-    let mut i: usize = 0;
-    while i < n {
+    for i in 0..n {
         if name_behind(names, n, i + 1, names[i]) {
             return true;
         }
-        i = i + 1;
     }
     false
 }
 
 // The first numbers of a list, as far as there is room.
-fn note_numbers(b: &[u8], at: usize, end: u32, names: &mut [usize]) -> usize
-    requires { end ≤ length b.now }
-    ensures { (length names.new ≡ length names.old) × ((result ≤ length names.new) × ((v : List ℕ) → Is (list_c num_c) b.now end at v → Noted v names.new result)) }
+fn note_numbers(s: Section, at: usize, names: &mut [usize]) -> usize
+    ensures { (length names.new ≡ length names.old) × ((result ≤ length names.new) × ((v : List ℕ) → Is (list_c num_c) s.entry.bytes.now s.entry.end at v → Noted v names.new result)) }
 {
-    let mut left = codec::count_at(b, at, end);
-    let mut p = codec::le_at(b, 4, at, end);
-    let mut k: usize = 0;
-    while 0 < left {
+    let n = s.count_at(at);
+    let mut p = s.le_at(4, at);
+    for k in 0..n {
         if names.len() <= k {
             return k;
         }
-        names[k] = codec::count_at(b, p, end);
-        p = codec::le_at(b, 4, p, end);
-        k = k + 1;
-        left = left - 1;
+        names[k] = s.count_at(p);
+        p = s.le_at(4, p);
     }
-    k
+    n
 }
 
-// Whether x is among the left numbers that stand from a place on.
-fn member_behind(b: &[u8], at: usize, end: u32, rest: usize, x: usize) -> bool
-    requires { end ≤ length b.now }
-    ensures { SaysRest num_c b.now end rest at (member_of x) result }
+// Whether x is among the numbers that stand from a place on, of which there are `rest`.
+fn member_behind(s: Section, at: usize, rest: usize, x: usize) -> bool
+    ensures { SaysRest num_c s.entry.bytes.now s.entry.end rest at (member_of x) result }
 {
-    let mut left = rest;
     let mut p = at;
-    while 0 < left {
-        if same_at(b, p, end, x) {
+    for _i in 0..rest {
+        if same_at(s, p, x) {
             return true;
         }
-        p = codec::le_at(b, 4, p, end);
-        left = left - 1;
+        p = s.le_at(4, p);
     }
     false
 }
 
 // Whether a number stands in the list twice, by a search behind each.
-fn numbers_searched(b: &[u8], at: usize, end: u32) -> bool
-    requires { end ≤ length b.now }
-    ensures { Says (list_c num_c) b.now end at repeats result }
+fn numbers_searched(s: Section, at: usize) -> bool
+    ensures { Says (list_c num_c) s.entry.bytes.now s.entry.end at repeats result }
 {
-    let mut left = codec::count_at(b, at, end);
-    let mut p = codec::le_at(b, 4, at, end);
-    while 0 < left {
-        let x = codec::count_at(b, p, end);
-        let q = codec::le_at(b, 4, p, end);
-        if member_behind(b, q, end, left - 1, x) {
+    let n = s.count_at(at);
+    let mut p = s.le_at(4, at);
+    for i in 0..n {
+        let x = s.count_at(p);
+        let q = s.le_at(4, p);
+        if member_behind(s, q, n - i - 1, x) {
             return true;
         }
         p = q;
-        left = left - 1;
     }
     false
 }
 
 // Some number stands in the list twice: numbers below 32 repeat within the first 33. The search is left for other lists.
-pub fn repeats_at(b: &[u8], at: usize, end: u32) -> bool
-    requires { end ≤ length b.now }
-    ensures { Says (list_c num_c) b.now end at repeats result }
+pub fn repeats_at(s: Section, at: usize) -> bool
+    ensures { Says (list_c num_c) s.entry.bytes.now s.entry.end at repeats result }
 {
-    if codec::count_at(b, at, end) < 2 {
+    if s.count_at(at) < 2 {
         return false;
     }
     let mut names = [0usize; 33];
-    let noted = note_numbers(b, at, end, &mut names);
+    let noted = note_numbers(s, at, &mut names);
     if names_repeat(&names, noted) {
         return true;
     }
     if noted < 33 {
         return false;
     }
-    numbers_searched(b, at, end)
+    numbers_searched(s, at)
 }

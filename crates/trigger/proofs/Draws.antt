@@ -1,67 +1,56 @@
 -- The elements of a trigger as code draws them, one law for each way.
-use Prim.Native.Nat.{ℕ, zero, suc, ◌+◌, ◌-◌, ◌≤◌, ◌<◌, max}
-use mathlib.Core.Path.{◌≡◌, refl, sym, ap, ◌∙◌}
+use Prim.Native.Nat.{ℕ, zero, suc, ◌-◌, ◌≤◌, ◌<◌, max}
+use mathlib.Core.Path.{◌≡◌, refl, sym, ◌∙◌}
 use mathlib.Core.Bool.{Bool, true, false, cond}
-use mathlib.Core.List.{List, [], ◌∷◌, ◌++◌, append_assoc, append-nil}
-use mathlib.Core.Option.{Option, none, some}
+use mathlib.Core.List.{List, [], ◌∷◌, ◌++◌, append-nil}
 use native.Mathlib.Omega.{arith}
-use lib.Dec.{eqb, ltb}
-use lib.ListN.{length, get_or, take, replicate, length-append, length-replicate}
-use borrow.Author.Tests.{eq-eqb, ne_eqb, lt-ltb, le-ltb, ltb-false}
-use Rattle.codec.specs.Codec.{pick as codec-pick}
-use Rattle.codec.specs.Maps.{rises_from}
-use Rattle.format.specs.Spec.{Kind, kind_an, kind_id, kind_n, kind_r, kind_dt, kind_tm, Control, ElementDef, SegmentDef}
+use lib.Dec.{ltb}
+use lib.ListN.{length, take, replicate, length-append, length-replicate}
+use borrow.Author.Tests.{eq-eqb, ne_eqb, lt-ltb, le-ltb}
+use Rattle.format.specs.Spec.{Kind, kind_an, kind_id, kind_n, kind_r, kind_dt, kind_tm, Control, ElementDef}
 use Rattle.format.specs.Job.{Job}
-use Rattle.format.specs.Sections.{job_of}
 use Rattle.format.specs.Refusal.{separators}
 use Rattle.format.specs.Ask.{loop_of, min_of, depth_of}
-use Rattle.lent.specs.Fit.{wide, more, stretch, Noted}
-use Rattle.lent.proofs.Laws.{stored_length}
+use Rattle.lent.specs.Fit.{wide, stretch, Noted}
 use Rattle.spec.specs.declared.ids.Element.{Element}
-use Rattle.spec.specs.declared.ids.Elements.{Elements}
-use Rattle.spec.specs.declared.ids.Number.{Number}
-use Rattle.spec.specs.Answers.{stretch_of, number_of}
 use Rattle.spec.specs.Cursor as cursor
 use Rattle.spec.specs.Cursor.{Entries, ElementSays}
-use Rattle.texts.specs.declared.envelope.Min.{Min}
-use Rattle.texts.specs.declared.envelope.Min.TheVariants as Min
-use Rattle.texts.specs.declared.render.Max.{Max}
+use Rattle.std.specs.Prelude.{Some, None, Option}
 use Rattle.texts.specs.Number.{count_text}
+use Rattle.texts.specs.Reason.{Width, why_in}
 use Rattle.texts.specs.Pad.{is_at, padded, zero_padded, space_padded, control_text}
 use Rattle.segment.specs.declared.Separators.{Separators}
 use Rattle.segment.specs.declared.Pen.{Pen}
 use Rattle.segment.specs.declared.Value.{Value}
-use Rattle.segment.specs.Parts.{Part, pick, is_empty, highest, last_element, last_component, here, after, component_text}
-use Rattle.segment.specs.Pen.{value_text, closing}
-use Rattle.segment.specs.Calls.{Group, Row, group, close, stays}
+use Rattle.segment.specs.Parts.{pick, is_empty, highest, last_element, last_component, component_text}
+use Rattle.segment.specs.Pen.{value_text}
+use Rattle.segment.specs.Calls.{Group}
 use Rattle.nest.specs.Lists.{on}
-use Rattle.nest.specs.Finding.{Finding, Origin, field, number_from}
+use Rattle.nest.specs.Finding.{field, number_from}
 use Rattle.emit.specs.declared.findings.Spot.{Spot}
 use Rattle.emit.specs.declared.findings.Delimiters.{Delimiters}
 use Rattle.emit.specs.Table.{held_field}
 use Rattle.emit.specs.Puts as P
 use Rattle.emit.specs.Puts.{Put, and_put, put_all, part_at, place_of, held_in, unwritten, delimited, max_in}
 use Rattle.emit.specs.Written.{spot_of, words_of, tried}
-use Rattle.emit.specs.Envelope.{Given, Sourced, is_numeric, min_in, padded_to, plainly, field_findings, field_at, fielded, version_at, put_sourced, source_at, put_element, control_in}
-use Rattle.emit.proofs.PutLaws.{highest_append}
-use Rattle.emit.proofs.FindingLaws.{stored_findings, none_stored}
+use Rattle.emit.specs.Envelope.{Given, Sourced, is_numeric, min_in, padded_to, plainly, field_findings, put_sourced, source_at, put_element, control_in}
+use Rattle.emit.proofs.FindingLaws.{stored_findings}
 use Rattle.trigger.specs.declared.given.Source.{Source}
-use Rattle.trigger.specs.declared.opener.Frame.{Frame}
 use Rattle.trigger.specs.declared.opener.Drawn.{Drawn}
 use Rattle.trigger.specs.Source.{text_in, Tells, otherwise}
-use Rattle.trigger.specs.Drawn.{Framed, element_put, put_by, Draws, left, nothing, sticks, one, Adds, Known, Opening, Drew}
+use Rattle.trigger.specs.Drawn.{put_by, Draws, left, nothing, sticks, one, Adds}
 
 -- ---- one text
 
 module _ {s : Separators} {pen : Pen} {d : List ℕ} (t : Bool) (p : ℕ) (text : List ℕ) where
-  pub draw_left : t ≡ true → Draws s t (part_at p none text ∷ []) pen d (pick t true (ltb p 1)) pen d
+  pub draw_left : t ≡ true → Draws s t (part_at p None text ∷ []) pen d (pick t true (ltb p 1)) pen d
   draw_left e = rw e left
 
-  pub draw_sticks : t ≡ false → p < 1 → Draws s t (part_at p none text ∷ []) pen d (pick t true (ltb p 1)) pen d
+  pub draw_sticks : t ≡ false → p < 1 → Draws s t (part_at p None text ∷ []) pen d (pick t true (ltb p 1)) pen d
   draw_sticks e h = rw (e, lt-ltb p 1 h) (sticks h)
 
-  pub draw_one : {r : Pen} {d₁ : List ℕ} → t ≡ false → 1 ≤ p → Group s (last_component (part_at p none text ∷ [])) (component_text (part_at p none text ∷ [])) p 1 pen d r d₁
-      → Draws s t (part_at p none text ∷ []) pen d (pick t true (ltb p 1)) r d₁
+  pub draw_one : {r : Pen} {d₁ : List ℕ} → t ≡ false → 1 ≤ p → Group s (last_component (part_at p None text ∷ [])) (component_text (part_at p None text ∷ [])) p 1 pen d r d₁
+      → Draws s t (part_at p None text ∷ []) pen d (pick t true (ltb p 1)) r d₁
   draw_one e h g = rw (e, le-ltb p 1 h) (one h g)
 
   pub draw_none : Draws s t [] pen d t pen d
@@ -72,15 +61,15 @@ module _ {s : Separators} {pen : Pen} {d : List ℕ} (t : Bool) (p : ℕ) (text 
       go false = nothing
 
 module _ (last p : ℕ) (text : List ℕ) where
-  pub reach_empty : is_empty text ≡ true → last ≡ max last (last_element (part_at p none text ∷ []))
+  pub reach_empty : is_empty text ≡ true → last ≡ max last (last_element (part_at p None text ∷ []))
   unfolding highest
   reach_empty e = rw e (omega arith)
 
-  pub reach_up : is_empty text ≡ false → last < p → p ≡ max last (last_element (part_at p none text ∷ []))
+  pub reach_up : is_empty text ≡ false → last < p → p ≡ max last (last_element (part_at p None text ∷ []))
   unfolding highest
   reach_up e h = rw e (omega arith)
 
-  pub reach_same : is_empty text ≡ false → p ≤ last → last ≡ max last (last_element (part_at p none text ∷ []))
+  pub reach_same : is_empty text ≡ false → p ≤ last → last ≡ max last (last_element (part_at p None text ∷ []))
   unfolding highest
   reach_same e h = rw e (omega arith)
 
@@ -91,16 +80,16 @@ reach_none last = omega arith
 -- ---- the findings on a text
 
 pub spot_is : (trigger : List ℕ) (name f p : ℕ) → name ≡ number_from 0 trigger
-    → ◌≡◌ {A = Spot} (record { origin = 1; table = f; row = 0; column = 0; identifier = name; element = p; component = 0 }) (spot_of (field f) (place_of trigger p none))
+    → ◌≡◌ {A = Spot} (record { origin = 1; table = f; row = 0; column = 0; identifier = name; element = p; component = 0 }) (spot_of (field f) (place_of trigger p None))
 spot_is trigger name f p e = rw e
 
 pub field_stored : {d d₁ d₂ : List ℕ} {at n m : ℕ} (j : Job) (trigger text : List ℕ) (f p reason : ℕ) (checked : Bool) (t : Delimiters) → tried t ≡ separators j.envelope → length d ≤ wide
-    → Noted d at (words_of (pick checked (held_in (field f) (place_of trigger p none) text 0 (tried t)) [])) n d₁
-    → Noted d₁ n (words_of (unwritten (field f) (place_of trigger p none) reason)) m d₂
+    → Noted d at (words_of (pick checked (held_in (field f) (place_of trigger p None) text 0 (tried t)) [])) n d₁
+    → Noted d₁ n (words_of (unwritten (field f) (place_of trigger p None) reason)) m d₂
     → Noted d at (words_of (field_findings j trigger p f (record { text = text; reason = reason; checked = checked }) text)) m d₂
 unfolding delimited
 field_stored j trigger text f p reason checked t e h x y =
-    stored_findings (pick checked (held_in (field f) (place_of trigger p none) text 0 (separators j.envelope)) []) (unwritten (field f) (place_of trigger p none) reason) h (rw e at x) y
+    stored_findings (pick checked (held_in (field f) (place_of trigger p None) text 0 (separators j.envelope)) []) (unwritten (field f) (place_of trigger p None) reason) h (rw e at x) y
 
 -- ---- the text of a source
 
@@ -118,7 +107,7 @@ numeric_is (kind_r n) = refl
 numeric_is kind_dt = refl
 numeric_is kind_tm = refl
 
-pub padded_is : {b : List ℕ} {x : Element} (y : ℕ × ElementDef) (reason : ℕ) (text whole : List ℕ) (min : Min) (max : Max) → ElementSays b x y → reason ≤ 0 → min ≡ min_in (number_of x.min) → max ≡ max_in (number_of x.max)
+pub padded_is : {b : List ℕ} {x : Element} (y : ℕ × ElementDef) (reason : ℕ) (text whole : List ℕ) (min : Width) (max : Width) → ElementSays b x y → reason ≤ 0 → min ≡ min_in x.min → max ≡ max_in x.max
     → whole ≡ padded x.numeric min max text → whole ≡ padded_to y.1 reason text
 padded_is y zero text whole min max h k e f q = q ∙ rw (e, f, h.numeric, h.min, h.max, numeric_is y.1.kind)
 padded_is y (suc n) text whole min max h k e f q = absurd (omega arith)
@@ -128,30 +117,30 @@ adds_as e h = rw (← e) h
 
 put_as : (j : Job) (trigger : List ℕ) (p : ℕ) (d : ElementDef) (f : Option ℕ) (g : Given) (text : List ℕ) → text ≡ padded_to d g.reason g.text
     → put_by j trigger p f g.reason g.checked text ≡ put_sourced j trigger p d (record { field = f; given = g })
-put_as j trigger p d none g text e = rw e
-put_as j trigger p d (some f) g text e = rw e
+put_as j trigger p d None g text e = rw e
+put_as j trigger p d (Some f) g text e = rw e
 
-module _ (j : Job) (trigger : List ℕ) (b : List ℕ) (src : Source) (o : Option Sourced) (h : Tells b src o) (n : ℕ) (y : ℕ × ElementDef) (k : n ≡ y.0) where
-  pub source_put_lem : src.there ≡ true → (text : List ℕ) → text ≡ padded_to y.1 src.reason (text_in b src)
-      → put_by j trigger n (held_field src.field) src.reason src.checked text ≡ on o (put_sourced j trigger y.0 y.1) P.nothing
-  source_put_lem e text q =
+module _ (j : Job) (trigger : List ℕ) (b : List ℕ) (o : Option Sourced) (n : ℕ) (y : ℕ × ElementDef) (k : n ≡ y.0) where
+  pub source_put_lem : (src : Source) → Tells b (Some src) o → (text : List ℕ) → text ≡ padded_to y.1 (why_in src.reason) (text_in b src)
+      → put_by j trigger n (held_field src.field) (why_in src.reason) src.checked text ≡ on o (put_sourced j trigger y.0 y.1) P.nothing
+  source_put_lem src h text q =
       let s = h.says in
-      rw (← s, e, k) (put_as j trigger y.0 y.1 (held_field src.field) (record { text = text_in b src; reason = src.reason; checked = src.checked }) text q)
+      rw (← s, k) (put_as j trigger y.0 y.1 (held_field src.field) (record { text = text_in b src; reason = why_in src.reason; checked = src.checked }) text q)
 
-  pub source_none : src.there ≡ false → P.nothing ≡ on o (put_sourced j trigger y.0 y.1) P.nothing
-  source_none e = let s = h.says in rw (← s, e)
+  pub source_none : Tells b None o → P.nothing ≡ on o (put_sourced j trigger y.0 y.1) P.nothing
+  source_none h = let s = h.says in rw (← s)
 
 -- ---- the control number, padded already
 
 enough : (least : ℕ) (t : List ℕ) → least - length (replicate (least - length t) 48 ++ t) ≡ 0
 enough least t = let q = length-append (replicate (least - length t) 48) t in let r = length-replicate {A = ℕ} (least - length t) 48 in omega (arith, q, r)
 
-pad_again : (numeric : Bool) (m : Min) (most : Max) (t : List ℕ) → padded numeric m most (zero_padded m t) ≡ zero_padded m t
+pad_again : (numeric : Bool) (m : Width) (most : Width) (t : List ℕ) → padded numeric m most (zero_padded m t) ≡ zero_padded m t
 unfolding padded zero_padded space_padded
-pad_again true Min.Free most t = refl
-pad_again false Min.Free most t = refl
-pad_again true (Min.At least) most t = rw (enough least t)
-pad_again false (Min.At least) most t = rw (enough least t) (go (is_at most least))
+pad_again true None most t = refl
+pad_again false None most t = refl
+pad_again true (Some least) most t = rw (enough least t)
+pad_again false (Some least) most t = rw (enough least t) (go (is_at most least))
   where
     go : (a : Bool) → cond a ((replicate (least - length t) 48 ++ t) ++ []) (replicate (least - length t) 48 ++ t) ≡ replicate (least - length t) 48 ++ t
     go true = append-nil (replicate (least - length t) 48 ++ t)
@@ -159,12 +148,12 @@ pad_again false (Min.At least) most t = rw (enough least t) (go (is_at most leas
 
 pub control_put : (j : Job) (l number : ℕ) (k : Control) (y : ℕ × ElementDef) (n : ℕ) (text : List ℕ) → n ≡ y.0 → n ≡ k.opener → text ≡ control_in j l k number
     → min_of j (loop_of j l).trigger y.0 ≡ y.1.min
-    → put_by j (loop_of j l).trigger n (some 9) 0 true text ≡ put_element j (loop_of j l).trigger (depth_of j l) k.opener (control_in j l k number) y
+    → put_by j (loop_of j l).trigger n (Some 9) 0 true text ≡ put_element j (loop_of j l).trigger (depth_of j l) k.opener (control_in j l k number) y
 unfolding put_element source_at control_in control_text
 control_put j l number k y n text e f g h =
     let m : min_of j (loop_of j l).trigger k.opener ≡ y.1.min = rw (← f, e) h in
     rw (g, m, e, eq-eqb y.0 k.opener (sym e ∙ f))
-    (put_as j (loop_of j l).trigger y.0 y.1 (some 9) (plainly (zero_padded (min_in y.1.min) (count_text number))) (zero_padded (min_in y.1.min) (count_text number))
+    (put_as j (loop_of j l).trigger y.0 y.1 (Some 9) (plainly (zero_padded (min_in y.1.min) (count_text number))) (zero_padded (min_in y.1.min) (count_text number))
     (sym (pad_again (is_numeric y.1.kind) (min_in y.1.min) (max_in y.1.max) (count_text number))))
 
 pub other_put : (j : Job) (trigger control : List ℕ) (depth opener : ℕ) (y : ℕ × ElementDef) → (y.0 ≡ opener → ⊥)

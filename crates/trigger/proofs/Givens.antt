@@ -3,61 +3,56 @@ use Prim.Native.Nat.{ℕ, zero, suc, ◌+◌, ◌-◌, ◌≤◌, ◌<◌}
 use mathlib.Core.Path.{◌≡◌, refl, sym, ap, ◌∙◌}
 use mathlib.Core.Bool.{Bool, true, false}
 use mathlib.Core.List.{List, [], ◌∷◌, ◌++◌, append-nil}
-use mathlib.Core.Option.{Option, none, some}
 use native.Mathlib.Omega.{arith}
 use native.Mathlib.Decide.{dec_lt}
 use lib.ListN.{length, get_or, take, drop, replicate, length-drop}
 use lib.Seq.{get_or-drop}
 use borrow.Author.Tests.{eq-eqb, ne_eqb, le-leb, lt-leb}
-use Rattle.format.specs.Spec.{ElementDef, Version}
+use Rattle.format.specs.Spec.{ElementDef}
 use Rattle.format.specs.Envelope as E
 use Rattle.format.specs.Job.{Job}
 use Rattle.format.specs.Ask.{same_bytes}
 use Rattle.lent.specs.Fit.{stretch}
 use Rattle.spec.specs.declared.ids.Stretch.{Stretch}
 use Rattle.spec.specs.declared.ids.Element.{Element}
-use Rattle.spec.specs.declared.ids.Text as text
-use Rattle.spec.specs.declared.ids.Text.TheVariants as text_is
 use Rattle.spec.specs.declared.ids.VersionRule.{VersionRule}
-use Rattle.spec.specs.declared.ids.Version as version
-use Rattle.spec.specs.declared.ids.Version.TheVariants as version_is
 use Rattle.spec.specs.Answers.{stretch_of, Holds, HoldsText}
 use Rattle.spec.specs.Cursor.{ElementSays, first_of}
 use Rattle.spec.specs.VersionIs.{HoldsVersion, version_rule}
 use Rattle.spec.specs.Found.{same_at, same_lists, same_lengths, stretch_long, stretch_byte}
 use Rattle.texts.specs.declared.Text.{Text}
-use Rattle.texts.specs.declared.render.Said.{Said}
+use Rattle.std.specs.Prelude as Rust
+use Rattle.std.specs.Prelude.{Some, None, Result, Option}
+use Rattle.std.specs.Result.{result_err}
+use Rattle.texts.specs.declared.render.Refused.{Refused}
 use Rattle.texts.specs.Held.{held}
-use Rattle.texts.specs.Reason.{Outcome, Says, reason_of}
+use Rattle.texts.specs.Reason.{Outcome, Says, text_of, why_in}
 use Rattle.texts.specs.DateText.{envelope_date}
 use Rattle.texts.specs.Clock.{envelope_time}
 use Rattle.texts.specs.Floor.{signed32}
 use Rattle.nest.specs.Lists.{on, first}
-use Rattle.emit.specs.declared.envelope.Held.{Held}
-use Rattle.emit.specs.declared.envelope.Held.TheVariants.{Field, Nothing}
-use Rattle.emit.specs.declared.findings.Repetition.{Repetition}
-use Rattle.emit.specs.declared.findings.Repetition.TheVariants.{Absent, Byte}
 use Rattle.emit.specs.Table.{held_field}
 use Rattle.emit.specs.Puts.{max_in}
 use Rattle.emit.specs.Envelope.{Sourced, plainly, outcome, separator, is_white, unless_last, trim_end, field_given, field_at, fielded, version_at, versioned, unsourced}
-use Rattle.emit.proofs.TextLaws.{held_text}
+use Rattle.emit.proofs.TextLaws.{held_text, why_err}
 use Rattle.emit.specs.Written.{repetition_of}
 use Rattle.trigger.specs.declared.given.Source.{Source}
 use Rattle.trigger.specs.Source.{Tells, otherwise}
 
 -- ---- the forms of a text
 
-pub told_stretch : (job v : List ℕ) (f : Held) (s : Stretch) → Holds job s v
-    → Tells job (record { there = true; field = f; bytes = replicate 48 0; count = 0; start = s.start; len = s.len; reason = 0; checked = true }) (some (record { field = held_field f; given = plainly v }))
+pub told_stretch : (job v : List ℕ) (f : Rust.Option ℕ) (s : Stretch) → Holds job s v
+    → Tells job (Some (record { field = f; bytes = replicate 48 0; count = 0; start = s.start; len = s.len; reason = None; checked = true })) (Some (record { field = held_field f; given = plainly v }))
 unfolding stretch_of
 told_stretch job v f s h = record { says = rw h.bytes; short = omega arith }
 
-pub told_said : (job : List ℕ) (o : Outcome) (f : Held) (said : Said) (reason : ℕ) → length o.text ≤ 48 → Says said o → reason ≡ reason_of said.refused
-    → Tells job (record { there = true; field = f; bytes = said.text.bytes; count = said.text.len; start = 0; len = 0; reason = reason; checked = true }) (some (record { field = held_field f; given = outcome o }))
+pub told_said : (job : List ℕ) (o : Outcome) (f : Rust.Option ℕ) (said : Result Text Refused) (t : Text) (e : Rust.Option Refused) → length o.text ≤ 48 → Says said o → t ≡ text_of said → e ≡ result_err said
+    → Tells job (Some (record { field = f; bytes = t.bytes; count = t.len; start = 0; len = 0; reason = e; checked = true })) (Some (record { field = held_field f; given = outcome o }))
 unfolding held
-told_said job o f said reason h s e =
-    let q : said.text.len ≡ length o.text = ap (λ (t : Text). t.len) s.text in
-    record { says = rw (append-nil (take said.text.len said.text.bytes), held_text said.text o.text s.text, e ∙ s.reason); short = omega arith }
+told_said job o f said t e h s x y =
+    let z : t ≡ held o.text = x ∙ s.text in
+    let q : t.len ≡ length o.text = ap (λ (u : Text). u.len) z in
+    record { says = rw (append-nil (take t.len t.bytes), held_text t o.text z, ap why_in y ∙ why_err said ∙ s.reason); short = omega arith }
 
 -- ---- white space
 
@@ -113,11 +108,11 @@ pub trim_none : (job v : List ℕ) (start n : ℕ) → n ≤ 0 → trim_end v �
 unfolding stretch_of trim_end
 trim_none job v start n h q = let z : n ≡ 0 = omega arith in record { bytes = sym (q ∙ rw z); within = omega arith }
 
-module _ (b : List ℕ) (x : text.Text) (v : Option (List ℕ)) (d : List ℕ) (h : HoldsText b x v) where
-  pub held_is : (s : Stretch) → x ≡ text_is.Is s → Holds b s (on v (λ w. w) d)
+module _ (b : List ℕ) (x : Option Stretch) (v : Option (List ℕ)) (d : List ℕ) (h : HoldsText b x v) where
+  pub held_is : (s : Stretch) → x ≡ Some s → Holds b s (on v (λ w. w) d)
   held_is s q = record { bytes = rw (← h.bytes, q); within = let w = h.within in rw q at w }
 
-  pub held_none : x ≡ text_is.None → d ≡ on v (λ w. w) d
+  pub held_none : x ≡ None → d ≡ on v (λ w. w) d
   held_none q = rw (← h.bytes, q)
 
 pub holds_as : {b v w : List ℕ} {s : Stretch} → v ≡ w → Holds b s v → Holds b s w
@@ -126,64 +121,64 @@ holds_as e h = rw (← e) h
 -- ---- the fields
 
 module _ (e : E.Envelope) (d : ElementDef) (f : ℕ) where
-  pub field_0 : f ≡ 0 → fielded e d f ≡ some (record { field = some f; given = plainly e.sender_qualifier })
+  pub field_0 : f ≡ 0 → fielded e d f ≡ Some (record { field = Some f; given = plainly e.sender_qualifier })
   unfolding field_given
   field_0 q = rw q
 
-  pub field_1 : f ≡ 1 → fielded e d f ≡ some (record { field = some f; given = plainly e.sender_id })
+  pub field_1 : f ≡ 1 → fielded e d f ≡ Some (record { field = Some f; given = plainly e.sender_id })
   unfolding field_given
   field_1 q = rw q
 
-  pub field_2 : f ≡ 2 → fielded e d f ≡ some (record { field = some f; given = plainly e.receiver_qualifier })
+  pub field_2 : f ≡ 2 → fielded e d f ≡ Some (record { field = Some f; given = plainly e.receiver_qualifier })
   unfolding field_given
   field_2 q = rw q
 
-  pub field_3 : f ≡ 3 → fielded e d f ≡ some (record { field = some f; given = plainly e.receiver_id })
+  pub field_3 : f ≡ 3 → fielded e d f ≡ Some (record { field = Some f; given = plainly e.receiver_id })
   unfolding field_given
   field_3 q = rw q
 
-  pub field_4 : f ≡ 4 → fielded e d f ≡ some (record { field = some f; given = plainly (on e.application_sender (λ x. x) (trim_end e.sender_id)) })
+  pub field_4 : f ≡ 4 → fielded e d f ≡ Some (record { field = Some f; given = plainly (on e.application_sender (λ x. x) (trim_end e.sender_id)) })
   unfolding field_given
   field_4 q = rw q
 
-  pub field_5 : f ≡ 5 → fielded e d f ≡ some (record { field = some f; given = plainly (on e.application_receiver (λ x. x) (trim_end e.receiver_id)) })
+  pub field_5 : f ≡ 5 → fielded e d f ≡ Some (record { field = Some f; given = plainly (on e.application_receiver (λ x. x) (trim_end e.receiver_id)) })
   unfolding field_given
   field_5 q = rw q
 
-  pub field_6 : f ≡ 6 → fielded e d f ≡ some (record { field = some f; given = outcome (envelope_date (signed32 e.date) (max_in d.max)) })
+  pub field_6 : f ≡ 6 → fielded e d f ≡ Some (record { field = Some f; given = outcome (envelope_date (signed32 e.date) (max_in d.max)) })
   unfolding field_given
   field_6 q = rw q
 
-  pub field_7 : f ≡ 7 → fielded e d f ≡ some (record { field = some f; given = outcome (envelope_time (signed32 e.time) (max_in d.max)) })
+  pub field_7 : f ≡ 7 → fielded e d f ≡ Some (record { field = Some f; given = outcome (envelope_time (signed32 e.time) (max_in d.max)) })
   unfolding field_given
   field_7 q = rw q
 
-  pub field_8 : f ≡ 8 → fielded e d f ≡ some (record { field = some f; given = plainly e.usage_indicator })
+  pub field_8 : f ≡ 8 → fielded e d f ≡ Some (record { field = Some f; given = plainly e.usage_indicator })
   unfolding field_given
   field_8 q = rw q
 
-  pub field_9 : f ≡ 9 → fielded e d f ≡ none
+  pub field_9 : f ≡ 9 → fielded e d f ≡ None
   unfolding field_given
   field_9 q = rw q
 
   -- the code of the repetition element, its separator, neither
-  pub field_code : f ≡ 10 → (code : List ℕ) → first d.codes ≡ some code → fielded e d f ≡ some (record { field = some f; given = plainly code })
+  pub field_code : f ≡ 10 → (code : List ℕ) → first d.codes ≡ Some code → fielded e d f ≡ Some (record { field = Some f; given = plainly code })
   unfolding field_given
   field_code q code h = rw (q, h)
 
-  pub field_again : f ≡ 10 → (b : ℕ) → first d.codes ≡ none → e.repetition ≡ some b → fielded e d f ≡ some (record { field = some f; given = separator b })
+  pub field_again : f ≡ 10 → (b : ℕ) → first d.codes ≡ None → e.repetition ≡ Some b → fielded e d f ≡ Some (record { field = Some f; given = separator b })
   unfolding field_given
   field_again q b h k = rw (q, h, k)
 
-  pub field_neither : f ≡ 10 → first d.codes ≡ none → e.repetition ≡ none → fielded e d f ≡ none
+  pub field_neither : f ≡ 10 → first d.codes ≡ None → e.repetition ≡ None → fielded e d f ≡ None
   unfolding field_given
   field_neither q h k = rw (q, h, k)
 
-  pub field_11 : f ≡ 11 → fielded e d f ≡ some (record { field = some f; given = separator e.component })
+  pub field_11 : f ≡ 11 → fielded e d f ≡ Some (record { field = Some f; given = separator e.component })
   unfolding field_given
   field_11 q = rw q
 
-  pub field_more : 12 ≤ f → fielded e d f ≡ none
+  pub field_more : 12 ≤ f → fielded e d f ≡ None
   unfolding field_given
   field_more h = let q : f ≡ suc (suc (suc (suc (suc (suc (suc (suc (suc (suc (suc (suc (f - 12)))))))))))) = omega arith in rw q
 
@@ -192,64 +187,64 @@ first_is [] = refl
 first_is (x ∷ xs) = refl
 
 module _ {b : List ℕ} {x : Element} {y : ℕ × ElementDef} (h : ElementSays b x y) where
-  pub code_there : (s : Stretch) → x.code ≡ text_is.Is s → first y.1.codes ≡ some (stretch_of b s)
+  pub code_there : (s : Stretch) → x.code ≡ Some s → first y.1.codes ≡ Some (stretch_of b s)
   code_there s q = sym (first_is y.1.codes) ∙ sym h.code.bytes ∙ rw q
 
-  pub code_gone : x.code ≡ text_is.None → first y.1.codes ≡ none
+  pub code_gone : x.code ≡ None → first y.1.codes ≡ None
   code_gone q = sym (first_is y.1.codes) ∙ sym h.code.bytes ∙ rw q
 
-  pub code_holds : (s : Stretch) → x.code ≡ text_is.Is s → Holds b s (stretch_of b s)
+  pub code_holds : (s : Stretch) → x.code ≡ Some s → Holds b s (stretch_of b s)
   code_holds s q = record { bytes = refl; within = let w = h.code.within in rw q at w }
 
-module _ (r : Repetition) (v : Option ℕ) (e : repetition_of r ≡ v) where
-  pub again_there : (b : ℕ) → r ≡ Byte b → v ≡ some b
+module _ (r : Rust.Option ℕ) (v : Option ℕ) (e : repetition_of r ≡ v) where
+  pub again_there : (b : ℕ) → r ≡ Some b → v ≡ Some b
   again_there b q = sym e ∙ rw q
 
-  pub again_gone : r ≡ Absent → v ≡ none
+  pub again_gone : r ≡ None → v ≡ None
   again_gone q = sym e ∙ rw q
 
 -- ---- the spec
 
-pub code_of : (d : ElementDef) (code : List ℕ) → first d.codes ≡ some code → unsourced d ≡ record { field = none; given = plainly code }
+pub code_of : (d : ElementDef) (code : List ℕ) → first d.codes ≡ Some code → unsourced d ≡ record { field = None; given = plainly code }
 code_of d code h = rw h
 
-pub no_code : (d : ElementDef) → first d.codes ≡ none → unsourced d ≡ record { field = none; given = plainly [] }
+pub no_code : (d : ElementDef) → first d.codes ≡ None → unsourced d ≡ record { field = None; given = plainly [] }
 no_code d h = rw h
 
 pub nothing_holds : (b : List ℕ) → Holds b (record { start = 0; len = 0 }) []
 unfolding stretch_of
 nothing_holds b = record { bytes = refl; within = omega arith }
 
-module _ (b : List ℕ) (r : version.Version) (j : Job) (h : HoldsVersion b r j.spec.version) (trigger : List ℕ) (position : ℕ) where
-  pub unversioned : r ≡ version_is.None → version_at j trigger position ≡ none
-  unversioned q = let e : none ≡ j.spec.version = rw q at h.says in rw (← e)
+module _ (b : List ℕ) (r : Option VersionRule) (j : Job) (h : HoldsVersion b r j.spec.version) (trigger : List ℕ) (position : ℕ) where
+  pub unversioned : r ≡ None → version_at j trigger position ≡ None
+  unversioned q = let e : None ≡ j.spec.version = rw q at h.says in rw (← e)
 
-  module _ (v : VersionRule) (q : r ≡ version_is.Is v) where
-    rule : some (version_rule b v) ≡ j.spec.version
+  module _ (v : VersionRule) (q : r ≡ Some v) where
+    rule : Some (version_rule b v) ≡ j.spec.version
     rule = rw q at h.says
 
     pub rule_within : (v.segment.start + v.segment.len ≤ length b) × (v.first.start + v.first.len ≤ length b)
     rule_within = let w = h.within in rw q at w
 
-    pub version_here : (t : Bool) → t ≡ same_bytes (stretch_of b v.segment) trigger → t ≡ true → v.element ≡ position → version_at j trigger position ≡ some (stretch_of b v.first)
+    pub version_here : (t : Bool) → t ≡ same_bytes (stretch_of b v.segment) trigger → t ≡ true → v.element ≡ position → version_at j trigger position ≡ Some (stretch_of b v.first)
     version_here t f g k = rw (← rule, ← f, g, eq-eqb v.element position k)
 
-    pub version_other : (t : Bool) → t ≡ same_bytes (stretch_of b v.segment) trigger → t ≡ true → (v.element ≡ position → ⊥) → version_at j trigger position ≡ none
+    pub version_other : (t : Bool) → t ≡ same_bytes (stretch_of b v.segment) trigger → t ≡ true → (v.element ≡ position → ⊥) → version_at j trigger position ≡ None
     version_other t f g k = rw (← rule, ← f, g, ne_eqb v.element position k)
 
-    pub version_elsewhere : (t : Bool) → t ≡ same_bytes (stretch_of b v.segment) trigger → t ≡ false → version_at j trigger position ≡ none
+    pub version_elsewhere : (t : Bool) → t ≡ same_bytes (stretch_of b v.segment) trigger → t ≡ false → version_at j trigger position ≡ None
     version_elsewhere t f g = rw (← rule, ← f, g)
 
 module _ (j : Job) (trigger : List ℕ) (depth position : ℕ) (d : ElementDef) where
-  pub by_field : (f : ℕ) → field_at depth position ≡ some f → otherwise j trigger depth position d ≡ fielded j.envelope d f
+  pub by_field : (f : ℕ) → field_at depth position ≡ Some f → otherwise j trigger depth position d ≡ fielded j.envelope d f
   unfolding otherwise
   by_field f h = rw h
 
-  pub by_spec : field_at depth position ≡ none → otherwise j trigger depth position d ≡ some (on (version_at j trigger position) versioned (unsourced d))
+  pub by_spec : field_at depth position ≡ None → otherwise j trigger depth position d ≡ Some (on (version_at j trigger position) versioned (unsourced d))
   unfolding otherwise
   by_spec h = rw h
 
-pub tells_as : {job : List ℕ} {s : Source} {o p : Option Sourced} → o ≡ p → Tells job s o → Tells job s p
+pub tells_as : {job : List ℕ} {s : Rust.Option Source} {o p : Option Sourced} → o ≡ p → Tells job s o → Tells job s p
 tells_as e h = rw (← e) h
 
 -- ---- the same bytes
@@ -264,16 +259,16 @@ module _ (b : List ℕ) (s t : Stretch) (h : s.start + s.len ≤ length b) (k : 
       let n = stretch_long b t k in
       f ∙ ap (same_at b s.start t.start) (sym m) ∙ (same_lists b (stretch_of b s) (stretch_of b t) s.start t.start (m ∙ e ∙ sym n) (λ i o. stretch_byte b s h i (omega (arith, m))) (λ i o. stretch_byte b t k i (omega (arith, n))))
 
-pub field_none : (e : E.Envelope) (d : ElementDef) (f : ℕ) → 9 ≤ f → (f ≡ 10 → ⊥) → (f ≡ 11 → ⊥) → fielded e d f ≡ none
+pub field_none : (e : E.Envelope) (d : ElementDef) (f : ℕ) → 9 ≤ f → (f ≡ 10 → ⊥) → (f ≡ 11 → ⊥) → fielded e d f ≡ None
 field_none e d f h k l = go (dec_lt 9 f)
   where
-    go : Dec (9 < f) → fielded e d f ≡ none
+    go : Dec (9 < f) → fielded e d f ≡ None
     go (yes q) = field_more e d f (omega arith)
     go (no q) = field_9 e d f (omega arith)
 
-module _ (depth n m : ℕ) (r : Held) (e : held_field r ≡ field_at depth n) (k : n ≡ m) where
-  pub field_there : (f : ℕ) → r ≡ Field f → field_at depth m ≡ some f
+module _ (depth n m : ℕ) (r : Rust.Option ℕ) (e : held_field r ≡ field_at depth n) (k : n ≡ m) where
+  pub field_there : (f : ℕ) → r ≡ Some f → field_at depth m ≡ Some f
   field_there f q = rw (← k, ← e, q)
 
-  pub field_gone : r ≡ Nothing → field_at depth m ≡ none
+  pub field_gone : r ≡ None → field_at depth m ≡ None
   field_gone q = rw (← k, ← e, q)

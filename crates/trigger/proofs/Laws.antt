@@ -1,19 +1,15 @@
 -- The closer, one law for each way.
-use Prim.Native.Nat.{ℕ, ◌≤◌, ◌<◌}
-use mathlib.Core.Path.{◌≡◌, refl, sym, ap, ◌∙◌}
+use Prim.Native.Nat.{ℕ}
+use mathlib.Core.Path.{◌≡◌, sym, ◌∙◌}
 use mathlib.Core.Bool.{Bool}
 use mathlib.Core.List.{List, []}
-use mathlib.Core.Option.{Option, none, some}
+use Rattle.std.specs.Prelude.{Option, None, Some}
 use lib.ListN.{get_or}
 use Rattle.format.specs.Spec.{Control}
 use Rattle.format.specs.Job.{Job}
 use Rattle.format.specs.Ask.{loop_of, min_of}
 use Rattle.spec.specs.declared.ids.Stretch.{Stretch}
-use Rattle.spec.specs.declared.ids.Text as text
-use Rattle.spec.specs.declared.ids.Text.TheVariants as text_is
 use Rattle.spec.specs.declared.ids.ControlRule.{ControlRule}
-use Rattle.spec.specs.declared.ids.Controls as controls
-use Rattle.spec.specs.declared.ids.Controls.TheVariants as controls-is
 use Rattle.spec.specs.Answers.{stretch_of, text_of, rule_of, control_of}
 use Rattle.segment.specs.Parts.{pick}
 use Rattle.texts.specs.Pad.{control_text}
@@ -27,31 +23,31 @@ unfolding control_in
 control_is j l opener number trigger text min e f g k h = g ∙ rw (f, e, h)
 
 module _ (j : Job) (l : ℕ) (opened : Bool) (children count : ℕ) (s : F.State) where
-  pub close_uncontrolled : (loop_of j l).control ≡ none → closer_out j l opened children count s ≡ quiet s
+  pub close_uncontrolled : (loop_of j l).control ≡ None → closer_out j l opened children count s ≡ quiet s
   unfolding closer_out
   close_uncontrolled e = rw e
 
-  pub close_endless : (c : Control) → (loop_of j l).control ≡ some c → (loop_of j l).end ≡ none → closer_out j l opened children count s ≡ quiet s
+  pub close_endless : (c : Control) → (loop_of j l).control ≡ Some c → (loop_of j l).end ≡ None → closer_out j l opened children count s ≡ quiet s
   unfolding closer_out
   close_endless c e f = rw (e, f)
 
-  pub close_is : (c : Control) (id control : List ℕ) (number n : ℕ) → (loop_of j l).control ≡ some c → (loop_of j l).end ≡ some id → get_or s.counter l 0 ≡ number → control ≡ pick opened (control_in j l c (previous number)) [] → n ≡ count_of c.counted children count
-      → closer_out j l opened children count s ≡ segment_out j id (closer_put c control n).parts (closer_put c control n).findings (closer_put c control n).entries none s
+  pub close_is : (c : Control) (id control : List ℕ) (number n : ℕ) → (loop_of j l).control ≡ Some c → (loop_of j l).end ≡ Some id → get_or s.counter l 0 ≡ number → control ≡ pick opened (control_in j l c (previous number)) [] → n ≡ count_of c.counted children count
+      → closer_out j l opened children count s ≡ segment_out j id (closer_put c control n).parts (closer_put c control n).findings (closer_put c control n).entries None s
   unfolding closer_out
   close_is c id control number n e f q g h = rw (e, f, q, g, h)
 
 -- ---- what an answer says, by its case
 
-module _ (b : List ℕ) (x : text.Text) (v : Option (List ℕ)) (e : text_of b x ≡ v) where
-  pub text_gone : x ≡ text_is.None → v ≡ none
+module _ (b : List ℕ) (x : Option Stretch) (v : Option (List ℕ)) (e : text_of b x ≡ v) where
+  pub text_gone : x ≡ None → v ≡ None
   text_gone q = sym e ∙ rw q
 
-  pub text_there : (s : Stretch) → x ≡ text_is.Is s → v ≡ some (stretch_of b s)
+  pub text_there : (s : Stretch) → x ≡ Some s → v ≡ Some (stretch_of b s)
   text_there s q = sym e ∙ rw q
 
-module _ (x : controls.Controls) (v : Option Control) (e : control_of x ≡ v) where
-  pub control_gone : x ≡ controls-is.None → v ≡ none
+module _ (x : Option ControlRule) (v : Option Control) (e : control_of x ≡ v) where
+  pub control_gone : x ≡ None → v ≡ None
   control_gone q = sym e ∙ rw q
 
-  pub control_there : (c : ControlRule) → x ≡ controls-is.Is c → v ≡ some (rule_of c)
+  pub control_there : (c : ControlRule) → x ≡ Some c → v ≡ Some (rule_of c)
   control_there c q = sym e ∙ rw q

@@ -1,10 +1,10 @@
 -- The elements of a trigger one after the other, for a loop that steps through them.
 use Prim.Native.Nat.{ℕ, zero, suc, ◌+◌, ◌≤◌, ◌<◌, max}
-use mathlib.Core.Path.{◌≡◌, refl, sym, ap, ◌∙◌}
+use mathlib.Core.Path.{◌≡◌, refl, sym, ◌∙◌}
 use mathlib.Core.Bool.{Bool, true, false}
 use mathlib.Core.List.{List, [], ◌∷◌, ◌++◌, append_assoc, append-nil}
-use mathlib.Core.Option.{Option, none, some}
 use native.Mathlib.Omega.{arith}
+use Rattle.std.specs.Prelude.{Option, None, Some}
 use lib.Dec.{ltb, eqb}
 use lib.ListN.{length, get_or}
 use borrow.Author.Tests.{eq-eqb, ne_eqb, lt-ltb, ltb-false}
@@ -13,22 +13,17 @@ use Rattle.codec.specs.Maps.{rises_from}
 use Rattle.format.specs.Spec.{Control, ElementDef, SegmentDef}
 use Rattle.format.specs.Job.{Job}
 use Rattle.format.specs.Sections.{job_of, plan_start}
-use Rattle.format.specs.Ask.{loop_of, depth_of, found, segment_def, element_def, min_of}
+use Rattle.format.specs.Ask.{loop_of, found, segment_def, element_def, min_of}
 use Rattle.format.specs.Spec.{element_c, segment_c}
 use Rattle.codec.specs.Skip.{Is}
 use Rattle.codec.specs.Maps.{is_num_map}
-use Rattle.spec.specs.declared.ids.Place.{Place}
-use Rattle.spec.specs.declared.ids.Place.TheVariants.{Nowhere, At}
 use Rattle.spec.specs.Found.{PlaceOf, place_nowhere, place_at, stands_low}
 use Rattle.spec.specs.Answers.{stretch_of}
-use Rattle.segment.specs.Parts.{joined}
 use Rattle.segment.specs.Pen.{Penned, opened}
 use Rattle.segment.proofs.Runs.{run_stored}
 use Rattle.lent.specs.Fit.{stretch}
-use Rattle.emit.specs.Fold.{separators_of}
-use Rattle.emit.specs.Envelope.{opener_put, control_in}
+use Rattle.emit.specs.Envelope.{opener_put}
 use Rattle.trigger.specs.declared.opener.Frame.{Frame}
-use Rattle.trigger.specs.declared.opener.Put as answer
 use Rattle.lent.specs.Fit.{cap, wide, more, Stored, Noted}
 use Rattle.spec.specs.declared.ids.Element.{Element}
 use Rattle.spec.specs.declared.ids.Elements.{Elements}
@@ -60,12 +55,12 @@ unfolding put_element
 element_shape j trigger control depth opener y = go (source_at j trigger depth opener control y.0 y.1)
   where
     sourced : (f : Option ℕ) (s : Sourced) → s.field ≡ f → Shape y.0 (put_sourced j trigger y.0 y.1 s).parts
-    sourced none s e = rw e (single refl)
-    sourced (some f) s e = rw e (single refl)
+    sourced None s e = rw e (single refl)
+    sourced (Some f) s e = rw e (single refl)
 
     go : (o : Option Sourced) → Shape y.0 (on o (put_sourced j trigger y.0 y.1) P.nothing).parts
-    go none = empty
-    go (some s) = sourced s.field s refl
+    go None = empty
+    go (Some s) = sourced s.field s refl
 
 -- ---- keys rise
 
@@ -254,10 +249,10 @@ module _ {b : List ℕ} {j : Job} {s : Separators} {trigger : List ℕ} {g : ℕ
 abbrev defined : Option SegmentDef → SegmentDef
 defined v = on v (λ d. d) []
 
-pub nowhere_entries : (b : List ℕ) (e : ℕ) (r : Place) (v : Option SegmentDef) → PlaceOf segment_c b e r v → r ≡ Nowhere → Entries b (record { left = 0; at = 0 }) (defined v) × (rises_from 0 (defined v) ≡ true)
+pub nowhere_entries : (b : List ℕ) (e : ℕ) (r : Option ℕ) (v : Option SegmentDef) → PlaceOf segment_c b e r v → r ≡ None → Entries b (record { left = 0; at = 0 }) (defined v) × (rises_from 0 (defined v) ≡ true)
 nowhere_entries b e r v h q = rw (place_nowhere segment_c b e r v h q) (record { counted = refl; item = λ i d k. absurd (omega arith) }, refl)
 
-module _ (b : List ℕ) (r : Place) (v : Option SegmentDef) (h : PlaceOf segment_c b (plan_start b) r v) (p : ℕ) (q : r ≡ At p) where
+module _ (b : List ℕ) (r : Option ℕ) (v : Option SegmentDef) (h : PlaceOf segment_c b (plan_start b) r v) (p : ℕ) (q : r ≡ Some p) where
   pub place_low : p ≤ plan_start b
   place_low = stands_low segment_c b (plan_start b) p v (place_at segment_c b (plan_start b) r v h p q)
 
@@ -272,7 +267,7 @@ key_above [] low i d r h = absurd (omega arith)
 key_above (x ∷ xs) low zero d r h = (rises_next low x xs r).0
 key_above (x ∷ xs) low (suc i) d r h = let a = rises_next low x xs r in let q = a.0 in let k = key_above xs (x.0 + 1) i d a.1 (omega arith) in omega arith
 
-key_found : (xs : SegmentDef) (low i : ℕ) (d : ℕ × ElementDef) → rises_from low xs ≡ true → i < length xs → found (eqb (get_or xs i d).0) xs ≡ some (get_or xs i d).1
+key_found : (xs : SegmentDef) (low i : ℕ) (d : ℕ × ElementDef) → rises_from low xs ≡ true → i < length xs → found (eqb (get_or xs i d).0) xs ≡ Some (get_or xs i d).1
 key_found [] low i d r h = absurd (omega arith)
 key_found (x ∷ xs) low zero d r h = rw (eq-eqb x.0 x.0 refl)
 key_found (x ∷ xs) low (suc i) d r h =
@@ -285,8 +280,8 @@ unfolding min_of element_def
 mins_of j trigger r y i h = go (segment_def j trigger) refl r h
   where
     go : (v : Option SegmentDef) → segment_def j trigger ≡ v → rises_from 0 (defined v) ≡ true → i < length (defined v) → min_of j trigger (get_or (defined v) i y).0 ≡ (get_or (defined v) i y).1.min
-    go none e r h = absurd (omega arith)
-    go (some xs) e r h = rw (e, key_found xs 0 i y r h)
+    go None e r h = absurd (omega arith)
+    go (Some xs) e r h = rw (e, key_found xs 0 i y r h)
 
 pub opening : (b : List ℕ) (w : Frame) (c : Elements) (l : ℕ) (k : Control) (number : ℕ) → Framed b l k number w
     → Entries b c (defined (segment_def (job_of b) (stretch_of b w.id))) × (rises_from 0 (defined (segment_def (job_of b) (stretch_of b w.id))) ≡ true) → Opening b w c

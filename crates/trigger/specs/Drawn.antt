@@ -1,6 +1,5 @@
 -- The elements of a trigger as code draws them.
-use Rattle.std.specs.Prelude.{ℕ, ◌≤◌, ◌<◌, max, ◌≡◌, Bool, true, false, List, [], ◌∷◌, length, get_or}
-use Rattle.std.proofs.Math.Option.{Option, none, some}
+use Rattle.std.specs.Prelude.{ℕ, ◌≤◌, ◌<◌, max, ◌≡◌, Bool, true, false, List, [], ◌∷◌, length, get_or, Option, None}
 use Rattle.lent.specs.Fit.{more, Stored, Noted}
 use Rattle.codec.specs.Maps.{rises_from}
 use Rattle.format.specs.Spec.{Control, ElementDef, SegmentDef}
@@ -14,14 +13,14 @@ use Rattle.spec.specs.Answers.{Holds}
 use Rattle.spec.specs.Cursor.{Entries, ElementSays}
 use Rattle.segment.specs.declared.Separators.{Separators}
 use Rattle.segment.specs.declared.Pen.{Pen}
-use Rattle.segment.specs.Parts.{Part, pick, last_element, last_component, component_text, joined}
+use Rattle.segment.specs.Parts.{Part, last_element, last_component, component_text, joined}
 use Rattle.segment.specs.Pen.{value_text, closing}
 use Rattle.segment.specs.Calls.{Group, Row}
 use Rattle.nest.specs.Lists.{on}
 use Rattle.nest.specs.Finding.{number_from}
 use Rattle.emit.specs.Puts.{Put, part_at}
 use Rattle.emit.specs.Written.{words_of, tried}
-use Rattle.emit.specs.Envelope.{Given, field_findings, control_in, put_element}
+use Rattle.emit.specs.Envelope.{field_findings, control_in, put_element}
 use Rattle.emit.specs.Fold.{separators_of}
 use Rattle.trigger.specs.declared.opener.Frame.{Frame}
 use Rattle.trigger.specs.declared.opener.Drawn.{Drawn}
@@ -44,7 +43,7 @@ element_put b l k number = put_element (job_of b) (loop_of (job_of b) l).trigger
 -- a text at an element: a part, the findings on it and a trace entry if it comes from a field
 abbrev pub put_by : Job → List ℕ → ℕ → Option ℕ → ℕ → Bool → List ℕ → Put
 put_by j trigger p field reason checked text = record {
-  parts = part_at p none text ∷ [];
+  parts = part_at p None text ∷ [];
   findings = on field (λ f. field_findings j trigger p f (record { text = text; reason = reason; checked = checked }) text) [];
   entries = on field (λ f. 1) 0;
 }

@@ -1,6 +1,5 @@
 // What an element of a trigger takes: a field of the envelope, the version, its first code.
-ghost use Rattle.std.specs.Prelude.{◌≡◌, List, [], ℕ, ◌+◌, ◌≤◌, ◌<◌, length, get_or};
-ghost use Rattle.std.proofs.Math.Option.{Option, none, some};
+ghost use Rattle.std.specs.Prelude.{◌≡◌, List, [], ℕ, ◌+◌, ◌≤◌, ◌<◌, length, get_or, Option, None, Some};
 ghost use Rattle.format.specs.Spec.{ElementDef};
 ghost use Rattle.format.specs.Sections.{job_of};
 ghost use Rattle.format.specs.Ask.{same_bytes};
@@ -13,94 +12,71 @@ ghost use Rattle.emit.specs.Table.{held_field};
 ghost use Rattle.emit.specs.Envelope.{plainly, outcome, separator, trim_end, is_white, fielded, version_at, versioned, unsourced};
 ghost use Rattle.trigger.specs.Source.{Tells, otherwise};
 
-use emit::envelope::Held;
-use emit::findings::Repetition;
 use emit::{cells, envelope, signs};
 use spec::envelope as caller;
-use spec::ids::{Element, Stretch, Text, Version};
+use spec::ids::{Element, Stretch, VersionRule};
 use spec::segments::same_at;
-use texts::render::Said;
+use texts::render::Refused;
 use texts::{parse, render};
 
-// Whether there is a text; its field; its bytes: the first `count` of `bytes`, then `len` bytes of the job from `start` on; why there is
-// none, or 0; whether it is tried for separators.
+// A text's field; its bytes: the first `count` of `bytes`, then `len` bytes of the job from `start` on; why there are none; whether it is
+// tried for separators.
 #[derive(Clone, Copy)]
 pub struct Source {
-    pub there: bool,
-    pub field: Held,
+    pub field: Option<u8>,
     pub bytes: [u8; 48],
     pub count: usize,
     pub start: usize,
     pub len: usize,
-    pub reason: u64,
+    pub reason: Option<Refused>,
     pub checked: bool,
 }
 
 // ---- the forms of a text
 
-fn of_stretch(field: Held, s: Stretch) -> Source
-    ensures { (job v : List ℕ) → Holds job s v → Tells job result (some (record { field = held_field field; given = plainly v })) }
+fn of_stretch(field: Option<u8>, s: Stretch) -> Source
+    ensures { (job v : List ℕ) → Holds job s v → Tells job (Some result) (Some (record { field = held_field field; given = plainly v })) }
 {
     Source {
-        there: true,
         field,
         bytes: [0u8; 48],
         count: 0,
         start: s.start,
         len: s.len,
-        reason: 0,
+        reason: None,
         checked: true,
     }
 }
 
-fn of_said(field: Held, said: Said) -> Source
-    ensures { (job : List ℕ) (o : Outcome) → length o.text ≤ 48 → Says said o → Tells job result (some (record { field = held_field field; given = outcome o })) }
+fn of_said(field: Option<u8>, said: Result<texts::Text, Refused>) -> Source
+    ensures { (job : List ℕ) (o : Outcome) → length o.text ≤ 48 → Says said o → Tells job (Some result) (Some (record { field = held_field field; given = outcome o })) }
 {
-    let text = said.text;
-    let refused = said.refused;
+    let text = cells::text_in(said);
     let bytes = text.bytes;
-    let reason = cells::reason_of(refused);
     Source {
-        there: true,
         field,
         bytes,
         count: text.len,
         start: 0,
         len: 0,
-        reason,
+        reason: said.err(),
         checked: true,
     }
 }
 
 // A separator as the value itself.
-fn of_byte(field: Held, b: u8) -> Source
-    ensures { (job : List ℕ) → Tells job result (some (record { field = held_field field; given = separator b })) }
+fn of_byte(field: Option<u8>, b: u8) -> Source
+    ensures { (job : List ℕ) → Tells job (Some result) (Some (record { field = held_field field; given = separator b })) }
 {
     let mut bytes = [0u8; 48];
     bytes[0] = b;
     Source {
-        there: true,
         field,
         bytes,
         count: 1,
         start: 0,
         len: 0,
-        reason: 0,
-        checked: false,
-    }
-}
-
-fn left_out() -> Source
-    ensures { (job : List ℕ) → Tells job result none }
-{
-    Source {
-        there: false,
-        field: Held::Nothing,
-        bytes: [0u8; 48],
-        count: 0,
-        start: 0,
-        len: 0,
-        reason: 0,
+        reason: None,
         checked: false,
     }
 }
@@ -128,131 +104,109 @@ fn trim_end(job: &[u8], s: Stretch) -> Stretch
     ensures { Holds job.now result (trim_end (stretch_of job.now s)) }
 {
     let start = s.start;
-    let mut n = s.len;
-    while 0 < n {
-        let b = codec::byte_at(job, start + n - 1);
-        if is_white(b) {
-            n = n - 1;
-        } else {
-            return Stretch {
-                start: start,
-                len: n,
-            };
+    for n in (0..s.len).rev() {
+        if !is_white(codec::byte_at(job, start + n)) {
+            return Stretch { start, len: n + 1 };
         }
     }
     Stretch { start: 0, len: 0 }
 }
 
 // The code of an application, or else an id without the white space at its end.
-fn application(job: &[u8], code: Text, id: Stretch) -> Stretch
+fn application(job: &[u8], code: Option<Stretch>, id: Stretch) -> Stretch
     requires { id.start + id.len ≤ length job.now }
     ensures { (x : Option (List ℕ)) → HoldsText job.now code x → Holds job.now result (on x (λ v. v) (trim_end (stretch_of job.now id))) }
 {
     match code {
-        Text::Is(s) => s,
-        Text::None => trim_end(job, id),
+        Some(s) => s,
+        None => trim_end(job, id),
     }
 }
 
 // The sender, the receiver and the usage indicator.
 fn named(job: &[u8], index: &[u16], f: u8) -> Source
     requires { Ready job.now index.now × (f < 6) }
-    ensures { (d : ElementDef) → Tells job.now result (fielded (job_of job.now).envelope d f) }
+    ensures { (d : ElementDef) → Tells job.now (Some result) (fielded (job_of job.now).envelope d f) }
 {
     if f == 0 {
-        return of_stretch(Held::Field(f), caller::sender_qualifier(job, index));
+        return of_stretch(Some(f), caller::sender_qualifier(job, index));
     }
     if f == 1 {
-        return of_stretch(Held::Field(f), caller::sender_id(job, index));
+        return of_stretch(Some(f), caller::sender_id(job, index));
     }
     if f == 2 {
-        return of_stretch(Held::Field(f), caller::receiver_qualifier(job, index));
+        return of_stretch(Some(f), caller::receiver_qualifier(job, index));
     }
     if f == 3 {
-        return of_stretch(Held::Field(f), caller::receiver_id(job, index));
+        return of_stretch(Some(f), caller::receiver_id(job, index));
     }
     applied(job, index, f)
 }
 
 fn applied(job: &[u8], index: &[u16], f: u8) -> Source
     requires { Ready job.now index.now × (4 ≤ f) × (f < 6) }
-    ensures { (d : ElementDef) → Tells job.now result (fielded (job_of job.now).envelope d f) }
+    ensures { (d : ElementDef) → Tells job.now (Some result) (fielded (job_of job.now).envelope d f) }
 {
     if f == 4 {
         let id = caller::sender_id(job, index);
         let code = caller::application_sender(job, index);
-        return of_stretch(Held::Field(f), application(job, code, id));
+        return of_stretch(Some(f), application(job, code, id));
     }
     let id = caller::receiver_id(job, index);
     let code = caller::application_receiver(job, index);
-    of_stretch(Held::Field(f), application(job, code, id))
+    of_stretch(Some(f), application(job, code, id))
 }
 
 // The repetition element's own code, or else the separator where there is one.
-fn repetition_source(job: &[u8], index: &[u16], f: u8, x: Element) -> Source
+fn repetition_source(job: &[u8], index: &[u16], f: u8, x: Element) -> Option<Source>
     requires { Ready job.now index.now × (f ≡ 10) }
     ensures { (y : ℕ × ElementDef) → ElementSays job.now x y → Tells job.now result (fielded (job_of job.now).envelope y.1 f) }
 {
     let code = x.code;
     match code {
-        Text::Is(s) => {
-            return of_stretch(Held::Field(f), s);
-        }
-        Text::None => {
-            let again = signs::repetition_of(job, index);
-            match again {
-                Repetition::Byte(b) => {
-                    return of_byte(Held::Field(f), b);
-                }
-                Repetition::Absent => {
-                    return left_out();
-                }
-            }
-        }
+        Some(s) => Some(of_stretch(Some(f), s)),
+        None => match signs::repetition_of(job, index) {
+            Some(b) => Some(of_byte(Some(f), b)),
+            None => None,
+        },
     }
 }
 
 // The date, the time and the usage indicator.
 fn dated(job: &[u8], index: &[u16], f: u8, x: Element) -> Source
     requires { Ready job.now index.now × (6 ≤ f) × (f < 9) }
-    ensures { (y : ℕ × ElementDef) → ElementSays job.now x y → Tells job.now result (fielded (job_of job.now).envelope y.1 f) }
+    ensures { (y : ℕ × ElementDef) → ElementSays job.now x y → Tells job.now (Some result) (fielded (job_of job.now).envelope y.1 f) }
 {
     let most = x.max;
     if f == 6 {
         let days = parse::from_bits(caller::date(job, index));
-        return of_said(
-            Held::Field(f),
-            render::envelope_date(days, cells::max_by(most)),
-        );
+        return of_said(Some(f), render::envelope_date(days, cells::max_by(most)));
     }
     if f == 7 {
         let seconds = parse::from_bits(caller::time(job, index));
-        return of_said(
-            Held::Field(f),
-            render::envelope_time(seconds, cells::max_by(most)),
-        );
+        return of_said(Some(f), render::envelope_time(seconds, cells::max_by(most)));
     }
-    of_stretch(Held::Field(f), caller::usage_indicator(job, index))
+    of_stretch(Some(f), caller::usage_indicator(job, index))
 }
 
-// What a field gives an element.
-fn field_source(job: &[u8], index: &[u16], f: u8, x: Element) -> Source
+// What a field gives an element. Fields stay numbers: the layout and the findings have them so, and an enum would be made of its number and turned back into it.
+fn field_source(job: &[u8], index: &[u16], f: u8, x: Element) -> Option<Source>
     requires { Ready job.now index.now }
     ensures { (y : ℕ × ElementDef) → ElementSays job.now x y → Tells job.now result (fielded (job_of job.now).envelope y.1 f) }
 {
     if f < 6 {
-        return named(job, index, f);
+        return Some(named(job, index, f));
     }
     if f < 9 {
-        return dated(job, index, f, x);
+        return Some(dated(job, index, f, x));
     }
     if f == 10 {
         return repetition_source(job, index, f, x);
     }
     if f == 11 {
-        return of_byte(Held::Field(f), caller::component_separator(job, index));
+        return Some(of_byte(Some(f), caller::component_separator(job, index)));
     }
-    left_out()
+    None
 }
 
 // ---- the spec
@@ -274,12 +228,12 @@ fn same(job: &[u8], a: Stretch, b: Stretch) -> bool
 
 // The first code of an element.
 fn code_source(x: Element) -> Source
-    ensures { (job : List ℕ) (y : ℕ × ElementDef) → ElementSays job x y → Tells job result (some (unsourced y.1)) }
+    ensures { (job : List ℕ) (y : ℕ × ElementDef) → ElementSays job x y → Tells job (Some result) (Some (unsourced y.1)) }
 {
     let code = x.code;
     match code {
-        Text::Is(s) => of_stretch(Held::Nothing, s),
-        Text::None => of_stretch(Held::Nothing, Stretch { start: 0, len: 0 }),
+        Some(s) => of_stretch(None, s),
+        None => of_stretch(None, Stretch { start: 0, len: 0 }),
     }
 }
 
@@ -287,41 +241,37 @@ fn code_source(x: Element) -> Source
 fn spec_source(job: &[u8], index: &[u16], id: Stretch, x: Element) -> Source
     requires { Ready job.now index.now × (id.start + id.len ≤ length job.now) }
     ensures { (y : ℕ × ElementDef) → ElementSays job.now x y
-        → Tells job.now result (some (on (version_at (job_of job.now) (stretch_of job.now id) y.0) versioned (unsourced y.1))) }
+        → Tells job.now (Some result) (Some (on (version_at (job_of job.now) (stretch_of job.now id) y.0) versioned (unsourced y.1))) }
 {
     let version = spec::version::version(job, index);
     match version {
-        Version::Is(v) => {
+        Some(v) => {
             let named = v.segment;
             let first = v.first;
             let here = same(job, named, id);
             if here {
                 if v.element == x.number {
-                    return of_stretch(Held::Field(12), first);
+                    return of_stretch(Some(12), first);
                 }
                 return code_source(x);
             }
             return code_source(x);
         }
-        Version::None => {
+        None => {
             return code_source(x);
         }
     }
 }
 
 // What an element of a trigger takes that is not the control number's.
-pub fn source_of(job: &[u8], index: &[u16], id: Stretch, depth: u32, x: Element) -> Source
+pub fn source_of(job: &[u8], index: &[u16], id: Stretch, depth: u32, x: Element) -> Option<Source>
     requires { Ready job.now index.now × (id.start + id.len ≤ length job.now) }
     ensures { (y : ℕ × ElementDef) → ElementSays job.now x y
         → Tells job.now result (otherwise (job_of job.now) (stretch_of job.now id) depth y.0 y.1) }
 {
     let held = envelope::field_at(depth as usize, x.number);
     match held {
-        Held::Field(f) => {
-            return field_source(job, index, f, x);
-        }
-        Held::Nothing => {
-            return spec_source(job, index, id, x);
-        }
+        Some(f) => field_source(job, index, f, x),
+        None => Some(spec_source(job, index, id, x)),
     }
 }

@@ -1,8 +1,7 @@
 // The trigger and the closer of an envelope loop.
 #![tactic(auto)]
 
-ghost use Rattle.std.specs.Prelude.{◌≡◌, List, [], ℕ, ◌<◌};
-ghost use Rattle.std.proofs.Math.Option.{some};
+ghost use Rattle.std.specs.Prelude.{◌≡◌, List, [], ℕ, ◌<◌, Some};
 ghost use Rattle.format.specs.Spec.{Control};
 ghost use Rattle.format.specs.Sections.{job_of};
 ghost use Rattle.format.specs.Ask.{loop_of};
@@ -20,7 +19,7 @@ use crate::opener::{Frame, put_opener};
 use emit::state::{Counts, From};
 use emit::{closer, signs, state};
 use segment::Value;
-use spec::ids::{ControlRule, Controls, LoopId, Text};
+use spec::ids::{ControlRule, LoopId, Stretch};
 
 pub mod given;
 pub mod number;
@@ -62,7 +61,7 @@ fn open_loop(
     opener: u32,
 ) -> Counts
     requires { Ready job.now index.now × Within s × (l.0 < 32) }
-    ensures { (k : Control) (p : List ℕ) → k.opener ≡ opener → (loop_of (job_of job.now) l.0).control ≡ some k
+    ensures { (k : Control) (p : List ℕ) → k.opener ≡ opener → (loop_of (job_of job.now) l.0).control ≡ Some k
         → DidNumber l.0 (opener_out (job_of job.now) l.0) number (next number) s result doc.old doc.new segments.old segments.new findings.old findings.new p p }
 {
     let w = frame_of(job, index, l, opener, number);
@@ -100,10 +99,10 @@ pub fn write_opener(
 {
     let control = spec::loops::control(job, index, l);
     match control {
-        Controls::None => {
+        None => {
             return Numbered { counts: s, number };
         }
-        Controls::Is(c) => {
+        Some(c) => {
             let counts = open_loop(job, index, doc, segments, findings, s, number, l, c.opener);
             let after = state::next_number(number);
             return Numbered {
@@ -151,15 +150,15 @@ fn close_loop(
     children: usize,
     count: usize,
 ) -> Counts
-    requires { Ready job.now index.now × Within s × (l.0 < 32) × ((loop_of (job_of job.now) l.0).control ≡ some (rule_of c)) }
+    requires { Ready job.now index.now × Within s × (l.0 < 32) × ((loop_of (job_of job.now) l.0).control ≡ Some (rule_of c)) }
     ensures { (f p : List ℕ) → DidNumber l.0 (closer_out (job_of job.now) l.0 opened children count) number number s result doc.old doc.new segments.old segments.new f f p p }
 {
     let end = spec::loops::loop_end(job, index, l);
     match end {
-        Text::None => {
+        None => {
             return s;
         }
-        Text::Is(id) => {
+        Some(id) => {
             let control = repeated(job, index, number, l, c.opener, opened);
             let n = counted(c.children, children, count);
             let sep = signs::separators_of(job, index);
@@ -198,10 +197,10 @@ pub fn write_close(
 {
     let control = spec::loops::control(job, index, l);
     match control {
-        Controls::None => {
+        None => {
             return s;
         }
-        Controls::Is(c) => {
+        Some(c) => {
             return close_loop(
                 job, index, doc, segments, s, number, l, c, opened, children, count,
             );

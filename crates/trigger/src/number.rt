@@ -2,21 +2,19 @@
 ghost use Rattle.std.specs.Prelude.{◌≡◌};
 ghost use Rattle.format.specs.Spec.{Control};
 ghost use Rattle.format.specs.Sections.{job_of};
-ghost use Rattle.spec.specs.Answers.{number_of};
 ghost use Rattle.segment.specs.Pen.{value_text};
 ghost use Rattle.nest.specs.Ready.{Ready};
 ghost use Rattle.emit.specs.Envelope.{min_in, control_in};
 
 use segment::Value;
-use spec::ids::{LoopId, Number};
-use texts::envelope::Min;
+use spec::ids::LoopId;
 
-pub fn min_by(n: Number) -> Min
-    ensures { result ≡ min_in (number_of n) }
+pub fn min_by(n: Option<u32>) -> Option<usize>
+    ensures { result ≡ min_in n }
 {
     match n {
-        Number::None => Min::Free,
-        Number::Is(x) => Min::At(x as usize),
+        None => None,
+        Some(x) => Some(x as usize),
     }
 }
 

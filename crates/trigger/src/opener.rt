@@ -1,6 +1,5 @@
 // The trigger of an envelope loop, element by element.
-ghost use Rattle.std.specs.Prelude.{◌≡◌, true, List, [], ◌∷◌, ℕ, ◌+◌, ◌≤◌, ◌<◌, max, length, ltb};
-ghost use Rattle.std.proofs.Math.Option.{Option, none};
+ghost use Rattle.std.specs.Prelude.{◌≡◌, true, List, [], ◌∷◌, ℕ, ◌+◌, ◌≤◌, ◌<◌, max, length, ltb, Option, None};
 ghost use Rattle.lent.specs.Fit.{stretch, Noted, more};
 ghost use Rattle.format.specs.Spec.{Control, ElementDef, SegmentDef};
 ghost use Rattle.format.specs.Job.{Job};
@@ -20,18 +19,19 @@ ghost use Rattle.emit.specs.Puts.{nothing, put_all, part_at, place_of, held_in};
 ghost use Rattle.emit.specs.Written.{spot_of, words_of, tried};
 ghost use Rattle.emit.specs.Envelope.{Sourced, field_findings, padded_to, put_sourced, opener_put};
 ghost use Rattle.codec.specs.Maps.{rises_from};
-ghost use Rattle.trigger.specs.Source.{text_in, Tells};
+ghost use Rattle.texts.specs.Reason.{why_in};
+ghost use Rattle.trigger.specs.Source.{text_in, Short, Tells};
 ghost use Rattle.trigger.specs.Drawn.{Framed, element_put, put_by, Draws, Adds, Known, Opening, Drew, Told, Opened};
 
 use crate::given::{Source, source_of};
 use crate::number::min_by;
 use emit::cells::max_by;
-use emit::envelope::Held;
 use emit::findings::{Delimiters, Spot};
 use emit::{closer, envelope, findings};
 use segment::{Pen, Separators, Value};
 use spec::elements;
-use spec::ids::{Element, Elements, Place, Stretch};
+use spec::ids::{Element, Elements, Stretch};
+use texts::render::Refused;
 
 // A trigger: the separators, its identifier, that as a number, its depth, the element of its control number and that number's text.
 #[derive(Clone, Copy)]
@@ -59,7 +59,7 @@ pub struct Drawn {
 // ---- one text
 
 fn draw(doc: &mut [u8], job: &[u8], s: Separators, pen: Pen, stuck: bool, p: usize, v: Value) -> Pen
-    ensures { Draws s stuck (part_at p none (value_text job.now v) ∷ []) pen doc.old (pick stuck true (ltb p 1)) result doc.new }
+    ensures { Draws s stuck (part_at p None (value_text job.now v) ∷ []) pen doc.old (pick stuck true (ltb p 1)) result doc.new }
 {
     if stuck {
         return pen;
@@ -84,7 +84,7 @@ fn sticks(stuck: bool, p: usize) -> bool
 
 // The last filled element.
 fn reach(job: &[u8], last: usize, p: usize, v: Value) -> usize
-    ensures { result ≡ max last (last_element (part_at p none (value_text job.now v) ∷ [])) }
+    ensures { result ≡ max last (last_element (part_at p None (value_text job.now v) ∷ [])) }
 {
     if segment::is_empty(job, v) {
         return last;
@@ -95,12 +95,12 @@ fn reach(job: &[u8], last: usize, p: usize, v: Value) -> usize
     last
 }
 
-fn entries_of(field: Held) -> usize
+fn entries_of(field: Option<u8>) -> usize
     ensures { result ≡ on (held_field field) (λ f. 1) 0 }
 {
     match field {
-        Held::Nothing => 0,
-        Held::Field(_) => 1,
+        None => 0,
+        Some(_) => 1,
     }
 }
 
@@ -131,11 +131,11 @@ fn note_field(
     f: u8,
     p: u32,
     v: Value,
-    reason: u64,
+    reason: Option<Refused>,
     checked: bool,
 ) -> usize
     ensures { (j : Job) (trigger : List ℕ) → tried w.tried ≡ separators j.envelope → w.name ≡ number_from 0 trigger
-        → Noted findings.old at (words_of (field_findings j trigger p f (record { text = value_text job.now v; reason = reason; checked = checked }) (value_text job.now v))) result findings.new }
+        → Noted findings.old at (words_of (field_findings j trigger p f (record { text = value_text job.now v; reason = why_in reason; checked = checked }) (value_text job.now v))) result findings.new }
 {
     let spot = Spot {
         origin: 1,
@@ -156,18 +156,18 @@ fn note_text(
     findings: &mut [u64],
     at: usize,
     w: Frame,
-    field: Held,
+    field: Option<u8>,
     p: u32,
     v: Value,
-    reason: u64,
+    reason: Option<Refused>,
     checked: bool,
 ) -> usize
     ensures { (j : Job) (trigger : List ℕ) → tried w.tried ≡ separators j.envelope → w.name ≡ number_from 0 trigger
-        → Noted findings.old at (words_of (put_by j trigger p (held_field field) reason checked (value_text job.now v)).findings) result findings.new }
+        → Noted findings.old at (words_of (put_by j trigger p (held_field field) (why_in reason) checked (value_text job.now v)).findings) result findings.new }
 {
     match field {
-        Held::Nothing => lent::more(at, 0),
-        Held::Field(f) => note_field(job, findings, at, w, f, p, v, reason, checked),
+        None => lent::more(at, 0),
+        Some(f) => note_field(job, findings, at, w, f, p, v, reason, checked),
     }
 }
 
@@ -177,15 +177,15 @@ fn put_text(
     doc: &mut [u8],
     findings: &mut [u64],
     w: Frame,
-    field: Held,
+    field: Option<u8>,
     p: u32,
     v: Value,
-    reason: u64,
+    reason: Option<Refused>,
     checked: bool,
     at: Drawn,
 ) -> Drawn
     ensures { (j : Job) (trigger : List ℕ) → tried w.tried ≡ separators j.envelope → w.name ≡ number_from 0 trigger
-        → Adds w.sep (put_by j trigger p (held_field field) reason checked (value_text job.now v)) at result doc.old doc.new findings.old findings.new }
+        → Adds w.sep (put_by j trigger p (held_field field) (why_in reason) checked (value_text job.now v)) at result doc.old doc.new findings.old findings.new }
 {
     let noted = note_text(job, findings, at.findings, w, field, p, v, reason, checked);
     let s = w.sep;
@@ -208,10 +208,10 @@ fn put_text(
 // The text of a source, padded to its element's width unless it was refused.
 fn value_of(job: &[u8], src: Source, x: Element) -> Value
     requires { (length job.now ≤ 65536) × (src.count ≤ 48) }
-    ensures { (y : ℕ × ElementDef) → ElementSays job.now x y → value_text job.now result ≡ padded_to y.1 src.reason (text_in job.now src) }
+    ensures { (y : ℕ × ElementDef) → ElementSays job.now x y → value_text job.now result ≡ padded_to y.1 (why_in src.reason) (text_in job.now src) }
 {
     let bytes = src.bytes;
-    if 0 < src.reason {
+    if src.reason.is_some() {
         return Value {
             zeros: 0,
             bytes,
@@ -257,31 +257,32 @@ fn put_source(
     findings: &mut [u64],
     w: Frame,
     x: Element,
-    src: Source,
+    src: Option<Source>,
     at: Drawn,
 ) -> Drawn
-    requires { (length job.now ≤ 65536) × (src.count ≤ 48) }
+    requires { (length job.now ≤ 65536) × Short src }
     ensures { (j : Job) (trigger : List ℕ) (y : ℕ × ElementDef) (o : Option Sourced) → tried w.tried ≡ separators j.envelope → w.name ≡ number_from 0 trigger
         → ElementSays job.now x y → Tells job.now src o
         → Adds w.sep (on o (put_sourced j trigger y.0 y.1) nothing) at result doc.old doc.new findings.old findings.new }
 {
-    if src.there {
-        let v = value_of(job, src, x);
-        let field = src.field;
-        return put_text(
-            job,
-            doc,
-            findings,
-            w,
-            field,
-            x.number,
-            v,
-            src.reason,
-            src.checked,
-            at,
-        );
+    match src {
+        Some(from) => {
+            let v = value_of(job, from, x);
+            put_text(
+                job,
+                doc,
+                findings,
+                w,
+                from.field,
+                x.number,
+                v,
+                from.reason,
+                from.checked,
+                at,
+            )
+        }
+        None => skip(at),
     }
-    skip(at)
 }
 
 fn put_element(
@@ -300,18 +301,7 @@ fn put_element(
 {
     if x.number == w.opener {
         let v = w.control;
-        return put_text(
-            job,
-            doc,
-            findings,
-            w,
-            Held::Field(9),
-            x.number,
-            v,
-            0,
-            true,
-            at,
-        );
+        return put_text(job, doc, findings, w, Some(9), x.number, v, None, true, at);
     }
     let id = w.id;
     let src = source_of(job, index, id, w.depth, x);
@@ -343,6 +333,7 @@ fn put_elements(
         last: 0,
     };
     let mut rest = c;
+    // No `for`: the cursor over the elements counts itself.
     while 0 < rest.left {
         let x = elements::element(job, rest);
         drawn = put_element(job, index, doc, findings, w, x, drawn);
@@ -359,10 +350,10 @@ fn elements_in(job: &[u8], index: &[u16], id: Stretch) -> Elements
 {
     let place = spec::segments::elements_of(job, index, id);
     match place {
-        Place::Nowhere => {
+        None => {
             return Elements { left: 0, at: 0 };
         }
-        Place::At(p) => {
+        Some(p) => {
             return elements::elements(job, p);
         }
     }

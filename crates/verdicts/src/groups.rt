@@ -16,16 +16,9 @@ fn job(input: &[u8], at: usize, work: &mut [u8]) -> State {
     }
 }
 
-fn letter(rt: &impl Print, c: u8) -> io::Result<()> {
-    let text = [c; 1];
-    rt.write_all(&text)
-}
-
 fn text(rt: &impl Print, input: &[u8], at: usize, n: usize) -> io::Result<()> {
-    let mut k: usize = 0;
-    while k < n {
-        letter(rt, byte(input, plus(at, k)))?;
-        k += 1;
+    for k in 0..n {
+        rt.write_all(&[byte(input, plus(at, k))])?;
     }
     Ok(())
 }
@@ -39,7 +32,7 @@ fn name(rt: &impl Print, input: &[u8], at: usize, counts: &mut [u64]) -> io::Res
     Ok(plus(plus(at, 1), n))
 }
 
-// The place behind an edit of a kind; far past the input for an unknown one, so that no `end` is printed.
+// The place behind an edit; nothing for an unknown kind.
 fn edit(
     rt: &impl Print,
     kind: u8,
@@ -47,15 +40,16 @@ fn edit(
     s: State,
     work: &mut [u8],
     counts: &mut [u64],
-) -> io::Result<usize> {
-    match kind {
-        b'T' => lengths(rt, input, s, work, counts),
-        b'F' => flips(rt, input, s, work, counts),
-        b'P' => stamps(rt, input, s, work, counts),
-        b'S' => composed(rt, input, s, work, counts),
-        b'N' => name(rt, input, s.at, counts),
-        _ => Ok(1000000000),
-    }
+) -> io::Result<Option<usize>> {
+    let next = match kind {
+        b'T' => lengths(rt, input, s, work, counts)?,
+        b'F' => flips(rt, input, s, work, counts)?,
+        b'P' => stamps(rt, input, s, work, counts)?,
+        b'S' => composed(rt, input, s, work, counts)?,
+        b'N' => name(rt, input, s.at, counts)?,
+        _ => return Ok(None),
+    };
+    Ok(Some(next))
 }
 
 fn record(
@@ -64,59 +58,46 @@ fn record(
     s: State,
     work: &mut [u8],
     counts: &mut [u64],
-) -> io::Result<State> {
+) -> io::Result<Option<State>> {
     let kind = byte(input, s.at);
     let at = plus(s.at, 1);
     if kind == b'J' {
-        return Ok(job(input, at, work));
+        return Ok(Some(job(input, at, work)));
     }
-    let next = edit(
-        rt,
-        kind,
-        input,
-        State {
-            at: at,
-            job: s.job,
-            len: s.len,
-        },
-        work,
-        counts,
-    )?;
-    Ok(State {
-        at: next,
-        job: s.job,
-        len: s.len,
-    })
+    let next = edit(rt, kind, input, State { at, ..s }, work, counts)?;
+    Ok(next.map(|at| State { at, ..s }))
 }
 
+// The place behind the last record; nothing where one is of an unknown kind.
 fn records(
     rt: &impl Print,
     input: &[u8],
     work: &mut [u8],
     counts: &mut [u64],
-) -> io::Result<usize> {
+) -> io::Result<Option<usize>> {
     let mut s = State {
         at: 0,
         job: 0,
         len: 0,
     };
-    let mut turns = input.len();
-    while turns > 0 {
+    // each record takes a byte at least
+    for _ in 0..input.len() {
         if s.at >= input.len() {
-            return Ok(s.at);
+            return Ok(Some(s.at));
         }
-        s = record(rt, input, s, work, counts)?;
-        turns -= 1;
+        match record(rt, input, s, work, counts)? {
+            Some(next) => s = next,
+            None => return Ok(None),
+        }
     }
-    Ok(s.at)
+    Ok(Some(s.at))
 }
 
 // Every record; `end` where the last one ends with the input.
 pub(crate) fn all(rt: &impl Print, input: &[u8]) -> io::Result<()> {
     let mut work = [0u8; 65537];
     let mut counts = [0u64; 8];
-    let end = records(rt, input, &mut work, &mut counts)?;
-    if end == input.len() {
+    if records(rt, input, &mut work, &mut counts)? == Some(input.len()) {
         rt.write_all(b"end\n")?;
     }
     Ok(())

@@ -54,13 +54,11 @@ fn piece(input: &[u8], job: usize, m: Made, work: &mut [u8]) -> Made {
 // The pieces from a place to the point that ends them.
 fn pieces(input: &[u8], job: usize, at: usize, work: &mut [u8]) -> Made {
     let mut m = Made { at: at, len: 0 };
-    let mut turns = input.len();
-    while turns > 0 {
+    for _ in 0..input.len() {
         if byte(input, m.at) == b'.' {
             return m;
         }
         m = piece(input, job, m, work);
-        turns -= 1;
     }
     m
 }

@@ -20,10 +20,8 @@ pub(crate) fn lengths(
     counts: &mut [u64],
 ) -> io::Result<usize> {
     let end = plus(s.len, 1);
-    let mut n: usize = 0;
-    while n < end {
+    for n in 0..end {
         judge(rt, work, n, n, byte(input, plus(s.at, n)), counts)?;
-        n += 1;
     }
     Ok(plus(s.at, end))
 }
@@ -61,10 +59,8 @@ pub(crate) fn flips(
     work: &mut [u8],
     counts: &mut [u64],
 ) -> io::Result<usize> {
-    let mut i: usize = 0;
-    while i < s.len {
+    for i in 0..s.len {
         flipped(rt, input, s, i, work, counts)?;
-        i += 1;
     }
     Ok(plus(plus(s.at, 1), s.len))
 }
@@ -90,13 +86,6 @@ fn stamped(
     Ok(())
 }
 
-fn places(len: usize) -> usize {
-    if len < 4 {
-        return 0;
-    }
-    len - 3
-}
-
 // Four bytes at every place that has room for them.
 pub(crate) fn stamps(
     rt: &impl Print,
@@ -105,11 +94,9 @@ pub(crate) fn stamps(
     work: &mut [u8],
     counts: &mut [u64],
 ) -> io::Result<usize> {
-    let end = places(s.len);
-    let mut i: usize = 0;
-    while i < end {
+    let end = s.len.saturating_sub(3);
+    for i in 0..end {
         stamped(rt, input, s, i, work, counts)?;
-        i += 1;
     }
     Ok(plus(plus(s.at, 4), end))
 }

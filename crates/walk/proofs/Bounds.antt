@@ -1,20 +1,20 @@
 -- How much an instance can write and stop: no more than its order's items allow, with R rows at most in a table and W items at most in an order.
 use Prim.Native.Nat.{ℕ, zero, suc, ◌+◌, ◌-◌, ◌*◌, ◌≤◌, max}
-use mathlib.Core.Path.{◌≡◌, refl, sym, ap, ◌∙◌}
+use mathlib.Core.Path.{◌≡◌, refl, ◌∙◌}
 use mathlib.Core.Bool.{Bool, true, false, cond, ◌&&◌}
-use mathlib.Core.List.{List, [], ◌∷◌, ◌++◌, map}
-use mathlib.Core.Option.{Option, none, some}
+use mathlib.Core.List.{List, [], ◌∷◌, ◌++◌}
 use native.Mathlib.Nat.{add-mul, mul-le-mul_right}
 use native.Mathlib.Omega.{arith}
+use Rattle.std.specs.Prelude.{Option, None, Some}
 use lib.ListN.{length}
 use lib.Dec.{ltb}
 use Rattle.nest.specs.Lists.{each, on, sum}
 use Rattle.nest.specs.Outline.{Outline, Source, of_envelope, of_row, of_repeat, Item, segment, loop, item_loops, loop_of, kind_of, order_of, segment_of, planned, has_occurrence, row_count}
 use Rattle.nest.specs.Nest.{Row, hook, hooked, repeat_rows}
-use Rattle.nest.proofs.Sums.{sum_append, sum_each, sum_map, sum_same, sum_zero}
+use Rattle.nest.proofs.Sums.{sum_append, sum_each, sum_same, sum_zero}
 use Rattle.nest.proofs.Scan.{keep_length}
 use Rattle.walk.specs.Instances.{Context, outside, instances}
-use Rattle.walk.specs.Tour.{Step, enters, stop, opener, row_segment, fill, chunk, closer, writes, halts, segments_in, enters_in, stops_in, own_row, stop_at, chunks, chunks_of, row_steps, chunk_steps, repeat_steps, due_row, from_source, segment_steps, item_steps, body_steps, opened, children, close_steps, instance_steps, visits, tour_to, tour, census}
+use Rattle.walk.specs.Tour.{Step, enters, stop, opener, row_segment, chunk, closer, writes, halts, segments_in, enters_in, stops_in, own_row, stop_at, chunks, chunks_of, row_steps, chunk_steps, repeat_steps, due_row, from_source, segment_steps, item_steps, body_steps, opened, children, close_steps, instance_steps, visits, tour_to, tour, census}
 use Rattle.walk.proofs.Counts.{row_steps_sum, enters_each, enters_instance}
 use Rattle.walk.proofs.Own.{chunks_all}
 
@@ -80,12 +80,12 @@ module _ (j : Outline) (R W : ℕ) (f : Step → ℕ) (C : Counted j R f) where
   segment_bound l c i = go (ltb i (planned j l))
     where
       given : (t : ℕ) (x : Option ℕ) → sum f (on x (λ r. cond (has_occurrence j l i && due_row j l i t r) (row_segment l i t r ∷ []) []) []) ≤ suc R
-      given t none = omega arith
-      given t (some r) = choose (row_segment l i t r) (has_occurrence j l i && due_row j l i t r) (C.row l i t r)
+      given t None = omega arith
+      given t (Some r) = choose (row_segment l i t r) (has_occurrence j l i && due_row j l i t r) (C.row l i t r)
 
       owned : (t : ℕ) (x : Option Row) → sum f (on x (λ p. repeat_steps j l i t p.row) []) ≤ suc R
-      owned t none = omega arith
-      owned t (some p) = omega (arith, C.repeats l i t p.row)
+      owned t None = omega arith
+      owned t (Some p) = omega (arith, C.repeats l i t p.row)
 
       fits : (t : ℕ) (b : Bool) → sum f (cond b (on (own_row (kind_of j l) c) (λ p. repeat_steps j l i t p.row) []) []) ≤ suc R
       fits t true = owned t (own_row (kind_of j l) c)
@@ -129,10 +129,10 @@ module _ (j : Outline) (R W : ℕ) (f : Step → ℕ) (C : Counted j R f) where
       )
     where
       both_ends : (x : Option Row) (n m : ℕ) (b : Bool) → sum f (stop_at l x) + sum f (cond b (closer l (opened j l) n m ∷ []) []) ≤ 1
-      both_ends none n m true = omega (arith, C.ends l 0 0 n m (opened j l))
-      both_ends none n m false = omega arith
-      both_ends (some p) n m true = omega (arith, C.ends l p.table p.row n m (opened j l))
-      both_ends (some p) n m false = omega (arith, C.ends l p.table p.row n m (opened j l))
+      both_ends None n m true = omega (arith, C.ends l 0 0 n m (opened j l))
+      both_ends None n m false = omega arith
+      both_ends (Some p) n m true = omega (arith, C.ends l p.table p.row n m (opened j l))
+      both_ends (Some p) n m false = omega (arith, C.ends l p.table p.row n m (opened j l))
 
   scaled : {A : Type 0} (g h : A → ℕ) (xs : List A) → ((x : A) → g x ≤ h x * K) → sum g xs ≤ sum h xs * K
   scaled g h [] e = omega arith

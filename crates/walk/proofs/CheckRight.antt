@@ -4,9 +4,10 @@ use mathlib.Core.Path.{◌≡◌, refl, sym, ap, ◌∙◌}
 use mathlib.Core.Logic.{◌⊎◌, inl, inr, ◌↔◌}
 use mathlib.Core.Bool.{Bool, true, false, ◌&&◌, false≢true}
 use mathlib.Core.List.{[]}
-use mathlib.Core.Option.{none, some, none-ne-some, some-injective}
 use native.Mathlib.Omega.{arith}
 use native.Mathlib.Decide.{dec_lt}
+use Rattle.std.specs.Prelude.{None, Some}
+use Rattle.std.proofs.lemmas.Option.{none-some, same_Some}
 use lib.ListN.{length, get_or-eq_default}
 use lib.Dec.{eqb, ltb}
 use borrow.Author.Tests.{eq-eqb, eqb-true, lt-ltb, le-ltb, ltb-true, le-leb, leb-true}
@@ -27,7 +28,7 @@ loop_out : (j : Outline) (l : ℕ) → length j.loops ≤ l → loop_of j l ≡ 
 unfolding loop_of
 loop_out j l h = get_or-eq_default j.loops no_loop {n = l} h
 
-parent_out : (j : Outline) (l : ℕ) → length j.loops ≤ l → parent_of j l ≡ none
+parent_out : (j : Outline) (l : ℕ) → length j.loops ≤ l → parent_of j l ≡ None
 unfolding parent_of
 parent_out j l h = ap (λ d. d.parent) (loop_out j l h)
 
@@ -46,7 +47,7 @@ order_out : (j : Outline) (l : ℕ) → length j.order ≤ l → order_of j l �
 unfolding order_of
 order_out j l h = get_or-eq_default j.order [] {n = l} h
 
-table_out : (j : Outline) (t : ℕ) → length j.tables ≤ t → table_parent j t ≡ none
+table_out : (j : Outline) (t : ℕ) → length j.tables ≤ t → table_parent j t ≡ None
 unfolding table_parent table_of
 table_out j t h = ap (λ d. d.parent) (get_or-eq_default j.tables no_table {n = t} h)
 
@@ -77,7 +78,7 @@ module _ (j : Outline) where
       kid_in : (l k : ℕ) → l < L → 0 < times k (loop_of j l).children → k < L
       kid_in l k h q = ltb-true k L (of_true (loop_of j l).children _ (below_true L _ t.1.0 l h) k q)
 
-      parent_in : (k l : ℕ) → k < L → parent_of j k ≡ some l → l < L
+      parent_in : (k l : ℕ) → k < L → parent_of j k ≡ Some l → l < L
       parent_in k l h e = ltb-true l L (there_is (parent_of j k) _ (below_true L _ t.1.1.0 k h) l e)
 
       children : (l k : ℕ) → times k (loop_of j l).children ≡ once (is (parent_of j k) l)
@@ -85,7 +86,7 @@ module _ (j : Outline) where
         where
           stranger : L ≤ l → (b : Bool) → is (parent_of j k) l ≡ b → once b ≡ 0
           stranger h true e =
-              let q : parent_of j k ≡ some l = is_some (parent_of j k) l e in
+              let q : parent_of j k ≡ Some l = is_some (parent_of j k) l e in
               absurd (omega (arith, h, parent_in k l (in_range j k l q) q))
           stranger h false e = refl
 
@@ -162,26 +163,26 @@ module _ (j : Outline) where
   of_rows : (t : ℕ) (k : Kind) → k ≡ rows t → rows_of t k ≡ true
   of_rows t k e = rw e (eq-eqb t t refl)
 
-  row_table_lem : (t : ℕ) (k : Kind) → row_table k ≡ some t → k ≡ rows t
-  row_table_lem t absent e = absurd (none-ne-some t e)
-  row_table_lem t envelope e = absurd (none-ne-some t e)
-  row_table_lem t implied e = absurd (none-ne-some t e)
-  row_table_lem t (inside u) e = absurd (none-ne-some t e)
-  row_table_lem t (groups u) e = absurd (none-ne-some t e)
-  row_table_lem t (rows u) e = ap rows (some-injective u t e)
+  row_table_lem : (t : ℕ) (k : Kind) → row_table k ≡ Some t → k ≡ rows t
+  row_table_lem t absent e = absurd (none-some t e)
+  row_table_lem t envelope e = absurd (none-some t e)
+  row_table_lem t implied e = absurd (none-some t e)
+  row_table_lem t (inside u) e = absurd (none-some t e)
+  row_table_lem t (groups u) e = absurd (none-some t e)
+  row_table_lem t (rows u) e = ap rows (same_Some u t e)
 
-  repeat_table_lem : (t : ℕ) (s : Source) → repeat_table s ≡ some t → s ≡ of_repeat t
-  repeat_table_lem t of_envelope e = absurd (none-ne-some t e)
-  repeat_table_lem t (of_row u) e = absurd (none-ne-some t e)
-  repeat_table_lem t (of_repeat u) e = ap of_repeat (some-injective u t e)
+  repeat_table_lem : (t : ℕ) (s : Source) → repeat_table s ≡ Some t → s ≡ of_repeat t
+  repeat_table_lem t of_envelope e = absurd (none-some t e)
+  repeat_table_lem t (of_row u) e = absurd (none-some t e)
+  repeat_table_lem t (of_repeat u) e = ap of_repeat (same_Some u t e)
 
-  names : (u : ℕ) (k : Kind) → named k ≡ some u → (k ≡ rows u) ⊎ (k ≡ groups u)
-  names u absent e = absurd (none-ne-some u e)
-  names u envelope e = absurd (none-ne-some u e)
-  names u implied e = absurd (none-ne-some u e)
-  names u (inside v) e = absurd (none-ne-some u e)
-  names u (rows v) e = inl (ap rows (some-injective v u e))
-  names u (groups v) e = inr (ap groups (some-injective v u e))
+  names : (u : ℕ) (k : Kind) → named k ≡ Some u → (k ≡ rows u) ⊎ (k ≡ groups u)
+  names u absent e = absurd (none-some u e)
+  names u envelope e = absurd (none-some u e)
+  names u implied e = absurd (none-some u e)
+  names u (inside v) e = absurd (none-some u e)
+  names u (rows v) e = inl (ap rows (same_Some v u e))
+  names u (groups v) e = inr (ap groups (same_Some v u e))
 
   has_row : (k : Kind) → on (row_table k) (λ u. true) false ≡ true → (u : ℕ) × (k ≡ rows u)
   has_row absent e = absurd (false≢true e)
@@ -275,12 +276,12 @@ module _ (j : Outline) where
       occurrences : (l i : ℕ) → i < S l → (segment_of j l i).occurrence < (loop_of j l).occurrences
       occurrences l i h = ltb-true _ _ (below_true (S l) _ (below_true L _ t₀.1.1.1.1.1.1.1.0 l (planned_in_lem l i h)) i h)
 
-      parents_plain : (t u : ℕ) → table_parent j t ≡ some u → plain j u ≡ true
+      parents_plain : (t u : ℕ) → table_parent j t ≡ Some u → plain j u ≡ true
       parents_plain t u e = go (dec_lt t (length j.tables))
         where
           go : Dec (t < length j.tables) → plain j u ≡ true
           go (yes h) = there_is (table_parent j t) (plain j) (below_true (length j.tables) _ t₀.1.1.1.1.1.1.1.1.0 t h) u e
-          go (no h) = absurd (none-ne-some u (sym (table_out j t (omega arith)) ∙ e))
+          go (no h) = absurd (none-some u (sym (table_out j t (omega arith)) ∙ e))
 
       three : (l t : ℕ) → kind_of j l ≡ rows t → Three j l t
       three l t e = fits_three j T L l t e (there_is (row_table (kind_of j l)) (fits j L l) (below_true L _ t₀.1.1.1.1.1.1.1.1.1.0 l (rows_in_lem l t e)) t (ap row_table e))

@@ -3,8 +3,9 @@ use Prim.Native.Nat.{ℕ, zero, suc, ◌+◌, ◌<◌}
 use mathlib.Core.Path.{◌≡◌, refl, sym, ap, ◌∙◌, subst}
 use mathlib.Core.Logic.{◌⊎◌, inl, inr}
 use mathlib.Core.Bool.{Bool, true, false, true≢false, false≢true}
-use mathlib.Core.Option.{Option, none, some, map}
 use native.Mathlib.Omega.{arith}
+use Rattle.std.specs.Prelude.{Option, None, Some}
+use Rattle.std.specs.Option.{option_map}
 use lib.ListN.{length}
 use Rattle.nest.specs.Lists.{on, from}
 use Rattle.nest.specs.Outline.{Outline, Kind, absent, envelope, implied, rows, inside, groups, parent_of, kind_of, table_parent, row_count, plain}
@@ -35,10 +36,10 @@ not_rows j l k e f v g = true≢false (ap is_rows (sym g ∙ e) ∙ f)
 -- from a row loop up to l, with no row loop above the first
 pub data Stretch (j : Outline) (b : ℕ) : ℕ → Type 0 where
   bottom : Stretch j b b
-  onward : {l p : ℕ} → parent_of j l ≡ some p → NotRows j p → Stretch j b l → Stretch j b p
+  onward : {l p : ℕ} → parent_of j l ≡ Some p → NotRows j p → Stretch j b l → Stretch j b p
 
 module _ {j : Outline} where
-  pub stretch_above : {b l p : ℕ} → Stretch j b l → parent_of j l ≡ some p → Above j p b
+  pub stretch_above : {b l p : ℕ} → Stretch j b l → parent_of j l ≡ Some p → Above j p b
   stretch_above bottom e = Above.next e
   stretch_above (onward f d s) e = above_trans (Above.next e) (stretch_above s f)
 
@@ -58,7 +59,7 @@ module _ {j : Outline} where
 -- x is the row of w that row o of u is below, or is; or there is none
 abbrev RowState : Outline → ℕ → ℕ → ℕ → Option ℕ → Type 0
 RowState j u o w x =
-    ((i : ℕ) × (x ≡ some i) × (i < row_count j w) × (Adrift j u o → Adrift j w i) × (Adrift j w i → Adrift j u o)) ⊎ ((x ≡ none) × Adrift j u o)
+    ((i : ℕ) × (x ≡ Some i) × (i < row_count j w) × (Adrift j u o → Adrift j w i) × (Adrift j w i → Adrift j u o)) ⊎ ((x ≡ None) × Adrift j u o)
 
 record Reached (j : Outline) (t r a u o : ℕ) (l w : ℕ) (x : Option ℕ) (n : ℕ) : Type 0 where
   counted : Counted j t r l w x n
@@ -74,9 +75,9 @@ record Top (j : Outline) (t r a u o : ℕ) (bound : ℕ) : Type 0 where
   w : ℕ
   x : Option ℕ
   n : ℕ
-  is_root : parent_of j l ≡ none
+  is_root : parent_of j l ≡ None
   reached : Reached j t r a u o l w x n
-  no_parent : table_parent j w ≡ none
+  no_parent : table_parent j w ≡ None
   small : n < bound
 
 module _ (j : Outline) (C : Complete j) where
@@ -84,14 +85,14 @@ module _ (j : Outline) (C : Complete j) where
   row_loop_same : {l m v : ℕ} → kind_of j l ≡ rows v → kind_of j m ≡ rows v → l ≡ m
   row_loop_same {l} {m} {v} p q = let e : ExactlyOne (λ l. kind_of j l ≡ rows v) = C.row_loop v (C.rows_plain l v p) in e.only l p ∙ sym (e.only m q)
 
-  not_own_parent : (b w : ℕ) → kind_of j b ≡ rows w → table_parent j w ≡ some w → ⊥
+  not_own_parent : (b w : ℕ) → kind_of j b ≡ rows w → table_parent j w ≡ Some w → ⊥
   not_own_parent b w e q = go (C.above_all b w w e (TableAbove.next q))
     where
       go : (m : ℕ) × (kind_of j m ≡ rows w) × Above j m b → ⊥
       go (m, f, a) = no_self C.tree (subst (λ i. Above j i b) (row_loop_same f e) a)
 
   -- the groups on the stretch are of its table
-  pub groups_own : (b w l p v : ℕ) → kind_of j b ≡ rows w → Stretch j b l → parent_of j l ≡ some p → kind_of j p ≡ groups v → v ≡ w
+  pub groups_own : (b w l p v : ℕ) → kind_of j b ≡ rows w → Stretch j b l → parent_of j l ≡ Some p → kind_of j p ≡ groups v → v ≡ w
   groups_own b w l p v e s q f = which ends.on_path
     where
       ends : GroupEnds j p v b
@@ -113,29 +114,29 @@ module _ (j : Outline) (C : Complete j) where
       which (inr z) = cases (stretch_split s z)
 
   -- the next row loop up is that of the table's parent
-  pub rows_parent : (b w l p v : ℕ) → kind_of j b ≡ rows w → Stretch j b l → parent_of j l ≡ some p → kind_of j p ≡ rows v → table_parent j w ≡ some v
+  pub rows_parent : (b w l p v : ℕ) → kind_of j b ≡ rows w → Stretch j b l → parent_of j l ≡ Some p → kind_of j p ≡ rows v → table_parent j w ≡ Some v
   rows_parent b w l p v e s q f = which (C.above_only b w p v e (stretch_above s q) f)
     where
-      at_next : (u m : ℕ) → table_parent j w ≡ some u → TableAbove j v u → kind_of j m ≡ rows u → (m ≡ p) ⊎ Above j m p → table_parent j w ≡ some v
-      at_next u m g z k (inl y) = g ∙ ap {B = Option ℕ} some (rows_same (ap (kind_of j) (sym y) ∙ k) f)
+      at_next : (u m : ℕ) → table_parent j w ≡ Some u → TableAbove j v u → kind_of j m ≡ rows u → (m ≡ p) ⊎ Above j m p → table_parent j w ≡ Some v
+      at_next u m g z k (inl y) = g ∙ ap {B = Option ℕ} Some (rows_same (ap (kind_of j) (sym y) ∙ k) f)
       at_next u m g z k (inr y) = again (C.above_all m u v k z)
         where
-          again : (i : ℕ) × (kind_of j i ≡ rows v) × Above j i m → table_parent j w ≡ some v
+          again : (i : ℕ) × (kind_of j i ≡ rows v) × Above j i m → table_parent j w ≡ Some v
           again (i, h, a) = absurd (no_self C.tree (above_trans (subst (λ y. Above j y m) (row_loop_same h f) a) y))
 
-      cases : (u m : ℕ) → table_parent j w ≡ some u → TableAbove j v u → kind_of j m ≡ rows u → NotRows j m ⊎ Above j m l → table_parent j w ≡ some v
+      cases : (u m : ℕ) → table_parent j w ≡ Some u → TableAbove j v u → kind_of j m ≡ rows u → NotRows j m ⊎ Above j m l → table_parent j w ≡ Some v
       cases u m g z k (inl d) = absurd (d u k)
       cases u m g z k (inr a) = at_next u m g z k (above_step a q)
 
-      found : (u : ℕ) → table_parent j w ≡ some u → TableAbove j v u → (m : ℕ) × (kind_of j m ≡ rows u) × Above j m b → table_parent j w ≡ some v
+      found : (u : ℕ) → table_parent j w ≡ Some u → TableAbove j v u → (m : ℕ) × (kind_of j m ≡ rows u) × Above j m b → table_parent j w ≡ Some v
       found u g z (m, k, a) = cases u m g z k (stretch_split s a)
 
-      which : TableAbove j v w → table_parent j w ≡ some v
+      which : TableAbove j v w → table_parent j w ≡ Some v
       which (TableAbove.next g) = g
       which (TableAbove.higher {p = u} g z) = found u g z (C.above_all b w u e (TableAbove.next g))
 
   -- at the root no parent is left
-  pub root_table : (b w l : ℕ) → kind_of j b ≡ rows w → Stretch j b l → parent_of j l ≡ none → table_parent j w ≡ none
+  pub root_table : (b w l : ℕ) → kind_of j b ≡ rows w → Stretch j b l → parent_of j l ≡ None → table_parent j w ≡ None
   root_table b w l e s q = go (table_parent j w) refl
     where
       cases : (u m : ℕ) → kind_of j m ≡ rows u → NotRows j m ⊎ Above j m l → ⊥
@@ -145,28 +146,28 @@ module _ (j : Outline) (C : Complete j) where
       found : (u : ℕ) → (m : ℕ) × (kind_of j m ≡ rows u) × Above j m b → ⊥
       found u (m, k, a) = cases u m k (stretch_split s a)
 
-      go : (x : Option ℕ) → table_parent j w ≡ x → x ≡ none
-      go none g = refl
-      go (some u) g = absurd (found u (C.above_all b w u e (TableAbove.next g)))
+      go : (x : Option ℕ) → table_parent j w ≡ x → x ≡ None
+      go None g = refl
+      go (Some u) g = absurd (found u (C.above_all b w u e (TableAbove.next g)))
 
   module _ (t r a u o : ℕ) (S : StopsAt j t r a u o) where
-    row_small : (w : ℕ) (x : Option ℕ) → RowState j u o w x → (i : ℕ) → x ≡ some i → i < row_count j w
+    row_small : (w : ℕ) (x : Option ℕ) → RowState j u o w x → (i : ℕ) → x ≡ Some i → i < row_count j w
     row_small w x (inl (i, e, h, f, g)) k q = subst (λ y. y < row_count j w) (same_some e q) h
     row_small w x (inr (e, d)) k q = absurd (none_or_some e q)
 
     -- the row one table up
-    row_up : (w v : ℕ) (x : Option ℕ) → plain j w ≡ true → table_parent j w ≡ some v → RowState j u o w x → RowState j u o v (on x (λ i. referred j w i v) none)
+    row_up : (w v : ℕ) (x : Option ℕ) → plain j w ≡ true → table_parent j w ≡ Some v → RowState j u o w x → RowState j u o v (on x (λ i. referred j w i v) None)
     row_up w v x p q (inr (e, d)) = inr (rw e, d)
     row_up w v x p q (inl (i, e, h, f, g)) = rw e (go (referred j w i v) refl)
       where
         go : (y : Option ℕ) → referred j w i v ≡ y → RowState j u o v (referred j w i v)
-        go none z = inr (z, g (adrift_here j w i v p q z))
-        go (some k) z =
-            let hung : hangs j w i ≡ some (row_of v k) = hangs_parent j w i v p q ∙ ap (map (row_of v)) z in
+        go None z = inr (z, g (adrift_here j w i v p q z))
+        go (Some k) z =
+            let hung : hangs j w i ≡ Some (row_of v k) = hangs_parent j w i v p q ∙ ap (option_map (row_of v)) z in
             inl (k, z, referred_exists j w i v k z, (λ d. adrift_up j w i (row_of v k) hung (f d)), (λ d. g (above hung d)))
 
     -- one loop up
-    module _ (l w n p : ℕ) (x : Option ℕ) (R : Reached j t r a u o l w x n) (e : parent_of j l ≡ some p) where
+    module _ (l w n p : ℕ) (x : Option ℕ) (R : Reached j t r a u o l w x n) (e : parent_of j l ≡ Some p) where
       way_on : OnWay j a p
       way_on = up R.way
         where
@@ -188,10 +189,10 @@ module _ (j : Outline) (C : Complete j) where
           let q₂ : kind_of j p ≡ groups w = q ∙ ap groups own in
           (w, x, past (not_rows j p (groups v) q refl) (by_groups j C t r a u o S l p w n x e R.way R.counted q₂ (not_own_parent R.base w R.base_rows)))
       step (rows v) q m =
-          let parent : table_parent j w ≡ some v = rows_parent R.base w l p v R.base_rows R.stretch e q in
+          let parent : table_parent j w ≡ Some v = rows_parent R.base w l p v R.base_rows R.stretch e q in
           let plain-w : plain j w ≡ true = C.rows_plain R.base w R.base_rows in (
             v,
-            on x (λ i. referred j w i v) none,
+            on x (λ i. referred j w i v) None,
             record {
               counted = by_rows j C t r a u o S l p w n x e R.way R.counted v q parent plain-w (row_small w x R.row);
               way = way_on;
@@ -209,7 +210,7 @@ module _ (j : Outline) (C : Complete j) where
       where
         go : (y : Option ℕ) → parent_of j l ≡ y
             → ((l w n : ℕ) (x : Option ℕ) → climbs j h l ≡ true → Reached j t r a u o l w x n → Top j t r a u o (n + h)) → Top j t r a u o (n + suc h)
-        go none e further = record {
+        go None e further = record {
           l = l;
           w = w;
           x = x;
@@ -219,7 +220,7 @@ module _ (j : Outline) (C : Complete j) where
           no_parent = root_table R.base w l R.base_rows R.stretch e;
           small = omega arith;
         }
-        go (some p) e further = on_top (step l w n p x R e (kind_of j p) refl (C.above_kinds R.base w p R.base_rows (stretch_above R.stretch e)))
+        go (Some p) e further = on_top (step l w n p x R e (kind_of j p) refl (C.above_kinds R.base w p R.base_rows (stretch_above R.stretch e)))
           where
             wider : Top j t r a u o (suc n + h) → Top j t r a u o (n + suc h)
             wider T = record {
@@ -238,7 +239,7 @@ module _ (j : Outline) (C : Complete j) where
 
     top : o < row_count j u → Top j t r a u o (1 + length j.loops)
     top h =
-        climb (length j.loops) a u 1 (some o) (C.tree.no_ring a (omega (arith, planned_range j a u S.is_rows, C.plan_entries))) (record {
+        climb (length j.loops) a u 1 (Some o) (C.tree.no_ring a (omega (arith, planned_range j a u S.is_rows, C.plan_entries))) (record {
           counted = start j C t r a u o S;
           way = inl refl;
           base = a;
@@ -249,11 +250,11 @@ module _ (j : Outline) (C : Complete j) where
 
     -- ---- the whole walk
 
-    rows_outside : (w : ℕ) → plain j w ≡ true → table_parent j w ≡ none → rows_in j w outside ≡ from 0 (row_count j w)
+    rows_outside : (w : ℕ) → plain j w ≡ true → table_parent j w ≡ None → rows_in j w outside ≡ from 0 (row_count j w)
     unfolding rows_in held_in
     rows_outside w e q = rw (e, q)
 
-    two_roots : (k l : ℕ) → parent_of j k ≡ none → parent_of j l ≡ none → OnWay j a k → OnWay j a l → k ≡ l
+    two_roots : (k l : ℕ) → parent_of j k ≡ None → parent_of j l ≡ None → OnWay j a k → OnWay j a l → k ≡ l
     two_roots k l e f (inl p) (inl q) = p ∙ sym q
     two_roots k l e f (inl p) (inr q) = absurd (none_or_some (ap (parent_of j) (sym p) ∙ e) (above_has_parent q).1)
     two_roots k l e f (inr p) (inl q) = absurd (none_or_some (ap (parent_of j) (sym q) ∙ f) (above_has_parent p).1)

@@ -3,7 +3,7 @@ use Prim.Native.Nat.{ℕ, zero, suc, ◌<◌}
 use mathlib.Core.Path.{◌≡◌, refl, sym, ap, ◌∙◌, subst}
 use mathlib.Core.Logic.{◌⊎◌, inl, inr}
 use mathlib.Core.Bool.{Bool, true, false, ◌&&◌, false≢true}
-use mathlib.Core.Option.{Option, none, some}
+use Rattle.std.specs.Prelude.{Option, None, Some}
 use lib.ListN.{length}
 use lib.Dec.{eqb}
 use borrow.Author.Tests.{eq-eqb, eqb-true}
@@ -16,13 +16,13 @@ use Rattle.walk.proofs.Tests.{both}
 use Rattle.walk.proofs.Climb.{not_rows, Stretch, bottom, onward, stretch_above, groups_own, rows_parent, root_table}
 
 -- a step up: what the test says at a parent
-up : (j : Outline) (h l w p : ℕ) → fits j (suc h) l w ≡ true → parent_of j l ≡ some p → past j (fits j h p) w (kind_of j p) ≡ true
+up : (j : Outline) (h l w p : ℕ) → fits j (suc h) l w ≡ true → parent_of j l ≡ Some p → past j (fits j h p) w (kind_of j p) ≡ true
 unfolding fits
 up j h l w p f e = rw e at f
 
 -- what past says of each kind: it may stand, and the walk goes on with the same table or with the parent
 past_on : (j : Outline) (g : ℕ → Bool) (w : ℕ) (k : Kind) → past j g w k ≡ true
-    → (may_stand k ≡ true) × (((between w k ≡ true) × (g w ≡ true)) ⊎ ((v : ℕ) × (k ≡ rows v) × (table_parent j w ≡ some v) × (g v ≡ true)))
+    → (may_stand k ≡ true) × (((between w k ≡ true) × (g w ≡ true)) ⊎ ((v : ℕ) × (k ≡ rows v) × (table_parent j w ≡ Some v) × (g v ≡ true)))
 past_on j g w absent e = absurd (false≢true e)
 past_on j g w envelope e = (refl, inl (refl, e))
 past_on j g w implied e = (refl, inl (refl, e))
@@ -41,7 +41,7 @@ kinds_fit j zero l w m f a = absurd (false≢true f)
 kinds_fit j (suc h) l w m f (Above.next e) = (past_on j (fits j h m) w (kind_of j m) (up j h l w m f e)).0
 kinds_fit j (suc h) l w m f (Above.higher {p = p} e a) = go (past_on j (fits j h p) w (kind_of j p) (up j h l w p f e)).1 (λ v g. kinds_fit j h p v m g a)
   where
-    go : ((between w (kind_of j p) ≡ true) × (fits j h p w ≡ true)) ⊎ ((v : ℕ) × (kind_of j p ≡ rows v) × (table_parent j w ≡ some v) × (fits j h p v ≡ true))
+    go : ((between w (kind_of j p) ≡ true) × (fits j h p w ≡ true)) ⊎ ((v : ℕ) × (kind_of j p ≡ rows v) × (table_parent j w ≡ Some v) × (fits j h p v ≡ true))
         → ((v : ℕ) → fits j h p v ≡ true → may_stand (kind_of j m) ≡ true) → may_stand (kind_of j m) ≡ true
     go (inl (b, g)) more = more w g
     go (inr (v, k, q, g)) more = more v g
@@ -51,12 +51,12 @@ unfolding fits
 only_fit j zero l w m u f a k = absurd (false≢true f)
 only_fit j (suc h) l w m u f (Above.next e) k = go (past_on j _ w (kind_of j m) (up j h l w m f e)).1
   where
-    go : ((between w (kind_of j m) ≡ true) × (fits j h m w ≡ true)) ⊎ ((v : ℕ) × (kind_of j m ≡ rows v) × (table_parent j w ≡ some v) × (fits j h m v ≡ true)) → TableAbove j u w
+    go : ((between w (kind_of j m) ≡ true) × (fits j h m w ≡ true)) ⊎ ((v : ℕ) × (kind_of j m ≡ rows v) × (table_parent j w ≡ Some v) × (fits j h m v ≡ true)) → TableAbove j u w
     go (inl (b, g)) = absurd (not_between w u (kind_of j m) k b)
-    go (inr (v, q, r, g)) = TableAbove.next (r ∙ ap {B = Option ℕ} some (rows_same q k))
+    go (inr (v, q, r, g)) = TableAbove.next (r ∙ ap {B = Option ℕ} Some (rows_same q k))
 only_fit j (suc h) l w m u f (Above.higher {p = p} e a) k = go (past_on j (fits j h p) w (kind_of j p) (up j h l w p f e)).1 (λ v g. only_fit j h p v m u g a k)
   where
-    go : ((between w (kind_of j p) ≡ true) × (fits j h p w ≡ true)) ⊎ ((v : ℕ) × (kind_of j p ≡ rows v) × (table_parent j w ≡ some v) × (fits j h p v ≡ true))
+    go : ((between w (kind_of j p) ≡ true) × (fits j h p w ≡ true)) ⊎ ((v : ℕ) × (kind_of j p ≡ rows v) × (table_parent j w ≡ Some v) × (fits j h p v ≡ true))
         → ((v : ℕ) → fits j h p v ≡ true → TableAbove j u v) → TableAbove j u w
     go (inl (b, g)) more = more w g
     go (inr (v, q, r, g)) more = TableAbove.higher r (more v g)
@@ -72,33 +72,33 @@ all_fit j (suc h) l w u f a = at_parent (parent_of j l) refl (all_fit j h)
     Rest : Type 0
     Rest = (l w u : ℕ) → fits j h l w ≡ true → TableAbove j u w → Found j u l
 
-    raise : (p : ℕ) → parent_of j l ≡ some p → Found j u p → Found j u l
+    raise : (p : ℕ) → parent_of j l ≡ Some p → Found j u p → Found j u l
     raise p e (m, k, b) = (m, k, Above.higher e b)
 
-    parented : TableAbove j u w → (q : ℕ) × (table_parent j w ≡ some q)
+    parented : TableAbove j u w → (q : ℕ) × (table_parent j w ≡ Some q)
     parented (TableAbove.next {u = q} e) = (q, e)
     parented (TableAbove.higher {p = q} e b) = (q, e)
 
-    no_more : (x : Option ℕ) → table_parent j w ≡ x → on x (λ i. false) true ≡ true → x ≡ none
-    no_more none e q = refl
-    no_more (some i) e q = absurd (false≢true q)
+    no_more : (x : Option ℕ) → table_parent j w ≡ x → on x (λ i. false) true ≡ true → x ≡ None
+    no_more None e q = refl
+    no_more (Some i) e q = absurd (false≢true q)
 
-    row_step : (p v : ℕ) → parent_of j l ≡ some p → kind_of j p ≡ rows v → table_parent j w ≡ some v → fits j h p v ≡ true → Rest → TableAbove j u w → Found j u l
+    row_step : (p v : ℕ) → parent_of j l ≡ Some p → kind_of j p ≡ rows v → table_parent j w ≡ Some v → fits j h p v ≡ true → Rest → TableAbove j u w → Found j u l
     row_step p v e k q g more (TableAbove.next r) = (p, k ∙ ap rows (same_some q r), Above.next e)
     row_step p v e k q g more (TableAbove.higher {p = i} r b) = raise p e (more p v u g (subst (λ z. TableAbove j u z) (same_some r q) b))
 
-    step : (p : ℕ) → parent_of j l ≡ some p → Rest → ((between w (kind_of j p) ≡ true) × (fits j h p w ≡ true)) ⊎ ((v : ℕ) × (kind_of j p ≡ rows v) × (table_parent j w ≡ some v) × (fits j h p v ≡ true)) → Found j u l
+    step : (p : ℕ) → parent_of j l ≡ Some p → Rest → ((between w (kind_of j p) ≡ true) × (fits j h p w ≡ true)) ⊎ ((v : ℕ) × (kind_of j p ≡ rows v) × (table_parent j w ≡ Some v) × (fits j h p v ≡ true)) → Found j u l
     step p e more (inl (b, g)) = raise p e (more p w u g a)
     step p e more (inr (v, k, q, g)) = row_step p v e k q g more a
 
     at_parent : (x : Option ℕ) → parent_of j l ≡ x → Rest → Found j u l
-    at_parent none e more = absurd (none_or_some (no_more (table_parent j w) refl (rw e at f)) (parented a).1)
-    at_parent (some p) e more = step p e more (past_on j (fits j h p) w (kind_of j p) (up j h l w p f e)).1
+    at_parent None e more = absurd (none_or_some (no_more (table_parent j w) refl (rw e at f)) (parented a).1)
+    at_parent (Some p) e more = step p e more (past_on j (fits j h p) w (kind_of j p) (up j h l w p f e)).1
 
 -- from the row loop b of w up to k, only what may stand between
 data Clear (j : Outline) (w b : ℕ) : ℕ → Type 0 where
   none_yet : Clear j w b b
-  and_then : {k p : ℕ} → parent_of j k ≡ some p → between w (kind_of j p) ≡ true → Clear j w b k → Clear j w b p
+  and_then : {k p : ℕ} → parent_of j k ≡ Some p → between w (kind_of j p) ≡ true → Clear j w b k → Clear j w b p
 
 clear_split : {j : Outline} {w b k m : ℕ} → Clear j w b k → Above j m b → (between w (kind_of j m) ≡ true) ⊎ Above j m k
 clear_split none_yet a = inr a
@@ -112,7 +112,7 @@ clear_split {j} {w} {m = m} (and_then {k = k} {p = p} e c s) a = go (clear_split
     go (inl d) = inl d
     go (inr q) = at_end (above_step q e)
 
-clear_above : {j : Outline} {w b k p : ℕ} → Clear j w b k → parent_of j k ≡ some p → Above j p b
+clear_above : {j : Outline} {w b k p : ℕ} → Clear j w b k → parent_of j k ≡ Some p → Above j p b
 clear_above none_yet e = Above.next e
 clear_above (and_then f d s) e = above_trans (Above.next e) (clear_above s f)
 
@@ -141,7 +141,7 @@ module _ (j : Outline) (T : Tree j) (bottom-loop : ℕ) where
       Rest : Type 0
       Rest = (w b g u : ℕ) → fits j h p w ≡ true → kind_of j b ≡ rows w → (b ≡ bottom-loop) ⊎ Above j b bottom-loop → Clear j w b p → Above j g p → kind_of j g ≡ groups u → GroupEnds j g u bottom-loop
 
-      go : ((between w (kind_of j p) ≡ true) × (fits j h p w ≡ true)) ⊎ ((v : ℕ) × (kind_of j p ≡ rows v) × (table_parent j w ≡ some v) × (fits j h p v ≡ true)) → Rest → GroupEnds j g u bottom-loop
+      go : ((between w (kind_of j p) ≡ true) × (fits j h p w ≡ true)) ⊎ ((v : ℕ) × (kind_of j p ≡ rows v) × (table_parent j w ≡ Some v) × (fits j h p v ≡ true)) → Rest → GroupEnds j g u bottom-loop
       go (inl (d, y)) rest = rest w b g u y r o (and_then e d c) a q
       go (inr (v, i, z, y)) rest = rest v p g u y i (inr (climbed o)) none_yet a q
         where
@@ -159,7 +159,7 @@ fits_on j C (suc h) l w b c k s = at_parent (parent_of j l) refl (fits_on j C h)
     Rest : Type 0
     Rest = (l w b : ℕ) → climbs j h l ≡ true → kind_of j b ≡ rows w → Stretch j b l → fits j h l w ≡ true
 
-    at_kind : (p : ℕ) → parent_of j l ≡ some p → climbs j h p ≡ true → Rest → (i : Kind) → kind_of j p ≡ i → may_stand i ≡ true → past j (fits j h p) w i ≡ true
+    at_kind : (p : ℕ) → parent_of j l ≡ Some p → climbs j h p ≡ true → Rest → (i : Kind) → kind_of j p ≡ i → may_stand i ≡ true → past j (fits j h p) w i ≡ true
     at_kind p e d rest absent q m = m
     at_kind p e d rest envelope q m = rest p w b d k (onward e (not_rows j p envelope q refl) s)
     at_kind p e d rest implied q m = rest p w b d k (onward e (not_rows j p implied q refl) s)
@@ -172,8 +172,8 @@ fits_on j C (suc h) l w b c k s = at_parent (parent_of j l) refl (fits_on j C h)
         rw t (rest p w b d k (onward e (not_rows j p (groups v) q refl) s))
 
     at_parent : (x : Option ℕ) → parent_of j l ≡ x → Rest → on x (λ p. past j (fits j h p) w (kind_of j p)) (on (table_parent j w) (λ u. false) true) ≡ true
-    at_parent none e rest = ap (λ x. on x (λ u. false) true) (root_table j C b w l k s e)
-    at_parent (some p) e rest = at_kind p e (rw e at c) rest (kind_of j p) refl (C.above_kinds b w p k (stretch_above s e))
+    at_parent None e rest = ap (λ x. on x (λ u. false) true) (root_table j C b w l k s e)
+    at_parent (Some p) e rest = at_kind p e (rw e at c) rest (kind_of j p) refl (C.above_kinds b w p k (stretch_above s e))
 
 -- ---- both ways
 

@@ -1,50 +1,50 @@
 -- Contexts as code keeps them, one law for each way, and what each of them stands for.
 use Prim.Native.Nat.{ℕ, ◌+◌, ◌-◌, ◌<◌}
-use mathlib.Core.Path.{◌≡◌, refl, sym, ap, ◌∙◌}
-use mathlib.Core.Bool.{Bool, true, false}
-use mathlib.Core.Option.{Option, none, some}
+use mathlib.Core.Path.{◌≡◌, refl, ap}
 use native.Mathlib.Numerals.{add-one}
-use lib.ListN.{length, get_or, set}
+use lib.ListN.{length, get_or}
 use borrow.Author.Tests.{eq-eqb, ne_eqb}
 use Rattle.nest.specs.Found.{row_place}
-use Rattle.nest.specs.declared.Found.TheVariants.{Row, Nothing}
+use Rattle.std.specs.Prelude.{Some, None}
 use Rattle.nest.proofs.FoundLaws.{place_none, place_some}
 use Rattle.walk.specs.declared.Context.{Context as Kept}
-use Rattle.walk.specs.Instances.{Context, Piece, outside, offset, bound, in_row, in_piece}
+use Rattle.walk.specs.declared.Run.{Run as KeptRun}
+use Rattle.walk.specs.Instances.{Piece, outside, offset, bound, in_row, in_piece}
 use Rattle.walk.specs.Contexts.{context, run_by, context_by, kept_outside, kept_row, kept_piece, row_by, start_by, end_by}
 use Rattle.walk.proofs.Places.{context_outside, context_row, context_piece}
 
 -- ---- a table's row and bounds
 
-pub row_none : (c : Kept) (t : ℕ) → get_or c.rows t 0 ≡ 0 → row_by c t ≡ Nothing
+pub row_none : (c : Kept) (t : ℕ) → get_or c.rows t 0 ≡ 0 → row_by c t ≡ None
 unfolding row_by
 row_none c t e = place_none (get_or c.rows t 0) e
 
-pub row_some : (c : Kept) (t : ℕ) → (get_or c.rows t 0 ≡ 0 → ⊥) → row_by c t ≡ Row (record { 0 = get_or c.rows t 0 - 1 })
+pub row_some : (c : Kept) (t : ℕ) → (get_or c.rows t 0 ≡ 0 → ⊥) → row_by c t ≡ Some (record { 0 = get_or c.rows t 0 - 1 })
 unfolding row_by
 row_some c t d = place_some (get_or c.rows t 0) d
 
-pub start_run : (c : Kept) (t : ℕ) → c.grouped ≡ true → c.table ≡ t → start_by c t ≡ c.start
-unfolding start_by
-start_run c t e q = rw e (rw (eq-eqb c.table t q))
+module _ (c : Kept) (t : ℕ) (r : KeptRun) (e : c.run ≡ Some r) where
+  pub start_run : r.table.0 ≡ t → r.start ≡ start_by c t
+  unfolding start_by
+  start_run q = rw e (rw (eq-eqb r.table.0 t q))
 
-pub start_other : (c : Kept) (t : ℕ) → c.grouped ≡ true → (c.table ≡ t → ⊥) → start_by c t ≡ 0
-unfolding start_by
-start_other c t e d = rw e (rw (ne_eqb c.table t d))
+  pub start_other : (r.table.0 ≡ t → ⊥) → 0 ≡ start_by c t
+  unfolding start_by
+  start_other d = rw e (rw (ne_eqb r.table.0 t d))
 
-pub start_free : (c : Kept) (t : ℕ) → c.grouped ≡ false → start_by c t ≡ 0
+  pub end_run : (n : ℕ) → r.table.0 ≡ t → r.end ≡ end_by c t n
+  unfolding end_by
+  end_run n q = rw e (rw (eq-eqb r.table.0 t q))
+
+  pub end_other : (n : ℕ) → (r.table.0 ≡ t → ⊥) → n ≡ end_by c t n
+  unfolding end_by
+  end_other n d = rw e (rw (ne_eqb r.table.0 t d))
+
+pub start_free : (c : Kept) (t : ℕ) → c.run ≡ None → 0 ≡ start_by c t
 unfolding start_by
 start_free c t e = rw e
 
-pub end_run : (c : Kept) (t n : ℕ) → c.grouped ≡ true → c.table ≡ t → end_by c t n ≡ c.end
-unfolding end_by
-end_run c t n e q = rw e (rw (eq-eqb c.table t q))
-
-pub end_other : (c : Kept) (t n : ℕ) → c.grouped ≡ true → (c.table ≡ t → ⊥) → end_by c t n ≡ n
-unfolding end_by
-end_other c t n e d = rw e (rw (ne_eqb c.table t d))
-
-pub end_free : (c : Kept) (t n : ℕ) → c.grouped ≡ false → end_by c t n ≡ n
+pub end_free : (c : Kept) (t n : ℕ) → c.run ≡ None → n ≡ end_by c t n
 unfolding end_by
 end_free c t n e = rw e
 

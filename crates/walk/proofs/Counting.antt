@@ -3,16 +3,16 @@ use Prim.Native.Nat.{ℕ, zero, suc, ◌+◌, ◌-◌, ◌≤◌, ◌<◌}
 use mathlib.Core.Path.{◌≡◌, refl, sym, ap, ◌∙◌, subst}
 use mathlib.Core.Logic.{◌⊎◌, inl, inr}
 use mathlib.Core.Bool.{Bool, true, false, cond, not, ◌&&◌, true≢false}
-use mathlib.Core.List.{List, [], ◌∷◌, ◌++◌, map}
-use mathlib.Core.Option.{Option, none, some}
+use mathlib.Core.List.{List, [], ◌∷◌, ◌++◌}
 use native.Mathlib.Omega.{arith}
+use Rattle.std.specs.Prelude.{Option, None, Some}
 use lib.ListN.{length, take, drop}
 use lib.Dec.{eqb}
 use borrow.Author.Tests.{eq-eqb, ne_eqb, eqb-true}
 use Rattle.nest.specs.Lists.{once, each, some_of, is_empty_list, on, from, sum, times, is, part}
 use Rattle.nest.specs.Outline.{Outline, rows, groups, envelope, implied, Item, segment, loop, loop_of, parent_of, kind_of, order_of, table_parent, row_count, plain}
 use Rattle.nest.specs.Nest.{referred, held}
-use Rattle.walk.specs.Instances.{Context, Run, Piece, in_row, in_piece, pieces_of, at, held_in, rows_in, cut_to, offset, by_kind, instances}
+use Rattle.walk.specs.Instances.{Context, Run, Piece, in_row, in_piece, pieces_of, at, held_in, rows_in, cut_to, offset, instances}
 use Rattle.walk.specs.Tour.{Step, closer, opened, segments_in, stop_at, own_row, segment_steps, item_steps, body_steps, close_steps, children, instance_steps, visits}
 use Rattle.nest.specs.Outline.{item_loops, item_segments}
 use Rattle.walk.specs.Complete.{Above, next, Complete}
@@ -71,20 +71,20 @@ visits_sum j t r h l c =
 abbrev pub stands : Option ℕ → List ℕ → ℕ
 stands x xs = on x (λ o. times o xs) 0
 
-rows_below : (j : Outline) (w v : ℕ) (c : Context) (p : ℕ) → plain j w ≡ true → table_parent j w ≡ some v → rows_in j w (in_row v c p) ≡ held j w v p
+rows_below : (j : Outline) (w v : ℕ) (c : Context) (p : ℕ) → plain j w ≡ true → table_parent j w ≡ Some v → rows_in j w (in_row v c p) ≡ held j w v p
 unfolding rows_in held_in
 rows_below j w v c p e q = rw (e, q) (rw (eq-eqb v v refl))
 
-pub held_same : (j : Outline) (w : ℕ) (c : Context) (p : Piece) → (table_parent j w ≡ some w → ⊥) → held_in j w (at w p.head c.row) ≡ held_in j w c.row
+pub held_same : (j : Outline) (w : ℕ) (c : Context) (p : Piece) → (table_parent j w ≡ Some w → ⊥) → held_in j w (at w p.head c.row) ≡ held_in j w c.row
 unfolding held_in
 held_same j w c p d = go (table_parent j w) refl
   where
     go : (x : Option ℕ) → table_parent j w ≡ x
         → on x (λ u. on (at w p.head c.row u) (held j w u) []) (from 0 (row_count j w)) ≡ on x (λ u. on (c.row u) (held j w u) []) (from 0 (row_count j w))
-    go none e = refl
-    go (some q) e = rw (ne_eqb q w (λ z. d (e ∙ ap {B = Option ℕ} some z)))
+    go None e = refl
+    go (Some q) e = rw (ne_eqb q w (λ z. d (e ∙ ap {B = Option ℕ} Some z)))
 
-rows_piece : (j : Outline) (w : ℕ) (c : Context) (p : Piece) → plain j w ≡ true → (table_parent j w ≡ some w → ⊥) → p.start ≤ p.end → p.end ≤ length (rows_in j w c)
+rows_piece : (j : Outline) (w : ℕ) (c : Context) (p : Piece) → plain j w ≡ true → (table_parent j w ≡ Some w → ⊥) → p.start ≤ p.end → p.end ≤ length (rows_in j w c)
     → rows_in j w (in_piece w c p) ≡ take (p.end - p.start) (drop p.start (rows_in j w c))
 unfolding rows_in
 rows_piece j w c p e d h k = rw (e, held_same j w c p d, eq-eqb w w refl) (cut c.run refl)
@@ -102,8 +102,8 @@ rows_piece j w c p e d h k = rw (e, held_same j w c p d, eq-eqb w w refl) (cut c
         rw (a, b)
 
     cut : (x : Option Run) → c.run ≡ x → part (offset w x + p.start) (offset w x + p.end) whole ≡ take (p.end - p.start) (drop p.start (cut_to w x whole))
-    cut none q = plainly
-    cut (some run) q = which (eqb run.table w) refl (rw q at long)
+    cut None q = plainly
+    cut (Some run) q = which (eqb run.table w) refl (rw q at long)
       where
         which : (b : Bool) → eqb run.table w ≡ b → p.end ≤ length (cond (eqb run.table w) (part run.start run.end whole) whole)
             → part (cond (eqb run.table w) run.start 0 + p.start) (cond (eqb run.table w) run.start 0 + p.end) whole
@@ -147,7 +147,7 @@ abbrev pub Counted : Outline → ℕ → ℕ → ℕ → ℕ → Option ℕ → 
 Counted j t r l w x n = (h : ℕ) → n ≤ h → (c : Context) → stops_of t r (visits j h l c) ≡ stands x (rows_in j w c)
 
 module _ (j : Outline) (C : Complete j) where
-  siblings : {k m l : ℕ} → parent_of j k ≡ some l → parent_of j m ≡ some l → Above j m k → ⊥
+  siblings : {k m l : ℕ} → parent_of j k ≡ Some l → parent_of j m ≡ Some l → Above j m k → ⊥
   siblings {k} {m} {l} e f a = go (above_step a e)
     where
       go : (m ≡ l) ⊎ Above j m l → ⊥
@@ -155,7 +155,7 @@ module _ (j : Outline) (C : Complete j) where
       go (inr z) = no_self C.tree (above_trans z (next f))
 
   -- of the children of a loop one is on the way
-  way_same : {a k m l : ℕ} → parent_of j k ≡ some l → parent_of j m ≡ some l → OnWay j a k → OnWay j a m → m ≡ k
+  way_same : {a k m l : ℕ} → parent_of j k ≡ Some l → parent_of j m ≡ Some l → OnWay j a k → OnWay j a m → m ≡ k
   way_same e f (inl p) (inl q) = q ∙ sym p
   way_same {m = m} e f (inl p) (inr q) = absurd (siblings e f (subst (λ i. Above j m i) (sym p) q))
   way_same {k = k} e f (inr p) (inl q) = absurd (siblings f e (subst (λ i. Above j k i) (sym q) p))
@@ -166,7 +166,7 @@ module _ (j : Outline) (C : Complete j) where
       go (inr (inl z)) = absurd (siblings e f z)
       go (inr (inr z)) = absurd (siblings f e z)
 
-  way_up : {a k l : ℕ} → parent_of j k ≡ some l → OnWay j a k → Above j l a
+  way_up : {a k l : ℕ} → parent_of j k ≡ Some l → OnWay j a k → Above j l a
   way_up {l = l} e (inl p) = subst (λ i. Above j l i) p (next e)
   way_up e (inr q) = above_trans (next e) q
 
@@ -180,7 +180,7 @@ module _ (j : Outline) (C : Complete j) where
         ∙ sum_zero _ (instances j (suc h) l c) (λ i. omega (arith, S.elsewhere l i (λ z. d (inl z)), sum_none (λ k. stops_of t r (visits j h k i)) (item_loops (order_of j l)) (λ k q. off h k i (λ w. d (inr (way_up (order_child C l k q) w))))))
 
     -- where it stops
-    pub start : Counted j t r a u (some o) 1
+    pub start : Counted j t r a u (Some o) 1
     start zero q c = absurd (omega arith)
     start (suc h) q c = visits_sum j t r h a c ∙ rw (inst_rows j h a u c S.is_rows) (sum_map _ (in_row u c) (rows_in j u c) ∙ sum_same _ _ (rows_in j u c) one)
       where
@@ -191,7 +191,7 @@ module _ (j : Outline) (C : Complete j) where
         one p = omega (arith, S.there c p, under (in_row u c p))
 
     -- one loop up: each instance has what its child on the way has
-    module _ (k l w n : ℕ) (x : Option ℕ) (e : parent_of j k ≡ some l) (way : OnWay j a k) (below : Counted j t r k w x n) where
+    module _ (k l w n : ℕ) (x : Option ℕ) (e : parent_of j k ≡ Some l) (way : OnWay j a k) (below : Counted j t r k w x n) where
       passing : (h : ℕ) → n ≤ h → (c : Context) → stops_of t r (visits j (suc h) l c) ≡ sum (λ d. stands x (rows_in j w d)) (instances j (suc h) l c)
       passing h q c = visits_sum j t r h l c ∙ sum_same _ _ (instances j (suc h) l c) one
         where
@@ -223,22 +223,22 @@ module _ (j : Outline) (C : Complete j) where
           go true g = omega arith
           go false g = sym (no_visits j t r h k c (none_of _ k (loop_of j l).children g (omega (arith, child)))) ∙ below h (omega arith) c
 
-      pub by_groups : kind_of j l ≡ groups w → (table_parent j w ≡ some w → ⊥) → Counted j t r l w x (suc n)
+      pub by_groups : kind_of j l ≡ groups w → (table_parent j w ≡ Some w → ⊥) → Counted j t r l w x (suc n)
       by_groups f d zero q c = absurd (omega arith)
       by_groups f d (suc h) q c =
           passing h (omega arith) c ∙ rw (inst_groups j h l w c f) (sum_map _ (in_piece w c) (pieces_of (j.same_group l) (rows_in j w c)) ∙ go x)
         where
           go : (y : Option ℕ) → sum (λ p. stands y (rows_in j w (in_piece w c p))) (pieces_of (j.same_group l) (rows_in j w c)) ≡ stands y (rows_in j w c)
-          go none = sum_zero _ (pieces_of (j.same_group l) (rows_in j w c)) (λ p. refl)
-          go (some y) =
+          go None = sum_zero _ (pieces_of (j.same_group l) (rows_in j w c)) (λ p. refl)
+          go (Some y) =
               pieces_all y (j.same_group l) (rows_in j w c) (λ p. times y (rows_in j w (in_piece w c p)))
               (λ p s z. ap (times y) (rows_piece j w c p (C.groups_plain l w f) d s z))
 
       -- the row that x hangs on
       abbrev pub up : ℕ → Option ℕ
-      up v = on x (λ i. referred j w i v) none
+      up v = on x (λ i. referred j w i v) None
 
-      pub by_rows : (v : ℕ) → kind_of j l ≡ rows v → table_parent j w ≡ some v → plain j w ≡ true → ((i : ℕ) → x ≡ some i → i < row_count j w) → Counted j t r l v (up v) (suc n)
+      pub by_rows : (v : ℕ) → kind_of j l ≡ rows v → table_parent j w ≡ Some v → plain j w ≡ true → ((i : ℕ) → x ≡ Some i → i < row_count j w) → Counted j t r l v (up v) (suc n)
       unfolding held
       by_rows v f g p small zero q c = absurd (omega arith)
       by_rows v f g p small (suc h) q c =
@@ -248,11 +248,11 @@ module _ (j : Outline) (C : Complete j) where
           one i = ap (stands x) (rows_below j w v c i p g)
 
           last : (y : Option ℕ) → sum (λ i. once (is y i)) (rows_in j v c) ≡ stands y (rows_in j v c)
-          last none = sum_zero _ (rows_in j v c) (λ i. refl)
-          last (some y) = refl
+          last None = sum_zero _ (rows_in j v c) (λ i. refl)
+          last (Some y) = refl
 
-          go : (y : Option ℕ) → ((i : ℕ) → y ≡ some i → i < row_count j w) → sum (λ i. stands y (held j w v i)) (rows_in j v c) ≡ stands (on y (λ i. referred j w i v) none) (rows_in j v c)
-          go none s = sum_zero _ (rows_in j v c) (λ i. refl)
-          go (some y) s =
+          go : (y : Option ℕ) → ((i : ℕ) → y ≡ Some i → i < row_count j w) → sum (λ i. stands y (held j w v i)) (rows_in j v c) ≡ stands (on y (λ i. referred j w i v) None) (rows_in j v c)
+          go None s = sum_zero _ (rows_in j v c) (λ i. refl)
+          go (Some y) s =
               sum_same _ _ (rows_in j v c) (λ i. times_within (λ m. is (referred j w m v) i) (row_count j w) 0 y (omega arith) (omega (arith, s y refl)))
               ∙ last (referred j w y v)

@@ -1,10 +1,10 @@
 -- How many segments, instances and stops: of lists put together, of an instance, of the whole walk.
-use Prim.Native.Nat.{ℕ, zero, suc, ◌+◌, ◌-◌, max}
-use mathlib.Core.Path.{◌≡◌, refl, sym, ap, ◌∙◌}
+use Prim.Native.Nat.{ℕ, suc, ◌+◌, max}
+use mathlib.Core.Path.{◌≡◌, refl, ap, ◌∙◌}
 use mathlib.Core.Bool.{Bool, true, false, cond, ◌&&◌}
-use mathlib.Core.List.{List, [], ◌∷◌, ◌++◌, map}
-use mathlib.Core.Option.{Option, none, some}
+use mathlib.Core.List.{List, [], ◌∷◌, ◌++◌}
 use native.Mathlib.Omega.{arith}
+use Rattle.std.specs.Prelude.{Option, None, Some}
 use lib.ListN.{length}
 use lib.Dec.{ltb}
 use Rattle.nest.specs.Lists.{each, on, sum}
@@ -12,9 +12,9 @@ use Rattle.nest.specs.Outline.{Outline, Source, of_envelope, of_row, of_repeat, 
 use Rattle.nest.specs.Nest.{Row, repeat_rows}
 use Rattle.nest.proofs.Scan.{each_append}
 use Rattle.nest.proofs.NestLaws.{length_each}
-use Rattle.nest.proofs.Sums.{sum_append, sum_each, sum_map, sum_same, sum_zero}
+use Rattle.nest.proofs.Sums.{sum_append, sum_each, sum_same, sum_zero}
 use Rattle.walk.specs.Instances.{Context, outside, instances}
-use Rattle.walk.specs.Tour.{Step, enters, stop, opener, row_segment, fill, chunk, closer, writes, begins, halts, segments_in, enters_in, stops_in, stop_of, stop_list, due_list, own_row, stop_at, chunks_of, row_steps, chunk_steps, repeat_steps, due_row, from_source, segment_steps, item_steps, body_steps, opened, children, close_steps, instance_steps, visits, tour_to, tour, census}
+use Rattle.walk.specs.Tour.{Step, enters, stop, opener, row_segment, fill, chunk, closer, writes, begins, halts, segments_in, enters_in, stops_in, stop_of, stop_list, due_list, own_row, stop_at, chunks_of, row_steps, chunk_steps, repeat_steps, due_row, from_source, segment_steps, item_steps, body_steps, opened, children, close_steps, instance_steps, visits, tour_to, census}
 use Rattle.walk.proofs.TourLaws.{close_both}
 
 -- ---- lists put together
@@ -105,12 +105,12 @@ unfolding enters_in segment_steps
 segment_enters j l c i = go (ltb i (planned j l))
   where
     given : (t : ℕ) (x : Option ℕ) → enters_in (on x (λ r. cond (has_occurrence j l i && due_row j l i t r) (row_segment l i t r ∷ []) []) []) ≡ 0
-    given t none = refl
-    given t (some r) = choose begins (row_segment l i t r) (has_occurrence j l i && due_row j l i t r) refl
+    given t None = refl
+    given t (Some r) = choose begins (row_segment l i t r) (has_occurrence j l i && due_row j l i t r) refl
 
     owned : (t : ℕ) (x : Option Row) → enters_in (on x (λ p. repeat_steps j l i t p.row) []) ≡ 0
-    owned t none = refl
-    owned t (some p) = repeat_enters j l i t p.row
+    owned t None = refl
+    owned t (Some p) = repeat_enters j l i t p.row
 
     fits : (t : ℕ) (b : Bool) → enters_in (cond b (on (own_row (kind_of j l) c) (λ p. repeat_steps j l i t p.row) []) []) ≡ 0
     fits t true = owned t (own_row (kind_of j l) c)
@@ -148,8 +148,8 @@ enters_instance j l c inner below =
     )
   where
     own_stop : (x : Option Row) → sum begins (stop_at l x) ≡ 0
-    own_stop none = refl
-    own_stop (some p) = refl
+    own_stop None = refl
+    own_stop (Some p) = refl
 
 -- ---- the census: each instance, and the instances of its child loops
 

@@ -1,10 +1,7 @@
 -- Whether there is data below an `Inside` loop, one law for each way that code takes.
-use Prim.Native.Nat.{ℕ, zero, suc, ◌+◌, ◌≤◌, ◌<◌}
-use mathlib.Core.Path.{◌≡◌, refl, sym, ap, ◌∙◌}
-use mathlib.Core.Bool.{Bool, true, false, ◌&&◌, ◌||◌}
-use mathlib.Core.List.{List}
-use mathlib.Core.Option.{Option, none, some}
-use native.Mathlib.Omega.{arith}
+use Prim.Native.Nat.{ℕ, suc, ◌+◌, ◌≤◌, ◌<◌}
+use mathlib.Core.Path.{◌≡◌, refl}
+use mathlib.Core.Bool.{Bool, true, false, ◌&&◌}
 use lib.ListN.{length, drop, get_or}
 use Rattle.nest.specs.Lists.{some_of, is, up_to}
 use Rattle.nest.specs.Outline.{Outline, inside_table, source_table, loop_of, kind_of, segment_of, planned}

@@ -2,9 +2,9 @@
 -- and `walk`, run on this job under the control flow of `emit`, give the same findings, places and steps.
 use Prim.Native.Nat.{ℕ}
 use mathlib.Core.Path.{◌≡◌, refl}
-use mathlib.Core.Bool.{Bool, true, false}
+use mathlib.Core.Bool.{true, false}
 use mathlib.Core.List.{List, [], ◌∷◌}
-use mathlib.Core.Option.{Option, none, some}
+use Rattle.std.specs.Prelude.{Option, None, Some}
 use lib.ListN.{get_or}
 use lib.Dec.{eqb}
 use Rattle.nest.specs.Outline.{Outline, Loop, envelope, implied, rows, inside, groups, of_envelope, of_row, of_repeat, segment, loop, loop_of, plan_of, table_of, parent_of, kind_of, order_of, segment_of, has_occurrence, table_parent, row_count, plain, repeated}
@@ -24,12 +24,12 @@ under p ks = record { parent = p; children = ks; occurrences = 2; required = fal
 -- loop 5, which enters the rows of table 1. Table 2 repeats in loops 2 and 5, two rows a segment.
 abbrev kinds : Outline
 kinds = record {
-  loops = record { parent = none; children = 1 ∷ []; occurrences = 2; required = false; ends = true; controlled = true }
-      ∷ under (some 0) (2 ∷ []) ∷ under (some 1) (3 ∷ 4 ∷ []) ∷ under (some 2) [] ∷ under (some 2) (5 ∷ []) ∷ under (some 4) [] ∷ [];
+  loops = record { parent = None; children = 1 ∷ []; occurrences = 2; required = false; ends = true; controlled = true }
+      ∷ under (Some 0) (2 ∷ []) ∷ under (Some 1) (3 ∷ 4 ∷ []) ∷ under (Some 2) [] ∷ under (Some 2) (5 ∷ []) ∷ under (Some 4) [] ∷ [];
   roots = 0 ∷ [];
-  tables = record { loops = 2 ∷ []; repeats = false; parent = none; ancestors = [] }
-      ∷ record { loops = 5 ∷ []; repeats = false; parent = some 0; ancestors = 0 ∷ [] }
-      ∷ record { loops = 2 ∷ 5 ∷ []; repeats = true; parent = none; ancestors = 0 ∷ 1 ∷ [] } ∷ [];
+  tables = record { loops = 2 ∷ []; repeats = false; parent = None; ancestors = [] }
+      ∷ record { loops = 5 ∷ []; repeats = false; parent = Some 0; ancestors = 0 ∷ [] }
+      ∷ record { loops = 2 ∷ 5 ∷ []; repeats = true; parent = None; ancestors = 0 ∷ 1 ∷ [] } ∷ [];
   plan = record { instances = envelope; segments = record { occurrence = 0; source = of_envelope } ∷ [] }
       ∷ record { instances = groups 0; segments = [] }
       ∷ record { instances = rows 0; segments = record { occurrence = 0; source = of_row 0 } ∷ record { occurrence = 1; source = of_repeat 2 } ∷ [] }
@@ -43,12 +43,12 @@ kinds = record {
       cells (
       cells (
       []
-      ∷ ((some 10 ∷ some 12 ∷ []) ∷ [])
-      ∷ ((some 12 ∷ some 10 ∷ some 10 ∷ some 10 ∷ some 11 ∷ none ∷ []) ∷ (some 0 ∷ none ∷ none ∷ none ∷ none ∷ none ∷ []) ∷ [])
+      ∷ ((Some 10 ∷ Some 12 ∷ []) ∷ [])
+      ∷ ((Some 12 ∷ Some 10 ∷ Some 10 ∷ Some 10 ∷ Some 11 ∷ None ∷ []) ∷ (Some 0 ∷ None ∷ None ∷ None ∷ None ∷ None ∷ []) ∷ [])
       ∷ []
       ) [] t u
       ∷ []
-      ) none 0 r;
+      ) None 0 r;
   same_group = λ l a b. eqb (get_or (0 ∷ 0 ∷ 1 ∷ []) a 0) (get_or (0 ∷ 0 ∷ 1 ∷ []) b 0);
   same_chunk = λ l i a b. true;
   capacity = λ t. get_or (1 ∷ 1 ∷ 2 ∷ []) t 1;
@@ -57,7 +57,7 @@ kinds = record {
 }
 
 -- Row 0 of table 2 goes by its reference to table 1, the deeper anchor, and refers to another row of table 0 than the row that it hangs on; row 5 has no reference.
-findings : nest_findings kinds ≡ mismatch 2 0 0 12 1 0 10 ∷ missing 2 5 0 none ∷ []
+findings : nest_findings kinds ≡ mismatch 2 0 0 12 1 0 10 ∷ missing 2 5 0 None ∷ []
 unfolding has_keys first_row referred depth anchors claim_in hook hangs duplicate_at duplicates contradiction_at contradictions missing_at row_findings table_findings nest_findings loop_of plan_of table_of parent_of kind_of table_parent row_count repeated
 findings = refl
 

@@ -3,8 +3,8 @@ use Prim.Native.Nat.{ℕ, zero, suc, ◌+◌, ◌≤◌, ◌<◌}
 use mathlib.Core.Path.{◌≡◌, refl, ap, ap₂, ◌∙◌, subst}
 use mathlib.Core.Bool.{Bool, true, false, cond, not, ◌||◌, ◌&&◌, false≢true}
 use mathlib.Core.List.{List, [], ◌∷◌, ◌++◌}
-use mathlib.Core.Option.{Option, none, some}
 use native.Mathlib.Omega.{arith}
+use Rattle.std.specs.Prelude.{Option, None, Some}
 use lib.ListN.{length}
 use lib.Dec.{ltb}
 use borrow.Author.Tests.{ltb-true}
@@ -21,8 +21,8 @@ use Rattle.walk.proofs.Paths.{is_some, once_true, same_some, none_or_some, in_ra
 -- ---- how deep a loop stands: itself and the loops above it
 
 data Deep (j : Outline) : ℕ → ℕ → Type 0 where
-  top : {l : ℕ} → parent_of j l ≡ none → Deep j l 1
-  under : {l p d : ℕ} → parent_of j l ≡ some p → Deep j p d → Deep j l (suc d)
+  top : {l : ℕ} → parent_of j l ≡ None → Deep j l 1
+  under : {l p d : ℕ} → parent_of j l ≡ Some p → Deep j p d → Deep j l (suc d)
 
 deep_same : {j : Outline} {l a b : ℕ} → Deep j l a → Deep j l b → a ≡ b
 deep_same (top e) (top f) = refl
@@ -36,8 +36,8 @@ climbed j zero l c = absurd (false≢true c)
 climbed j (suc h) l c = go (parent_of j l) refl (climbed j h)
   where
     go : (x : Option ℕ) → parent_of j l ≡ x → ((p : ℕ) → climbs j h p ≡ true → (d : ℕ) × Deep j p d × (d ≤ h)) → (d : ℕ) × Deep j l d × (d ≤ suc h)
-    go none e more = (1, top e, omega arith)
-    go (some p) e more = on_up (more p (rw e at c))
+    go None e more = (1, top e, omega arith)
+    go (Some p) e more = on_up (more p (rw e at c))
       where
         on_up : (d : ℕ) × Deep j p d × (d ≤ h) → (d : ℕ) × Deep j l d × (d ≤ suc h)
         on_up (d, q, k) = (suc d, under e q, omega arith)
@@ -47,11 +47,11 @@ positive (top e) = omega arith
 positive (under e D) = omega arith
 
 module _ (j : Outline) (T : Tree j) where
-  child_parent : (l k : ℕ) → 0 < times k (loop_of j l).children → parent_of j k ≡ some l
+  child_parent : (l k : ℕ) → 0 < times k (loop_of j l).children → parent_of j k ≡ Some l
   child_parent l k h = is_some (parent_of j k) l (once_true (is (parent_of j k) l) (omega (arith, T.children l k)))
 
   -- a child stands one deeper, and no deeper than there are loops
-  child_deep : (l k d : ℕ) → Deep j l d → parent_of j k ≡ some l → suc d ≤ length j.loops
+  child_deep : (l k d : ℕ) → Deep j l d → parent_of j k ≡ Some l → suc d ≤ length j.loops
   child_deep l k d D e = go (climbed j (length j.loops) k (T.no_ring k (in_range j k l e)))
     where
       go : (a : ℕ) × Deep j k a × (a ≤ length j.loops) → suc d ≤ length j.loops
@@ -88,7 +88,7 @@ module _ (j : Outline) (T : Tree j) where
       go implied more = ap (λ b. cond b (c ∷ []) []) (some_same _ _ (loop_of j l).children child)
         where
           child : (k : ℕ) → 0 < times k (loop_of j l).children → not (is_empty_list (instances j (suc h) k c)) ≡ not (is_empty_list (instances j h k c))
-          child k z = let e : parent_of j k ≡ some l = child_parent l k z in ap (λ cs. not (is_empty_list cs)) (more k (suc d) c (under e D) (child_deep l k d D e) (omega arith))
+          child k z = let e : parent_of j k ≡ Some l = child_parent l k z in ap (λ cs. not (is_empty_list cs)) (more k (suc d) c (under e D) (child_deep l k d D e) (omega arith))
 
   visits_more : (h l d : ℕ) (c : Context) → Deep j l d → d ≤ length j.loops → length j.loops < d + h → visits j (suc h) l c ≡ visits j h l c
   unfolding visits instance_steps body_steps children
@@ -99,13 +99,13 @@ module _ (j : Outline) (T : Tree j) where
     where
       counted : (i : Context) (k : ℕ) → 0 < times k (item_loops (order_of j l)) → length (instances j (suc h) k i) ≡ length (instances j h k i)
       counted i k z =
-          let e : parent_of j k ≡ some l = child_parent l k (omega (arith, T.order l k)) in
+          let e : parent_of j k ≡ Some l = child_parent l k (omega (arith, T.order l k)) in
           ap length (instances_more h k (suc d) i (under e D) (child_deep l k d D e) (omega arith))
 
       child : (i : Context) → ((l d : ℕ) (c : Context) → Deep j l d → d ≤ length j.loops → length j.loops < d + h → visits j (suc h) l c ≡ visits j h l c)
           → (k : ℕ) → 0 < times k (item_loops (order_of j l)) → visits j (suc h) k i ≡ visits j h k i
       child i more k z =
-          let e : parent_of j k ≡ some l = child_parent l k (omega (arith, T.order l k)) in
+          let e : parent_of j k ≡ Some l = child_parent l k (omega (arith, T.order l k)) in
           more k (suc d) i (under e D) (child_deep l k d D e) (omega arith)
 
   -- ---- data below a loop
@@ -118,7 +118,7 @@ module _ (j : Outline) (T : Tree j) where
       child : ((l d : ℕ) → Deep j l d → d ≤ length j.loops → length j.loops < d + h → has_data j (suc h) l t r ≡ has_data j h l t r)
           → (k : ℕ) → 0 < times k (loop_of j l).children → is (inside_table (kind_of j k)) t && has_data j (suc h) k t r ≡ is (inside_table (kind_of j k)) t && has_data j h k t r
       child more k z =
-          let e : parent_of j k ≡ some l = child_parent l k z in
+          let e : parent_of j k ≡ Some l = child_parent l k z in
           ap (λ b. is (inside_table (kind_of j k)) t && b) (more k (suc d) (under e D) (child_deep l k d D e) (omega arith))
 
   -- as many levels as there are loops, or more
@@ -136,8 +136,8 @@ module _ (j : Outline) (T : Tree j) where
   root_deep l z = go (ltb l (length j.loops)) refl (parent_of j l) refl (once_true (is_root j l) (omega (arith, T.roots l)))
     where
       go : (b : Bool) → ltb l (length j.loops) ≡ b → (x : Option ℕ) → parent_of j l ≡ x → b && on x (λ p. false) true ≡ true → Deep j l 1 × (1 ≤ length j.loops)
-      go true q none e r = (top e, omega (arith, ltb-true l (length j.loops) q))
-      go true q (some p) e r = absurd (false≢true r)
+      go true q None e r = (top e, omega (arith, ltb-true l (length j.loops) q))
+      go true q (Some p) e r = absurd (false≢true r)
       go false q x e r = absurd (false≢true r)
 
   roots_same : (f g : ℕ → List Step) (ls : List ℕ) → ((l : ℕ) → 0 < times l ls → f l ≡ g l) → each f ls ≡ each g ls

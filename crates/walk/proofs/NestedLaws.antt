@@ -1,10 +1,11 @@
 -- Nest's array as it is lent says where each row hangs.
-use Prim.Native.Nat.{ℕ, suc, ◌+◌, ◌*◌, ◌≤◌, ◌<◌}
-use mathlib.Core.Path.{◌≡◌, refl, sym, ap, ap₂, ◌∙◌}
-use mathlib.Core.Bool.{Bool, true, false, ◌&&◌}
+use Prim.Native.Nat.{ℕ, ◌+◌, ◌*◌, ◌≤◌, ◌<◌}
+use mathlib.Core.Path.{◌≡◌, ap, ap₂, ◌∙◌}
+use mathlib.Core.Bool.{true, false, ◌&&◌}
 use mathlib.Core.List.{List}
-use mathlib.Core.Option.{Option, none, some, none-ne-some}
 use native.Mathlib.Omega.{arith}
+use Rattle.std.specs.Prelude.{Some}
+use Rattle.std.proofs.lemmas.Option.{none-some}
 use lib.ListN.{length, get_or}
 use lib.Dec.{eqb}
 use Rattle.format.specs.Sections.{job_of}
@@ -12,14 +13,14 @@ use Rattle.nest.specs.Lists.{is}
 use Rattle.nest.specs.Outline.{Outline, table_parent, row_count, repeated}
 use Rattle.nest.specs.Nest.{referred, hook, hooked, nest_record, nest_array}
 use Rattle.nest.specs.Found.{nest_at, held_at, hooked_at, ArrayIs}
-use Rattle.nest.specs.Ready.{Ready, outline_at}
+use Rattle.nest.specs.Ready.{outline_at}
 use Rattle.nest.specs.Rising.{above_of, Climbs, rises}
 use Rattle.nest.proofs.NestLaws.{rows_before}
 use Rattle.nest.proofs.Stored.{place_in, number_in, array_rows}
 use Rattle.nest.proofs.RisingRows.{never_falls}
 use Rattle.nest.proofs.ArrayLaws.{held_in_array, hooked_in_array}
 use Rattle.walk.specs.Nested.{Nested, Sound}
-use Rattle.walk.specs.Instances.{Context, outside, in_row, at}
+use Rattle.walk.specs.Instances.{outside}
 
 module _ {b idx n : List ℕ} (N : Nested b idx n) where
   abbrev o : Outline
@@ -42,7 +43,7 @@ module _ {b idx n : List ℕ} (N : Nested b idx n) where
   same_at_lem : (t r i : ℕ) → r < row_count o t → i < 3 → nest_at n (rows_before o t) r i ≡ nest_at (nest_array o) (rows_before o t) r i
   same_at_lem t r i h k = N.numbers ((rows_before o t + r) * 3 + i) (place_in o t r i h k)
 
-  pub lent_held : (t r u p : ℕ) → t < length o.row_counts → r < row_count o t → repeated o t ≡ false → table_parent o t ≡ some u
+  pub lent_held : (t r u p : ℕ) → t < length o.row_counts → r < row_count o t → repeated o t ≡ false → table_parent o t ≡ Some u
       → held_at n (rows_before o t) p r ≡ is (referred o t r u) p
   unfolding held_at
   lent_held t r u p s h f q = ap (λ (x : ℕ). eqb x (p + 1)) (same_at_lem t r 0 h (omega arith)) ∙ held_in_array o t s r u p h f q
@@ -56,4 +57,4 @@ module _ {b idx n : List ℕ} (N : Nested b idx n) where
 -- ---- contexts whose rows are there
 
 pub sound_outside : (j : Outline) → Sound j outside
-sound_outside j = record { there = λ t r e. absurd (none-ne-some r e); begun = λ p r e q d. absurd (none-ne-some p e) }
+sound_outside j = record { there = λ t r e. absurd (none-some r e); begun = λ p r e q d. absurd (none-some p e) }

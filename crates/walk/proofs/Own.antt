@@ -2,10 +2,11 @@
 use Prim.Native.Nat.{ℕ, ◌+◌, ◌-◌, ◌<◌, max}
 use mathlib.Core.Path.{◌≡◌, refl, sym, ap, ◌∙◌, subst}
 use mathlib.Core.Bool.{Bool, true, false, cond, ◌&&◌, true≢false}
-use mathlib.Core.List.{List, [], ◌∷◌, ◌++◌, map, foldr}
-use mathlib.Core.Option
-use mathlib.Core.Option.{Option, none, some, some-injective, none-ne-some}
+use mathlib.Core.List.{List, [], ◌∷◌, ◌++◌, foldr}
 use native.Mathlib.Omega.{arith}
+use Rattle.std.specs.Prelude.{Option, None, Some}
+use Rattle.std.proofs.lemmas.Option.{same_Some, none-some}
+use Rattle.std.specs.Option.{option_map}
 use lib.ListN.{length}
 use lib.Dec.{ltb, eqb, leb}
 use borrow.Author.Tests.{eq-eqb, ne_eqb, eqb-true, eqb-false, lt-ltb, ltb-true}
@@ -14,11 +15,11 @@ use Rattle.nest.specs.Outline.{Outline, Kind, absent, envelope, implied, rows, i
 use Rattle.nest.specs.Nest.{Anchor, anchor_at, insert, anchors, depth_of, Hook, hook_on, Claim, claim_on, claim_in, settle, hook, hooked, first_row, repeat_rows, Row, row_of}
 use Rattle.walk.specs.Instances.{Context, in_row}
 use Rattle.walk.proofs.Counts.{row_steps_sum}
-use Rattle.walk.specs.Tour.{stop, opener, row_segment, fill, chunk, stop_at, own_row, chunks, chunks_of, row_steps, chunk_steps, repeat_steps, due_row, from_source, segment_steps}
+use Rattle.walk.specs.Tour.{opener, row_segment, chunk, stop_at, own_row, chunks, chunks_of, row_steps, chunk_steps, repeat_steps, due_row, from_source, segment_steps}
 use Rattle.nest.specs.Outline.{item_segments}
 use Rattle.walk.specs.Complete.{Complete, ExactlyOne, PlansRepeat}
 use Rattle.walk.specs.Stops.{is_stop, stops_of}
-use Rattle.nest.proofs.Sums.{sum_append, sum_each, sum_map, sum_same, sum_zero, sum_one, times_within}
+use Rattle.nest.proofs.Sums.{sum_append, sum_each, sum_same, sum_zero, sum_one, times_within}
 use Rattle.walk.proofs.Paths.{once_true}
 use Rattle.nest.proofs.Hanging.{first_exists, plain_not}
 use Rattle.walk.proofs.Counting.{own, StopsAt}
@@ -77,8 +78,8 @@ module _ (j : Outline) (t r : ℕ) (exists : r < row_count j t) where
           same false q = repeat_other l i v o (eqb-false v t q)
 
       owned : (v : ℕ) → (segment_of j l i).source ≡ of_repeat v → (x : Option Row) → stops_of t r (on x (λ p. repeat_steps j l i v p.row) []) ≡ 0
-      owned v e none = refl
-      owned v e (some p) = repeats v e p.row
+      owned v e None = refl
+      owned v e (Some p) = repeats v e p.row
 
       fits : (v : ℕ) → (segment_of j l i).source ≡ of_repeat v → (b : Bool) → stops_of t r (cond b (on (own_row (kind_of j l) c) (λ p. repeat_steps j l i v p.row) []) []) ≡ 0
       fits v e true = owned v e (own_row (kind_of j l) c)
@@ -93,8 +94,8 @@ module _ (j : Outline) (t r : ℕ) (exists : r < row_count j t) where
       row_due_lem v o false = refl
 
       row_given : (v : ℕ) (x : Option ℕ) → stops_of t r (on x (λ o. cond (has_occurrence j l i && due_row j l i v o) (row_segment l i v o ∷ []) []) []) ≡ 0
-      row_given v none = refl
-      row_given v (some o) = row_due_lem v o (has_occurrence j l i && due_row j l i v o)
+      row_given v None = refl
+      row_given v (Some o) = row_due_lem v o (has_occurrence j l i && due_row j l i v o)
 
       by_source : (s : Source) → (segment_of j l i).source ≡ s → stops_of t r (from_source j l i c s) ≡ 0
       by_source of_envelope e = choose (loop_of j l).controlled
@@ -105,7 +106,7 @@ module _ (j : Outline) (t r : ℕ) (exists : r < row_count j t) where
       go true = by_source (segment_of j l i).source refl
       go false = refl
 
-  segment_here : (l i : ℕ) (c : Context) (p : Row) → PlansRepeat j l t i → has_occurrence j l i ≡ true → own_row (kind_of j l) c ≡ some p
+  segment_here : (l i : ℕ) (c : Context) (p : Row) → PlansRepeat j l t i → has_occurrence j l i ≡ true → own_row (kind_of j l) c ≡ Some p
       → stops_of t r (segment_steps j l c i) ≡ once (hooked (hook j t r) l p.row)
   unfolding segment_steps
   segment_here l i c p plans fits own =
@@ -122,16 +123,16 @@ stop_zero t r l (inside v) c d = refl
 stop_zero t r l (groups v) c d = refl
 stop_zero t r l (rows v) c d = go (c.row v)
   where
-    go : (x : Option ℕ) → stops_of t r (stop_at l (Option.map (row_of v) x)) ≡ 0
-    go none = refl
-    go (some p) = ap (λ b. once (b && eqb p r) + 0) (ne_eqb v t (λ z. d (ap rows z)))
+    go : (x : Option ℕ) → stops_of t r (stop_at l (option_map (row_of v) x)) ≡ 0
+    go None = refl
+    go (Some p) = ap (λ b. once (b && eqb p r) + 0) (ne_eqb v t (λ z. d (ap rows z)))
 
-pub own_row_lem : (k : Kind) (v : ℕ) (c : Context) (p : ℕ) → k ≡ rows v → own_row k (in_row v c p) ≡ some (row_of v p)
+pub own_row_lem : (k : Kind) (v : ℕ) (c : Context) (p : ℕ) → k ≡ rows v → own_row k (in_row v c p) ≡ Some (row_of v p)
 own_row_lem k v c p e = rw e (rw (eq-eqb v v refl))
 
 -- ---- a row of a table without repeat segment stops in its row loop
 
-hook_plain : (j : Outline) (t r : ℕ) → plain j t ≡ true → hook j t r ≡ none
+hook_plain : (j : Outline) (t r : ℕ) → plain j t ≡ true → hook j t r ≡ None
 unfolding hook
 hook_plain j t r e = rw (plain_not j t e)
 
@@ -194,28 +195,28 @@ pub record HookGood (j : Outline) (t : ℕ) (k : Hook) : Type 0 where
   pub in_list : 0 < times k.loop (table_of j t).loops
   pub exists : k.row < row_count j k.table
 
-claimed : (j : Outline) (t r : ℕ) (k : Claim) (xs : List Anchor) → All (Good j t) xs → claim_in j t r xs ≡ some k → Good j t (record { loop = k.loop; table = k.table })
+claimed : (j : Outline) (t r : ℕ) (k : Claim) (xs : List Anchor) → All (Good j t) xs → claim_in j t r xs ≡ Some k → Good j t (record { loop = k.loop; table = k.table })
 unfolding claim_in
-claimed j t r k [] g e = absurd (none-ne-some k e)
+claimed j t r k [] g e = absurd (none-some k e)
 claimed j t r k (a ∷ more) g e = go (j.reference t a.table r) refl (claimed j t r k more g.1)
   where
-    go : (x : Option ℕ) → j.reference t a.table r ≡ x → (claim_in j t r more ≡ some k → Good j t (record { loop = k.loop; table = k.table })) → Good j t (record { loop = k.loop; table = k.table })
-    go none q later = later (rw q at e)
-    go (some v) q later = subst (λ (k : Claim). Good j t (record { loop = k.loop; table = k.table })) (some-injective (claim_on a v) k (rw q at e)) g.0
+    go : (x : Option ℕ) → j.reference t a.table r ≡ x → (claim_in j t r more ≡ Some k → Good j t (record { loop = k.loop; table = k.table })) → Good j t (record { loop = k.loop; table = k.table })
+    go None q later = later (rw q at e)
+    go (Some v) q later = subst (λ (k : Claim). Good j t (record { loop = k.loop; table = k.table })) (same_Some (claim_on a v) k (rw q at e)) g.0
 
-pub hook_good : (j : Outline) (t r : ℕ) (k : Hook) → repeated j t ≡ true → hook j t r ≡ some k → HookGood j t k
+pub hook_good : (j : Outline) (t r : ℕ) (k : Hook) → repeated j t ≡ true → hook j t r ≡ Some k → HookGood j t k
 unfolding hook
 hook_good j t r k p e = go (claim_in j t r (anchors j t)) refl (rw p at e)
   where
-    found : (m : Claim) → claim_in j t r (anchors j t) ≡ some m → (x : Option ℕ) → first_row j m.table m.value ≡ x → Option.map (hook_on m) x ≡ some k → HookGood j t k
-    found m q none f z = absurd (none-ne-some k z)
-    found m q (some o) f z =
+    found : (m : Claim) → claim_in j t r (anchors j t) ≡ Some m → (x : Option ℕ) → first_row j m.table m.value ≡ x → option_map (hook_on m) x ≡ Some k → HookGood j t k
+    found m q None f z = absurd (none-some k z)
+    found m q (Some o) f z =
         let g : Good j t (record { loop = m.loop; table = m.table }) = claimed j t r m (anchors j t) (good_anchors j t) q in
-        subst (HookGood j t) (some-injective (hook_on m o) k z) (record { is_rows = g.0; in_list = g.1; exists = first_exists j m.table m.value o f })
+        subst (HookGood j t) (same_Some (hook_on m o) k z) (record { is_rows = g.0; in_list = g.1; exists = first_exists j m.table m.value o f })
 
-    go : (x : Option Claim) → claim_in j t r (anchors j t) ≡ x → on x (settle j) none ≡ some k → HookGood j t k
-    go none q z = absurd (none-ne-some k z)
-    go (some m) q z = found m q (first_row j m.table m.value) refl z
+    go : (x : Option Claim) → claim_in j t r (anchors j t) ≡ x → on x (settle j) None ≡ Some k → HookGood j t k
+    go None q z = absurd (none-some k z)
+    go (Some m) q z = found m q (first_row j m.table m.value) refl z
 
 module _ (j : Outline) (C : Complete j) (t r : ℕ) (p : repeated j t ≡ true) (h : r < row_count j t) where
   occurring : (l i : ℕ) → (segment_of j l i).occurrence < (loop_of j l).occurrences → has_occurrence j l i ≡ true
@@ -226,10 +227,10 @@ module _ (j : Outline) (C : Complete j) (t r : ℕ) (p : repeated j t ≡ true) 
   not_rows_of l e = true≢false (sym p ∙ plain_not j t (C.rows_plain l t e))
 
   -- it stops nowhere else
-  hooked_elsewhere : (k : Hook) (l o : ℕ) → hook j t r ≡ some k → (l ≡ k.loop → ⊥) → hooked (hook j t r) l o ≡ false
+  hooked_elsewhere : (k : Hook) (l o : ℕ) → hook j t r ≡ Some k → (l ≡ k.loop → ⊥) → hooked (hook j t r) l o ≡ false
   hooked_elsewhere k l o e d = rw e (rw (ne_eqb l k.loop d))
 
-  pub stops_hooked : (k : Hook) → hook j t r ≡ some k → StopsAt j t r k.loop k.table k.row
+  pub stops_hooked : (k : Hook) → hook j t r ≡ Some k → StopsAt j t r k.loop k.table k.row
   unfolding own
   stops_hooked k e = record {
     is_rows = G.is_rows;
@@ -262,7 +263,7 @@ module _ (j : Outline) (C : Complete j) (t r : ℕ) (p : repeated j t ≡ true) 
           ∙ at_hook q
 
   -- without a hook it stops nowhere at all
-  pub own_nowhere : hook j t r ≡ none → (l : ℕ) (c : Context) → own j t r l c ≡ 0
+  pub own_nowhere : hook j t r ≡ None → (l : ℕ) (c : Context) → own j t r l c ≡ 0
   unfolding own
   own_nowhere e l c =
       omega (arith, stop_zero t r l (kind_of j l) c (not_rows_of l), sum_zero _ (item_segments (order_of j l)) (λ i. segment_zero j t r h l i c (λ o q. rw e)))

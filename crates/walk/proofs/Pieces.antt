@@ -1,13 +1,12 @@
 -- The runs of a list are the list: each row stands in as many of them as in the list.
 use Prim.Native.Nat.{ℕ, zero, suc, ◌+◌, ◌-◌, ◌≤◌}
-use mathlib.Core.Path.{◌≡◌, refl, sym, ap, ◌∙◌, subst}
+use mathlib.Core.Path.{◌≡◌, refl, sym, ap, ◌∙◌}
 use mathlib.Core.Bool.{Bool, true, false, cond}
 use mathlib.Core.List.{List, [], ◌∷◌}
 use native.Mathlib.Omega.{arith}
 use lib.ListN.{length, take, drop, length-take, length-drop, take-append-drop}
-use lib.Seq.{take_all, take-nil, drop-nil, take-take, drop-drop}
-use lib.Dec.{eqb, leb}
-use borrow.Author.Tests.{le-leb, leb-true, leb-false}
+use lib.Seq.{take_all, take-nil, take-take, drop-drop}
+use lib.Dec.{eqb}
 use Rattle.nest.specs.Lists.{once, sum, times, part}
 use Rattle.walk.specs.Instances.{Piece, pieces, pieces_of}
 use Rattle.nest.proofs.Sums.{sum_append}

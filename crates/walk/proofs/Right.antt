@@ -1,19 +1,19 @@
 -- Each stop of the walk names a row that exists, in its own loop.
-use Prim.Native.Nat.{ℕ, zero, suc, ◌+◌, ◌-◌, ◌≤◌, ◌<◌, max}
+use Prim.Native.Nat.{ℕ, zero, suc, ◌-◌, ◌<◌, max}
 use mathlib.Core.Path.{◌≡◌, refl, sym}
 use mathlib.Core.Logic.{inl, inr}
 use mathlib.Core.Bool.{Bool, true, false, cond, ◌&&◌, false≢true}
 use mathlib.Core.List.{List, [], ◌∷◌, ◌++◌, map}
-use mathlib.Core.Option.{Option, none, some}
 use native.Mathlib.Omega.{arith}
-use lib.ListN.{length, take, drop}
-use lib.Dec.{ltb, eqb, leb}
+use Rattle.std.specs.Prelude.{Option, None, Some}
+use lib.ListN.{length, drop}
+use lib.Dec.{ltb, eqb}
 use borrow.Author.Tests.{eqb-true, ltb-true}
-use Rattle.nest.specs.Lists.{each, on, from, keep, part, All, is}
+use Rattle.nest.specs.Lists.{each, on, from, part, All, is}
 use Rattle.nest.specs.Outline.{Outline, Kind, absent, envelope, implied, rows, inside, groups, Source, of_envelope, of_row, of_repeat, Item, segment, loop, loop_of, plan_of, kind_of, order_of, segment_of, has_occurrence, table_parent, row_count, plain, repeated}
 use Rattle.nest.specs.Nest.{Hook, hook, hooked, repeat_rows, referred, held, Row}
 use Rattle.walk.specs.Instances.{Context, Run, outside, in_row, rows_in, held_in, cut_to, instances, by_kind}
-use Rattle.walk.specs.Tour.{Step, stop, opener, row_segment, fill, chunk, closer, segments_in, stop_at, own_row, chunks, chunks_of, row_steps, chunk_steps, repeat_steps, due_row, from_source, segment_steps, item_steps, body_steps, opened, close_steps, instance_steps, visits, tour_to, tour}
+use Rattle.walk.specs.Tour.{Step, stop, opener, row_segment, chunk, closer, segments_in, stop_at, own_row, chunks, chunks_of, row_steps, chunk_steps, repeat_steps, due_row, from_source, segment_steps, item_steps, body_steps, opened, close_steps, instance_steps, visits, tour_to, tour}
 use Rattle.walk.specs.Complete.{Complete}
 use Rattle.walk.specs.Stops.{RightStop}
 use Rattle.nest.proofs.Alls.{all_append, all_each, all_map, any, all_take, all_drop, all_keep, all_from, all_weaker}
@@ -44,12 +44,12 @@ rows_exist j t c = go (plain j t)
     N x = x < row_count j t
 
     of_row_lem : (u : ℕ) (x : Option ℕ) → All N (on x (held j t u) [])
-    of_row_lem u none = tt
-    of_row_lem u (some o) = all_weaker _ N (held j t u o) (λ x h. h.0) (all_keep (λ r. is (referred j t r u) o) (row_count j t) (row_count j t) 0 (omega arith))
+    of_row_lem u None = tt
+    of_row_lem u (Some o) = all_weaker _ N (held j t u o) (λ x h. h.0) (all_keep (λ r. is (referred j t r u) o) (row_count j t) (row_count j t) 0 (omega arith))
 
     holds : (x : Option ℕ) → All N (on x (λ u. on (c.row u) (held j t u) []) (from 0 (row_count j t)))
-    holds none = all_from (row_count j t) (row_count j t) 0 (omega arith)
-    holds (some u) = of_row_lem u (c.row u)
+    holds None = all_from (row_count j t) (row_count j t) 0 (omega arith)
+    holds (Some u) = of_row_lem u (c.row u)
 
     parted : (a b : ℕ) (xs : List ℕ) → All N xs → All N (part a b xs)
     parted a b xs h = all_take N (b - a) (drop a xs) (all_drop N a xs h)
@@ -59,8 +59,8 @@ rows_exist j t c = go (plain j t)
     choose xs ys h k false = k
 
     cut : (x : Option Run) (xs : List ℕ) → All N xs → All N (cut_to t x xs)
-    cut none xs h = h
-    cut (some p) xs h = choose (part p.start p.end xs) xs (parted p.start p.end xs h) h (eqb p.table t)
+    cut None xs h = h
+    cut (Some p) xs h = choose (part p.start p.end xs) xs (parted p.start p.end xs h) h (eqb p.table t)
 
     go : (s : Bool) → All N (cond s (cut_to t c.run (held_in j t c.row)) [])
     go true = cut c.run (held_in j t c.row) (holds (table_parent j t))
@@ -84,9 +84,9 @@ hooked_right j t l o r h e = go (repeated j t) refl
     both true b q = refl
     both false b q = absurd (false≢true q)
 
-    at_hook : (x : Option Hook) → hook j t r ≡ x → hooked x l o ≡ true → (k : Hook) × (hook j t r ≡ some k) × (k.loop ≡ l)
-    at_hook none q z = absurd (false≢true z)
-    at_hook (some k) q z = (k, q, sym (eqb-true l k.loop (both (eqb l k.loop) (eqb o k.row) z)))
+    at_hook : (x : Option Hook) → hook j t r ≡ x → hooked x l o ≡ true → (k : Hook) × (hook j t r ≡ Some k) × (k.loop ≡ l)
+    at_hook None q z = absurd (false≢true z)
+    at_hook (Some k) q z = (k, q, sym (eqb-true l k.loop (both (eqb l k.loop) (eqb o k.row) z)))
 
     go : (b : Bool) → repeated j t ≡ b → RightStop j (stop l t r)
     go true q = (repeated_in j t q, h, inr (at_hook (hook j t r) refl e))
@@ -123,8 +123,8 @@ module _ (j : Outline) (C : Complete j) where
   segment_right l i c = go (ltb i (length (plan_of j l).segments))
     where
       owned : (t : ℕ) (x : Option Row) → All R (on x (λ p. repeat_steps j l i t p.row) [])
-      owned t none = tt
-      owned t (some p) = repeat_right l i t p.row
+      owned t None = tt
+      owned t (Some p) = repeat_right l i t p.row
 
       fits : (t : ℕ) (b : Bool) → All R (cond b (on (own_row (kind_of j l) c) (λ p. repeat_steps j l i t p.row) []) [])
       fits t true = owned t (own_row (kind_of j l) c)
@@ -139,8 +139,8 @@ module _ (j : Outline) (C : Complete j) where
       is_due t r false = tt
 
       given : (t : ℕ) (x : Option ℕ) → All R (on x (λ r. cond (has_occurrence j l i && due_row j l i t r) (row_segment l i t r ∷ []) []) [])
-      given t none = tt
-      given t (some r) = is_due t r (has_occurrence j l i && due_row j l i t r)
+      given t None = tt
+      given t (Some r) = is_due t r (has_occurrence j l i && due_row j l i t r)
 
       by_source : (s : Source) → All R (from_source j l i c s)
       by_source of_envelope = choose (loop_of j l).controlled
@@ -179,7 +179,7 @@ module _ (j : Outline) (C : Complete j) where
       Inst d = All R (instance_steps (instances j h) (visits j h) j l d)
 
       -- a loop without row of its own
-      silent : (k : Kind) → kind_of j l ≡ k → ((d : Context) → own_row k d ≡ none) → ((d : Context) → All R (stop_at l (own_row (kind_of j l) d)) → Inst d) → All R (each (instance_steps (instances j h) (visits j h) j l) (instances j (suc h) l c))
+      silent : (k : Kind) → kind_of j l ≡ k → ((d : Context) → own_row k d ≡ None) → ((d : Context) → All R (stop_at l (own_row (kind_of j l) d)) → Inst d) → All R (each (instance_steps (instances j h) (visits j h) j l) (instances j (suc h) l c))
       silent k e n inst = all_each R (λ d. Unit {0}) (instance_steps (instances j h) (visits j h) j l) (instances j (suc h) l c) (λ d u. inst d (rw e (rw (n d) tt))) (any (instances j (suc h) l c))
 
       by_kind_lem : (k : Kind) → kind_of j l ≡ k → ((d : Context) → All R (stop_at l (own_row (kind_of j l) d)) → Inst d) → All R (each (instance_steps (instances j h) (visits j h) j l) (instances j (suc h) l c))

@@ -1,61 +1,61 @@
 -- The rows of a table in a context, their pieces and their chunks, one law for each way that code takes.
-use Prim.Native.Nat.{ℕ, zero, suc, ◌+◌, ◌-◌, ◌≤◌, ◌<◌, max}
+use Prim.Native.Nat.{ℕ, suc, ◌+◌, ◌-◌, ◌<◌}
 use mathlib.Core.Path.{◌≡◌, refl, sym, ap, ◌∙◌}
 use mathlib.Core.Bool.{Bool, true, false, cond, ◌&&◌}
 use mathlib.Core.List.{List, [], ◌∷◌, ◌++◌}
-use mathlib.Core.Option.{Option, none, some}
 use native.Mathlib.Numerals.{add-one}
 use native.Mathlib.Omega.{arith}
-use lib.ListN.{length, take, drop, get_or}
+use Rattle.std.specs.Prelude.{Option, None, Some}
+use lib.ListN.{take, get_or}
 use lib.Seq.{take_all}
 use lib.Dec.{eqb, ltb}
 use borrow.Author.Tests.{lt-ltb, le-ltb, eq-eqb, ne_eqb}
 use Rattle.nest.specs.Lists.{keep, on, from, is, part, up_to}
-use Rattle.nest.specs.Outline.{Outline, table_parent, row_count, plain, repeated}
+use Rattle.nest.specs.Outline.{Outline, table_parent, row_count, plain}
 use Rattle.nest.specs.Nest.{referred, held, hook, hooked, nest_record, repeat_rows}
 use Rattle.nest.proofs.Scan.{up_to_all, keep_all, keep_none, keep_length, window, window_all}
 use Rattle.nest.proofs.NestLaws.{holds}
 use Rattle.nest.proofs.Hanging.{plain_not}
-use Rattle.walk.specs.Instances.{Context, Run, Piece, at, held_by, held_in, cut_to, rows_in, offset, bound, pieces}
+use Rattle.walk.specs.Instances.{Context, Run, at, held_by, held_in, cut_to, rows_in, offset, bound, pieces}
 use Rattle.walk.specs.Tour.{chunks}
 
 -- ---- whether a row is one of its parent's row
 
-pub held_top : (j : Outline) (t : ℕ) (row : ℕ → Option ℕ) (r : ℕ) → table_parent j t ≡ none → held_by j t row r ≡ true
+pub held_top : (j : Outline) (t : ℕ) (row : ℕ → Option ℕ) (r : ℕ) → table_parent j t ≡ None → held_by j t row r ≡ true
 unfolding held_by
 held_top j t row r e = rw e
 
-pub held_outside : (j : Outline) (t : ℕ) (row : ℕ → Option ℕ) (r u : ℕ) → table_parent j t ≡ some u → row u ≡ none → held_by j t row r ≡ false
+pub held_outside : (j : Outline) (t : ℕ) (row : ℕ → Option ℕ) (r u : ℕ) → table_parent j t ≡ Some u → row u ≡ None → held_by j t row r ≡ false
 unfolding held_by
 held_outside j t row r u e q = rw e (rw q)
 
 -- by nest's first number
-pub held_number : (j : Outline) (t : ℕ) (row : ℕ → Option ℕ) (r u p : ℕ) → plain j t ≡ true → table_parent j t ≡ some u → row u ≡ some p
+pub held_number : (j : Outline) (t : ℕ) (row : ℕ → Option ℕ) (r u p : ℕ) → plain j t ≡ true → table_parent j t ≡ Some u → row u ≡ Some p
     → held_by j t row r ≡ eqb (get_or (nest_record j t r) 0 0) (suc p)
 unfolding held_by
 held_number j t row r u p f e q = rw e (rw q (holds j t r u p (plain_not j t f) e))
 
 -- entering a row of the table itself changes nothing, unless the table is its own parent
-pub held_apart : (j : Outline) (t head : ℕ) (row : ℕ → Option ℕ) (r : ℕ) → (table_parent j t ≡ some t → ⊥) → held_by j t (at t head row) r ≡ held_by j t row r
+pub held_apart : (j : Outline) (t head : ℕ) (row : ℕ → Option ℕ) (r : ℕ) → (table_parent j t ≡ Some t → ⊥) → held_by j t (at t head row) r ≡ held_by j t row r
 unfolding held_by
 held_apart j t head row r d = go (table_parent j t) refl
   where
     go : (x : Option ℕ) → table_parent j t ≡ x
         → on x (λ u. on (at t head row u) (is (referred j t r u)) false) true ≡ on x (λ u. on (row u) (is (referred j t r u)) false) true
-    go none e = refl
-    go (some u) e = rw (ne_eqb u t (λ q. absurd (d (e ∙ ap some q))))
+    go None e = refl
+    go (Some u) e = rw (ne_eqb u t (λ q. absurd (d (e ∙ ap Some q))))
 
 held_keep : (j : Outline) (t : ℕ) (row : ℕ → Option ℕ) → held_in j t row ≡ keep (held_by j t row) (from 0 (row_count j t))
 unfolding held_in held_by held
 held_keep j t row = go (table_parent j t)
   where
     inside_row : (u : ℕ) (x : Option ℕ) → on x (held j t u) [] ≡ keep (λ r. on x (is (referred j t r u)) false) (from 0 (row_count j t))
-    inside_row u none = sym (keep_none (row_count j t) 0)
-    inside_row u (some p) = refl
+    inside_row u None = sym (keep_none (row_count j t) 0)
+    inside_row u (Some p) = refl
 
     go : (x : Option ℕ) → on x (λ u. on (row u) (held j t u) []) (from 0 (row_count j t)) ≡ keep (λ r. on x (λ u. on (row u) (is (referred j t r u)) false) true) (from 0 (row_count j t))
-    go none = sym (keep_all (row_count j t) 0)
-    go (some u) = inside_row u (row u)
+    go None = sym (keep_all (row_count j t) 0)
+    go (Some u) = inside_row u (row u)
 
 -- ---- the rows in a context: those that are held, from the run's start (`offset`) up to its end, or all of them
 
@@ -74,8 +74,8 @@ rows_window j t c e = rw (e, held_keep j t c.row) (cut c.run ∙ sym (window_all
     all = let q : row_count j t - 0 ≡ row_count j t = omega arith in sym (ap (λ n. take n whole) q ∙ take_all (row_count j t) whole (keep_length P 0 (row_count j t)))
 
     cut : (x : Option Run) → cut_to t x whole ≡ part (offset t x) (on x (λ p. cond (eqb p.table t) p.end (row_count j t)) (row_count j t)) whole
-    cut none = all
-    cut (some p) = which (eqb p.table t)
+    cut None = all
+    cut (Some p) = which (eqb p.table t)
       where
         which : (b : Bool) → cond b (part p.start p.end whole) whole ≡ part (cond b p.start 0) (cond b p.end (row_count j t)) whole
         which true = refl
@@ -86,13 +86,13 @@ unfolding rows_in
 rows_none j t c e = rw e
 
 -- the bounds: of the run, if it is of that table
-pub bound_free : (t : ℕ) (c : Context) (n : ℕ) → c.run ≡ none → (offset t c.run ≡ 0) × (bound t c.run n ≡ n)
+pub bound_free : (t : ℕ) (c : Context) (n : ℕ) → c.run ≡ None → (offset t c.run ≡ 0) × (bound t c.run n ≡ n)
 bound_free t c n e = rw e (refl, refl)
 
-pub bound_other : (t : ℕ) (c : Context) (n : ℕ) (p : Run) → c.run ≡ some p → (p.table ≡ t → ⊥) → (offset t c.run ≡ 0) × (bound t c.run n ≡ n)
+pub bound_other : (t : ℕ) (c : Context) (n : ℕ) (p : Run) → c.run ≡ Some p → (p.table ≡ t → ⊥) → (offset t c.run ≡ 0) × (bound t c.run n ≡ n)
 bound_other t c n p e d = rw e (rw (ne_eqb p.table t d) (refl, refl))
 
-pub bound_run : (t : ℕ) (c : Context) (n : ℕ) (p : Run) → c.run ≡ some p → p.table ≡ t → (offset t c.run ≡ p.start) × (bound t c.run n ≡ p.end)
+pub bound_run : (t : ℕ) (c : Context) (n : ℕ) (p : Run) → c.run ≡ Some p → p.table ≡ t → (offset t c.run ≡ p.start) × (bound t c.run n ≡ p.end)
 bound_run t c n p e d = rw e (rw (eq-eqb p.table t d) (refl, refl))
 
 -- ---- pieces: a run goes on, or ends and the next begins

@@ -3,9 +3,10 @@ use Prim.Native.Nat.{ℕ, zero, suc, ◌+◌, ◌<◌}
 use mathlib.Core.Path.{◌≡◌, refl, sym, ap, ◌∙◌}
 use mathlib.Core.Bool.{Bool, true, false, not, ◌&&◌, ◌||◌, true≢false, false≢true}
 use mathlib.Core.List.{List, [], ◌∷◌}
-use mathlib.Core.Option.{Option, none, some, none-ne-some, some-injective}
 use native.Mathlib.Omega.{arith}
 use native.Mathlib.Decide.{dec_lt}
+use Rattle.std.specs.Prelude.{Option, None, Some}
+use Rattle.std.proofs.lemmas.Option.{none-some, same_Some}
 use lib.Dec.{eqb}
 use borrow.Author.Tests.{eqb-true, eqb-false}
 use Rattle.nest.specs.Lists.{once, times, All}
@@ -28,13 +29,13 @@ pub then_if : (a b : Bool) → (a ≡ true → b ≡ true) → not a || b ≡ tr
 then_if true b f = f refl
 then_if false b f = refl
 
-pub there_is : (x : Option ℕ) (p : ℕ → Bool) → if_there x p ≡ true → (n : ℕ) → x ≡ some n → p n ≡ true
-there_is none p e n q = absurd (none-ne-some n q)
-there_is (some m) p e n q = ap p (sym (some-injective m n q)) ∙ e
+pub there_is : (x : Option ℕ) (p : ℕ → Bool) → if_there x p ≡ true → (n : ℕ) → x ≡ Some n → p n ≡ true
+there_is None p e n q = absurd (none-some n q)
+there_is (Some m) p e n q = ap p (sym (same_Some m n q)) ∙ e
 
-pub is_there_lem : (x : Option ℕ) (p : ℕ → Bool) → ((n : ℕ) → x ≡ some n → p n ≡ true) → if_there x p ≡ true
-is_there_lem none p f = refl
-is_there_lem (some m) p f = f m refl
+pub is_there_lem : (x : Option ℕ) (p : ℕ → Bool) → ((n : ℕ) → x ≡ Some n → p n ≡ true) → if_there x p ≡ true
+is_there_lem None p f = refl
+is_there_lem (Some m) p f = f m refl
 
 pub below_true : (n : ℕ) (p : ℕ → Bool) → each_below n p ≡ true → (i : ℕ) → i < n → p i ≡ true
 below_true zero p e i h = absurd (omega arith)

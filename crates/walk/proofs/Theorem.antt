@@ -3,8 +3,9 @@ use Prim.Native.Nat.{ℕ, zero, suc, ◌<◌}
 use mathlib.Core.Path.{◌≡◌, refl, ap, ◌∙◌}
 use mathlib.Core.Logic.{◌⊎◌, inl, inr}
 use mathlib.Core.Bool.{true}
-use mathlib.Core.Option.{Option, none, some, map}
 use native.Mathlib.Omega.{arith}
+use Rattle.std.specs.Prelude.{Option, None, Some}
+use Rattle.std.specs.Option.{option_map}
 use lib.ListN.{length}
 use Rattle.nest.specs.Outline.{Outline, order_of, row_count, plain, repeated}
 use Rattle.nest.specs.Nest.{Hook, hook, row_of, hangs, needs_parent, Adrift, it, above}
@@ -38,7 +39,7 @@ module _ (j : Outline) (C : Complete j) (t r : ℕ) (h : r < row_count j t) wher
   decide_plain : plain j t ≡ true → Decided j t r
   decide_plain p = once_or_adrift j C t r (C.row_loop t p).the t r (stops_plain j C t r p h) h
 
-  hangs_hook : repeated j t ≡ true → hangs j t r ≡ map (λ (k : Hook). row_of k.table k.row) (hook j t r)
+  hangs_hook : repeated j t ≡ true → hangs j t r ≡ option_map (λ (k : Hook). row_of k.table k.row) (hook j t r)
   unfolding hangs
   hangs_hook p = rw p
 
@@ -47,13 +48,13 @@ module _ (j : Outline) (C : Complete j) (t r : ℕ) (h : r < row_count j t) wher
   decide_repeat p = go (hook j t r) refl
     where
       go : (x : Option Hook) → hook j t r ≡ x → Decided j t r
-      go none e =
+      go None e =
           let must : needs_parent j t ≡ true = rw p in
-          inr (nowhere_tour j t r (own_nowhere j C t r p h e), it (record { needs = must; none_there = hangs_hook p ∙ ap (map (λ (k : Hook). row_of k.table k.row)) e }))
-      go (some k) e = turn (once_or_adrift j C t r k.loop k.table k.row (stops_hooked j C t r p h k e) (hook_good j t r k p e).exists)
+          inr (nowhere_tour j t r (own_nowhere j C t r p h e), it (record { needs = must; none_there = hangs_hook p ∙ ap (option_map (λ (k : Hook). row_of k.table k.row)) e }))
+      go (Some k) e = turn (once_or_adrift j C t r k.loop k.table k.row (stops_hooked j C t r p h k e) (hook_good j t r k p e).exists)
         where
-          hung : hangs j t r ≡ some (row_of k.table k.row)
-          hung = hangs_hook p ∙ ap (map (λ (k : Hook). row_of k.table k.row)) e
+          hung : hangs j t r ≡ Some (row_of k.table k.row)
+          hung = hangs_hook p ∙ ap (option_map (λ (k : Hook). row_of k.table k.row)) e
 
           turn : ((stops_of t r (tour j) ≡ 1) × (Adrift j k.table k.row → ⊥)) ⊎ ((stops_of t r (tour j) ≡ 0) × Adrift j k.table k.row) → Decided j t r
           turn (inl (c, d)) = inl (c, λ a. d (adrift_up j t r (row_of k.table k.row) hung a))

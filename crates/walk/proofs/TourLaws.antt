@@ -1,20 +1,18 @@
 -- Instances and steps, one law for each way that code takes.
-use Prim.Native.Nat.{ℕ, zero, suc, ◌+◌, ◌-◌, ◌≤◌, ◌<◌, max}
-use mathlib.Core.Path.{◌≡◌, refl, sym, ap, ◌∙◌}
+use Prim.Native.Nat.{ℕ, suc, ◌+◌, ◌≤◌, ◌<◌, max}
+use mathlib.Core.Path.{◌≡◌, refl, ap, ◌∙◌}
 use mathlib.Core.Logic.{◌⊎◌, inl, inr}
-use mathlib.Core.Bool.{Bool, true, false, cond, not, ◌&&◌, ◌||◌}
+use mathlib.Core.Bool.{Bool, true, false, cond, not, ◌&&◌}
 use mathlib.Core.List.{List, [], ◌∷◌, ◌++◌, map, append-nil}
-use mathlib.Core.Option.{Option, none, some}
-use native.Mathlib.Omega.{arith}
+use Rattle.std.specs.Prelude.{Option, None, Some}
 use lib.ListN.{length, drop, get_or, drop_of_length-le}
-use lib.Dec.{ltb}
 use borrow.Author.Tests.{lt-ltb, le-ltb}
 use Rattle.nest.specs.Lists.{each, some_of, is_empty_list, on, sum}
-use Rattle.nest.specs.Outline.{Outline, Kind, absent, envelope, implied, rows, inside, groups, row_table, Source, of_envelope, of_row, of_repeat, Item, segment, loop, item_loops, loop_of, kind_of, order_of, segment_of, planned, has_occurrence}
-use Rattle.nest.specs.Nest.{row_of, repeat_rows}
+use Rattle.nest.specs.Outline.{Outline, Kind, absent, envelope, implied, rows, inside, groups, row_table, of_envelope, of_row, of_repeat, Item, segment, loop, item_loops, loop_of, kind_of, order_of, segment_of, planned, has_occurrence}
+use Rattle.nest.specs.Nest.{repeat_rows}
 use Rattle.nest.proofs.Scan.{each_map, drop_next, some_at, some_not_at, some_past}
-use Rattle.walk.specs.Instances.{Context, Piece, outside, pieces, pieces_of, in_row, in_piece, shown, rows_in, by_kind, instances}
-use Rattle.walk.specs.Tour.{Step, enters, stop, opener, row_segment, fill, chunk, closer, segments_in, own_row, stop_at, chunks_of, chunk_steps, repeat_steps, due_row, from_source, segment_steps, item_steps, body_steps, opens_at, opened, children, close_steps, instance_steps, visits, tour_to, tour}
+use Rattle.walk.specs.Instances.{Context, outside, pieces, pieces_of, in_row, in_piece, shown, rows_in, by_kind, instances}
+use Rattle.walk.specs.Tour.{Step, enters, stop, opener, row_segment, closer, segments_in, own_row, chunks_of, chunk_steps, repeat_steps, due_row, segment_steps, item_steps, body_steps, opens_at, opened, children, close_steps, instance_steps, visits, tour_to}
 
 -- ---- the instances of a loop, by its kind
 
@@ -38,15 +36,15 @@ pub inst_groups : (j : Outline) (h l t : ℕ) (c : Context) → kind_of j l ≡ 
 unfolding instances by_kind
 inst_groups j h l t c e = rw e
 
-pub inst_rowless : (j : Outline) (h l t : ℕ) (c : Context) → kind_of j l ≡ inside t → c.row t ≡ none → instances j (suc h) l c ≡ []
+pub inst_rowless : (j : Outline) (h l t : ℕ) (c : Context) → kind_of j l ≡ inside t → c.row t ≡ None → instances j (suc h) l c ≡ []
 unfolding instances by_kind
 inst_rowless j h l t c e q = rw e (rw q)
 
-pub inst_shown : (j : Outline) (h l t r : ℕ) (c : Context) → kind_of j l ≡ inside t → c.row t ≡ some r → shown j l t r ≡ true → instances j (suc h) l c ≡ c ∷ []
+pub inst_shown : (j : Outline) (h l t r : ℕ) (c : Context) → kind_of j l ≡ inside t → c.row t ≡ Some r → shown j l t r ≡ true → instances j (suc h) l c ≡ c ∷ []
 unfolding instances by_kind
 inst_shown j h l t r c e q s = rw e (rw q (rw s))
 
-pub inst_hidden : (j : Outline) (h l t r : ℕ) (c : Context) → kind_of j l ≡ inside t → c.row t ≡ some r → shown j l t r ≡ false → instances j (suc h) l c ≡ []
+pub inst_hidden : (j : Outline) (h l t r : ℕ) (c : Context) → kind_of j l ≡ inside t → c.row t ≡ Some r → shown j l t r ≡ false → instances j (suc h) l c ≡ []
 unfolding instances by_kind
 inst_hidden j h l t r c e q s = rw e (rw q (rw s))
 
@@ -121,20 +119,20 @@ pub instance_steps_lem : (inner : ℕ → Context → List Context) (below : ℕ
 unfolding instance_steps
 instance_steps_lem inner below j l c = refl
 
-pub body_row : (below : ℕ → Context → List Step) (j : Outline) (l t r : ℕ) (c : Context) → kind_of j l ≡ rows t → c.row t ≡ some r
+pub body_row : (below : ℕ → Context → List Step) (j : Outline) (l t r : ℕ) (c : Context) → kind_of j l ≡ rows t → c.row t ≡ Some r
     → body_steps below j l c ≡ stop l t r ∷ each (item_steps below j l c) (drop 0 (order_of j l))
 unfolding body_steps
 body_row below j l t r c e q = rw e (rw q)
 
-pub body_rowless : (below : ℕ → Context → List Step) (j : Outline) (l : ℕ) (c : Context) → own_row (kind_of j l) c ≡ none
+pub body_rowless : (below : ℕ → Context → List Step) (j : Outline) (l : ℕ) (c : Context) → own_row (kind_of j l) c ≡ None
     → body_steps below j l c ≡ each (item_steps below j l c) (drop 0 (order_of j l))
 unfolding body_steps
 body_rowless below j l c e = rw e
 
-pub own_none : (k : Kind) (c : Context) → row_table k ≡ none → own_row k c ≡ none
+pub own_none : (k : Kind) (c : Context) → row_table k ≡ None → own_row k c ≡ None
 own_none k c e = rw e
 
-pub own_null : (k : Kind) (c : Context) (t : ℕ) → row_table k ≡ some t → c.row t ≡ none → own_row k c ≡ none
+pub own_null : (k : Kind) (c : Context) (t : ℕ) → row_table k ≡ Some t → c.row t ≡ None → own_row k c ≡ None
 own_null k c t e q = rw e (rw q)
 
 pub close_both : (j : Outline) (l n : ℕ) (body : List Step) → (loop_of j l).ends ≡ true → (loop_of j l).controlled ≡ true
@@ -208,16 +206,16 @@ pub segment_free : (j : Outline) (l : ℕ) (c : Context) (i : ℕ) → i < plann
 unfolding segment_steps
 segment_free j l c i h s e = rw (lt-ltb i (planned j l) h, s) (rw e)
 
-pub segment_rowless : (j : Outline) (l : ℕ) (c : Context) (i t : ℕ) → i < planned j l → (segment_of j l i).source ≡ of_row t → c.row t ≡ none → segment_steps j l c i ≡ []
+pub segment_rowless : (j : Outline) (l : ℕ) (c : Context) (i t : ℕ) → i < planned j l → (segment_of j l i).source ≡ of_row t → c.row t ≡ None → segment_steps j l c i ≡ []
 unfolding segment_steps
 segment_rowless j l c i t h s e = rw (lt-ltb i (planned j l) h, s) (rw e)
 
-pub segment_row : (j : Outline) (l : ℕ) (c : Context) (i t r : ℕ) → i < planned j l → (segment_of j l i).source ≡ of_row t → c.row t ≡ some r → has_occurrence j l i ≡ true → due_row j l i t r ≡ true
+pub segment_row : (j : Outline) (l : ℕ) (c : Context) (i t r : ℕ) → i < planned j l → (segment_of j l i).source ≡ of_row t → c.row t ≡ Some r → has_occurrence j l i ≡ true → due_row j l i t r ≡ true
     → segment_steps j l c i ≡ row_segment l i t r ∷ []
 unfolding segment_steps
 segment_row j l c i t r h s e q d = rw (lt-ltb i (planned j l) h, s) (rw e (rw (q, d)))
 
-pub segment_skipped : (j : Outline) (l : ℕ) (c : Context) (i t r : ℕ) → i < planned j l → (segment_of j l i).source ≡ of_row t → c.row t ≡ some r → due_row j l i t r ≡ false
+pub segment_skipped : (j : Outline) (l : ℕ) (c : Context) (i t r : ℕ) → i < planned j l → (segment_of j l i).source ≡ of_row t → c.row t ≡ Some r → due_row j l i t r ≡ false
     → segment_steps j l c i ≡ []
 unfolding segment_steps
 segment_skipped j l c i t r h s e d = rw (lt-ltb i (planned j l) h, s) (rw e (rw d (go (has_occurrence j l i))))
@@ -233,11 +231,11 @@ unfolding segment_steps
 segment_nameless j l c i t h (inl s) q = rw (lt-ltb i (planned j l) h, s) (rw q (go (c.row t)))
   where
     go : (x : Option ℕ) → on {B = List Step} x (λ r. []) [] ≡ []
-    go none = refl
-    go (some r) = refl
+    go None = refl
+    go (Some r) = refl
 segment_nameless j l c i t h (inr s) q = rw (lt-ltb i (planned j l) h, s) (rw q)
 
-pub segment_ownerless : (j : Outline) (l : ℕ) (c : Context) (i t : ℕ) → i < planned j l → (segment_of j l i).source ≡ of_repeat t → own_row (kind_of j l) c ≡ none → segment_steps j l c i ≡ []
+pub segment_ownerless : (j : Outline) (l : ℕ) (c : Context) (i t : ℕ) → i < planned j l → (segment_of j l i).source ≡ of_repeat t → own_row (kind_of j l) c ≡ None → segment_steps j l c i ≡ []
 unfolding segment_steps
 segment_ownerless j l c i t h s e = rw (lt-ltb i (planned j l) h, s) (rw e (go (has_occurrence j l i)))
   where
@@ -245,7 +243,7 @@ segment_ownerless j l c i t h s e = rw (lt-ltb i (planned j l) h, s) (rw e (go (
     go true = refl
     go false = refl
 
-pub segment_repeat : (j : Outline) (l : ℕ) (c : Context) (i t u p : ℕ) → i < planned j l → (segment_of j l i).source ≡ of_repeat t → has_occurrence j l i ≡ true → kind_of j l ≡ rows u → c.row u ≡ some p
+pub segment_repeat : (j : Outline) (l : ℕ) (c : Context) (i t u p : ℕ) → i < planned j l → (segment_of j l i).source ≡ of_repeat t → has_occurrence j l i ≡ true → kind_of j l ≡ rows u → c.row u ≡ Some p
     → segment_steps j l c i ≡ repeat_steps j l i t p
 unfolding segment_steps
 segment_repeat j l c i t u p h s q e o = rw (lt-ltb i (planned j l) h, s) (rw (q, e) (rw o))

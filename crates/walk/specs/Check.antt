@@ -1,6 +1,5 @@
 -- The plan check's conditions 1 to 4 as tests, as code would make them (`proofs/CheckRight`: they pass exactly when the conditions hold).
-use Rattle.std.specs.Prelude.{ℕ, zero, suc, ◌+◌, Bool, true, false, not, ◌&&◌, ◌||◌, List, [], ◌∷◌, length, eqb, ltb, leb}
-use Rattle.std.proofs.Math.Option.{Option, none, some}
+use Rattle.std.specs.Prelude.{ℕ, zero, suc, ◌+◌, Bool, true, false, not, ◌&&◌, ◌||◌, List, [], ◌∷◌, length, eqb, ltb, leb, Option, None, Some}
 use Rattle.nest.specs.Lists.{once, on, times, is}
 use Rattle.nest.specs.Outline.{Outline, Kind, rows, absent, envelope, implied, inside, groups, row_table, Source, of_envelope, of_row, of_repeat, item_loops, item_segments, loop_of, plan_of, table_of, parent_of, kind_of, order_of, segment_of, table_parent, plain, repeated}
 use Rattle.walk.specs.Complete.{climbs, is_root}
@@ -24,17 +23,17 @@ rows_of t k = is (row_table k) t
 
 -- the table that a `Rows` or `Groups` loop names
 abbrev pub named : Kind → Option ℕ
-named absent = none
-named envelope = none
-named implied = none
-named (rows u) = some u
-named (inside u) = none
-named (groups u) = some u
+named absent = None
+named envelope = None
+named implied = None
+named (rows u) = Some u
+named (inside u) = None
+named (groups u) = Some u
 
 abbrev pub repeat_table : Source → Option ℕ
-repeat_table of_envelope = none
-repeat_table (of_row t) = none
-repeat_table (of_repeat t) = some t
+repeat_table of_envelope = None
+repeat_table (of_row t) = None
+repeat_table (of_repeat t) = Some t
 
 -- how many segments a loop plans
 abbrev pub planned : Outline → ℕ → ℕ

@@ -1,7 +1,6 @@
 -- A complete plan, conditions 1 to 4 of document 01, and the tree that refusal 4 leaves. Of condition 2 the lists that the walk does not
 -- look at here (forced, group columns, depth, data, capacities) are left out.
-use Rattle.std.specs.Prelude.{ℕ, zero, suc, ◌≤◌, ◌<◌, ◌≡◌, ◌⊎◌, Bool, true, false, ◌&&◌, length, ltb, eqb}
-use Rattle.std.proofs.Math.Option.{some}
+use Rattle.std.specs.Prelude.{ℕ, zero, suc, ◌≤◌, ◌<◌, ◌≡◌, ◌⊎◌, Bool, true, false, ◌&&◌, length, ltb, eqb, Some}
 use Rattle.nest.specs.Lists.{once, on, times, is}
 use Rattle.nest.specs.Outline.{Outline, Kind, rows, absent, envelope, implied, inside, groups, of_repeat, item_loops, item_segments, loop_of, plan_of, table_of, parent_of, kind_of, order_of, segment_of, table_parent, plain, repeated}
 
@@ -14,8 +13,8 @@ pub record ExactlyOne (P : ℕ → Type 0) : Type 0 where
 
 -- loop m stands above loop l
 pub data Above (j : Outline) : ℕ → ℕ → Type 0 where
-  next : {m l : ℕ} → parent_of j l ≡ some m → Above j m l
-  higher : {m p l : ℕ} → parent_of j l ≡ some p → Above j m p → Above j m l
+  next : {m l : ℕ} → parent_of j l ≡ Some m → Above j m l
+  higher : {m p l : ℕ} → parent_of j l ≡ Some p → Above j m p → Above j m l
 
 -- h loops, l the first, and each the parent of the one before, come to a loop without parent
 unfoldable pub climbs : Outline → ℕ → ℕ → Bool
@@ -38,8 +37,8 @@ pub record Tree (j : Outline) : Type 0 where
 
 -- u is the parent of t, that one's parent and so on
 pub data TableAbove (j : Outline) : ℕ → ℕ → Type 0 where
-  next : {u t : ℕ} → table_parent j t ≡ some u → TableAbove j u t
-  higher : {u p t : ℕ} → table_parent j t ≡ some p → TableAbove j u p → TableAbove j u t
+  next : {u t : ℕ} → table_parent j t ≡ Some u → TableAbove j u t
+  higher : {u p t : ℕ} → table_parent j t ≡ Some p → TableAbove j u p → TableAbove j u t
 
 -- what may stand above a row loop
 abbrev pub may_stand : Kind → Bool
@@ -93,7 +92,7 @@ pub record Complete (j : Outline) : Type 0 where
   pub order_loops : (l k : ℕ) → times k (item_loops (order_of j l)) ≡ times k (loop_of j l).children
   pub order_segments : (l i : ℕ) → times i (item_segments (order_of j l)) ≡ once (ltb i (length (plan_of j l).segments))
   pub occurrences : (l i : ℕ) → i < length (plan_of j l).segments → (segment_of j l i).occurrence < (loop_of j l).occurrences
-  pub parents_plain : (t u : ℕ) → table_parent j t ≡ some u → plain j u ≡ true
+  pub parents_plain : (t u : ℕ) → table_parent j t ≡ Some u → plain j u ≡ true
   -- 3
   pub above_kinds : (l t m : ℕ) → kind_of j l ≡ rows t → Above j m l → may_stand (kind_of j m) ≡ true
   pub above_only : (l t m u : ℕ) → kind_of j l ≡ rows t → Above j m l → kind_of j m ≡ rows u → TableAbove j u t

@@ -1,8 +1,7 @@
 -- The instances of a loop inside an instance (write/walk.rs).
-use Rattle.std.specs.Prelude.{ℕ, zero, suc, ◌+◌, Bool, true, false, cond, not, ◌&&◌, ◌||◌, List, [], ◌∷◌, map, length, eqb}
-use Rattle.std.proofs.Math.Option.{Option, none, some}
+use Rattle.std.specs.Prelude.{ℕ, zero, suc, ◌+◌, Bool, true, false, cond, not, ◌&&◌, ◌||◌, List, [], ◌∷◌, map, length, eqb, Option, None, Some}
 use Rattle.nest.specs.Lists.{some_of, is_empty_list, on, from, is, part}
-use Rattle.nest.specs.Outline.{Outline, Kind, rows, absent, envelope, implied, inside, groups, inside_table, source_table, loop_of, plan_of, kind_of, segment_of, planned, table_parent, row_count, plain}
+use Rattle.nest.specs.Outline.{Outline, Kind, rows, absent, envelope, implied, inside, groups, inside_table, source_table, loop_of, kind_of, segment_of, planned, table_parent, row_count, plain}
 use Rattle.nest.specs.Nest.{referred, held}
 
 -- a run of grouped rows: its table, and its bounds counted from the start of the parent's list
@@ -17,10 +16,10 @@ pub record Context : Type 0 where
   pub run : Option Run
 
 abbrev pub outside : Context
-outside = record { row = λ t. none; run = none }
+outside = record { row = λ t. None; run = None }
 
 abbrev pub at : ℕ → ℕ → (ℕ → Option ℕ) → ℕ → Option ℕ
-at t r old u = cond (eqb u t) (some r) (old u)
+at t r old u = cond (eqb u t) (Some r) (old u)
 
 -- ---- the rows of a table in a context
 
@@ -78,12 +77,12 @@ has_data j (suc h) l t r = own_data j l t r || some_of (λ k. is (inside_table (
 -- ---- the six kinds
 
 abbrev pub in_row : ℕ → Context → ℕ → Context
-in_row t c r = record { row = at t r c.row; run = none }
+in_row t c r = record { row = at t r c.row; run = None }
 
 abbrev pub in_piece : ℕ → Context → Piece → Context
 in_piece t c p = record {
   row = at t p.head c.row;
-  run = some (record { table = t; start = offset t c.run + p.start; end = offset t c.run + p.end });
+  run = Some (record { table = t; start = offset t c.run + p.start; end = offset t c.run + p.end });
 }
 
 -- a required loop, or one with data

@@ -1,6 +1,5 @@
 -- What the walk asks for: a job that passed, its index, nest's array and its flags; and a context whose rows are there and whose run begins at its table's row.
-use Rattle.std.specs.Prelude.{ℕ, ◌+◌, ◌*◌, ◌≤◌, ◌<◌, ◌≡◌, true, false, List, length, get_or}
-use Rattle.std.proofs.Math.Option.{some}
+use Rattle.std.specs.Prelude.{ℕ, ◌+◌, ◌*◌, ◌≤◌, ◌<◌, ◌≡◌, true, false, List, length, get_or, Some}
 use Rattle.format.specs.Refusal.{rows_of_all}
 use Rattle.format.specs.Sections.{job_of}
 use Rattle.nest.specs.Lists.{keep, up_to}
@@ -17,7 +16,7 @@ pub record Nested (b idx n : List ℕ) : Type 0 where
   pub rising : (t : ℕ) → rises n t ≡ true → falls (outline_at b) t ≡ false
 
 pub record Sound (o : Outline) (c : Context) : Type 0 where
-  pub there : (t r : ℕ) → c.row t ≡ some r → r < row_count o t
+  pub there : (t r : ℕ) → c.row t ≡ Some r → r < row_count o t
   -- before the row where a run begins stand as many of the parent's list as its start says; a table that is its own parent has another list in the run
-  pub begun : (p : Run) (r : ℕ) → c.run ≡ some p → c.row p.table ≡ some r → (table_parent o p.table ≡ some p.table → ⊥)
+  pub begun : (p : Run) (r : ℕ) → c.run ≡ Some p → c.row p.table ≡ Some r → (table_parent o p.table ≡ Some p.table → ⊥)
       → length (keep (held_by o p.table c.row) (up_to 0 r)) ≡ p.start

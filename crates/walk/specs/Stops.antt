@@ -1,6 +1,5 @@
 -- Demand 3, the stops: what the list of stops of a job with a complete plan is.
-use Rattle.std.specs.Prelude.{ℕ, ◌<◌, ◌≡◌, ◌⊎◌, true, ◌&&◌, List, length, eqb}
-use Rattle.std.proofs.Math.Option.{some}
+use Rattle.std.specs.Prelude.{ℕ, ◌<◌, ◌≡◌, ◌⊎◌, true, ◌&&◌, List, length, eqb, Some}
 use Rattle.nest.specs.Lists.{once, sum, All}
 use Rattle.nest.specs.Outline.{Outline, rows, kind_of, row_count, plain}
 use Rattle.nest.specs.Nest.{Hook, hook, Adrift}
@@ -21,7 +20,7 @@ stops_of t r = sum (is_stop t r)
 
 -- the loop in which a row stops: its table's row loop, or the anchor that nest picks
 abbrev pub RowLoop : Outline → ℕ → ℕ → ℕ → Type 0
-RowLoop j l t r = ((plain j t ≡ true) × (kind_of j l ≡ rows t)) ⊎ ((k : Hook) × (hook j t r ≡ some k) × (k.loop ≡ l))
+RowLoop j l t r = ((plain j t ≡ true) × (kind_of j l ≡ rows t)) ⊎ ((k : Hook) × (hook j t r ≡ Some k) × (k.loop ≡ l))
 
 -- a stop names a row that exists, and its loop
 abbrev pub RightStop : Outline → Step → Type 0

@@ -1,10 +1,9 @@
 -- The walk as a list of steps (write/emit.rs, `run` and `instance`). A step needs no history: what depends on it, such as control numbers and
 -- the highest row of a table, is a fold over the steps.
-use Rattle.std.specs.Prelude.{ℕ, zero, suc, ◌+◌, ◌-◌, max, Bool, true, false, cond, ◌&&◌, ◌||◌, List, [], ◌∷◌, ◌++◌, map, length, ltb}
-use Rattle.std.proofs.Math.Option
-use Rattle.std.proofs.Math.Option.{Option, none, some}
+use Rattle.std.specs.Prelude.{ℕ, zero, suc, ◌-◌, max, Bool, true, false, cond, ◌&&◌, ◌||◌, List, [], ◌∷◌, ◌++◌, length, ltb, Option, None}
+use Rattle.std.specs.Option.{option_map}
 use Rattle.nest.specs.Lists.{each, some_of, on, sum}
-use Rattle.nest.specs.Outline.{Outline, Kind, row_table, Source, of_envelope, of_row, of_repeat, Item, segment, loop, item_loops, loop_of, plan_of, kind_of, order_of, segment_of, planned, has_occurrence}
+use Rattle.nest.specs.Outline.{Outline, Kind, row_table, Source, of_envelope, of_row, of_repeat, Item, segment, loop, item_loops, loop_of, kind_of, order_of, segment_of, planned, has_occurrence}
 use Rattle.nest.specs.Nest.{Row, row_of, repeat_rows}
 use Rattle.walk.specs.Instances.{Context, outside, instances}
 
@@ -84,7 +83,7 @@ due_list = each (λ s. cond (ltb 0 (writes s)) (s ∷ []) [])
 
 -- the row that opened it
 abbrev pub own_row : Kind → Context → Option Row
-own_row k c = on (row_table k) (λ t. Option.map (row_of t) (c.row t)) none
+own_row k c = on (row_table k) (λ t. option_map (row_of t) (c.row t)) None
 
 -- it stops there
 abbrev pub stop_at : ℕ → Option Row → List Step

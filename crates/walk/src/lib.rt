@@ -5,18 +5,22 @@ ghost use Rattle.std.specs.Prelude.{◌≡◌, ℕ, ◌+◌, ◌≤◌, ◌<◌,
 ghost use Rattle.walk.specs.Census.{counted};
 ghost use Rattle.walk.specs.Contexts.{kept_outside, kept_row, kept_piece, row_by, start_by, end_by};
 
-use nest::Found;
 use spec::ids::{RowId, TableId};
 
-// The rows an instance sits in: for each table a row plus one, or 0; and inside an instance given by a run of grouped rows the run, by its table and its
-// bounds, counted from the start of the parent's list.
+// A run of grouped rows: its table, and its bounds, counted from the start of the parent's list.
+#[derive(Clone, Copy)]
+pub struct Run {
+    pub table: TableId,
+    pub start: usize,
+    pub end: usize,
+}
+
+// The rows an instance sits in: for each table a row plus one, or 0; and inside an instance given by a run of grouped rows the run.
+// No Option for the rows: a context is passed by value to each loop below, and 16 of Option<RowId> are twice as large.
 #[derive(Clone, Copy)]
 pub struct Context {
     pub rows: [u32; 16],
-    pub grouped: bool,
-    pub table: u32,
-    pub start: usize,
-    pub end: usize,
+    pub run: Option<Run>,
 }
 
 // Outside of all loops.
@@ -26,10 +30,7 @@ pub fn outside() -> Context
     let rows: [u32; 16] = [0; 16];
     Context {
         rows: rows,
-        grouped: false,
-        table: 0,
-        start: 0,
-        end: 0,
+        run: None,
     }
 }
 
@@ -43,10 +44,7 @@ pub fn in_row(c: Context, t: TableId, r: RowId) -> Context
     rows[i] = r.0 + 1;
     Context {
         rows: rows,
-        grouped: false,
-        table: 0,
-        start: 0,
-        end: 0,
+        run: None,
     }
 }
 
@@ -60,15 +58,16 @@ pub fn in_piece(c: Context, t: TableId, head: RowId, start: usize, end: usize) -
     rows[i] = head.0 + 1;
     Context {
         rows: rows,
-        grouped: true,
-        table: t.0,
-        start: start,
-        end: end,
+        run: Some(Run {
+            table: t,
+            start: start,
+            end: end,
+        }),
     }
 }
 
 // The row of table t that an instance sits in.
-pub fn row_in(c: Context, t: TableId) -> Found
+pub fn row_in(c: Context, t: TableId) -> Option<RowId>
     requires { t.0 < 16 }
     ensures { result ≡ row_by c t.0 }
 {
@@ -76,37 +75,29 @@ pub fn row_in(c: Context, t: TableId) -> Found
     let rows = c.rows;
     let p = rows[i];
     if p == 0 {
-        return Found::Nothing;
+        return None;
     }
-    Found::Row(RowId(p - 1))
+    Some(RowId(p - 1))
 }
 
 // Where the rows of table t start in the parent's list.
 pub fn start_in(c: Context, t: TableId) -> usize
     ensures { result ≡ start_by c t.0 }
 {
-    let grouped = c.grouped;
-    if grouped {
-        if c.table == t.0 {
-            return c.start;
-        }
-        return 0;
+    match c.run {
+        Some(r) => if r.table.0 == t.0 { r.start } else { 0 },
+        None => 0,
     }
-    0
 }
 
 // And where they end, of n rows.
 pub fn end_in(c: Context, t: TableId, n: usize) -> usize
     ensures { result ≡ end_by c t.0 n }
 {
-    let grouped = c.grouped;
-    if grouped {
-        if c.table == t.0 {
-            return c.end;
-        }
-        return n;
+    match c.run {
+        Some(r) => if r.table.0 == t.0 { r.end } else { n },
+        None => n,
     }
-    n
 }
 
 // The number of instances so far, one more: it stops at the first number past the limit of refusal 6.

@@ -1,6 +1,6 @@
 -- The answer and the lists, a law for each way through the code.
 use Prim.Native.Nat.{ℕ, zero, suc, ◌≤◌, ◌<◌}
-use mathlib.Core.Path.{◌≡◌, refl}
+use mathlib.Core.Path.{◌≡◌, refl, sym}
 use mathlib.Core.Bool.{true, false}
 use mathlib.Core.List.{List, []}
 use native.Mathlib.Omega.{arith}
@@ -18,8 +18,12 @@ use Rattle.walk.specs.Tour.{census}
 use Rattle.emit.specs.Did.{traced_word, stop_word}
 use Rattle.lossless.specs.NothingLost.{NothingLost}
 use Rattle.lossless.proofs.Theorem.{nothing_lost}
-use Rattle.writer.specs.declared.Answer.{Answer}
-use Rattle.writer.specs.Answer.{number_of, values_of}
+use Rattle.std.specs.Prelude.{Err}
+use Rattle.refusal.specs.declared.Refusal.{Refusal}
+use Rattle.refusal.specs.declared.Refusal.TheVariants as refusal
+use Rattle.refusal.specs.Answer.{number}
+use Rattle.writer.specs.declared.Refused.TheVariants.{Job}
+use Rattle.writer.specs.Answer.{Answered, number_of, values_of}
 use Rattle.writer.specs.Result.{result_of, counts_of}
 use Rattle.writer.specs.Refused.{first_of, crowded, refusal}
 use Rattle.writer.specs.Lists.{in_front, holding}
@@ -62,13 +66,21 @@ kept b h = nothing_lost b (passed b (go (refusal_of b) refl h))
 
 -- ---- a refused job
 
-pub wrote_refused : {b d g w p : List ℕ} {from room : ℕ} (k : ℕ) (a : Answer) → refusal b ≡ suc k → number_of a ≡ suc k → values_of a ≡ [] → WroteFrom b d d g g w w p p from room a
+pub wrote_refused : {b d g w p : List ℕ} {from room : ℕ} (k : ℕ) (a : Answered) → refusal b ≡ suc k → number_of a ≡ suc k → values_of a ≡ [] → WroteFrom b d d g g w w p p from room a
 unfolding number_for values_for window_from
 wrote_refused {b} k a h n v = record { number = rw h n; values = rw h v; document = rw h; segments = rw h; findings = rw h; stops = rw h; nothing_lost = kept b }
 
+-- one that is refused for itself
+pub wrote_not : {b d g w p : List ℕ} {from room : ℕ} (r : Refusal) → number r ≡ refusal_of b → WroteFrom b d d g g w w p p from room (Err (Job r))
+wrote_not refusal.Size h = wrote_refused 0 _ (refused_low _ 0 (sym h)) refl refl
+wrote_not refusal.Structure h = wrote_refused 1 _ (refused_low _ 1 (sym h)) refl refl
+wrote_not refusal.Limit h = wrote_refused 2 _ (refused_low _ 2 (sym h)) refl refl
+wrote_not refusal.Loops h = wrote_refused 3 _ (refused_low _ 3 (sym h)) refl refl
+wrote_not refusal.Text h = wrote_refused 4 _ (refused_low _ 4 (sym h)) refl refl
+
 -- ---- a job that passes
 
-pub wrote_all : {b d d' g g' w w' p p' : List ℕ} {from room : ℕ} (a : Answer) → refusal b ≡ 0
+pub wrote_all : {b d d' g g' w w' p p' : List ℕ} {from room : ℕ} (a : Answered) → refusal b ≡ 0
     → number_of a ≡ pick (short (result_of (job_of b)) (length d) (threes g) room (threes p)) 7 0 → values_of a ≡ counts_of (result_of (job_of b))
     → d' ≡ in_front (take (length d) (result_of (job_of b)).bytes) d
     → g' ≡ holding (threes g) traced_word (result_of (job_of b)).segments g

@@ -3,8 +3,8 @@ use Prim.Native.Nat.{ℕ, zero, suc, ◌+◌, ◌≤◌, max}
 use mathlib.Core.Path.{◌≡◌, refl}
 use mathlib.Core.Bool.{Bool, true, false, cond, ◌&&◌}
 use mathlib.Core.List.{List, [], ◌∷◌, ◌++◌}
-use mathlib.Core.Option.{Option, none, some}
 use native.Mathlib.Omega.{arith}
+use Rattle.std.specs.Prelude.{Option, None, Some}
 use lib.ListN.{length}
 use lib.Dec.{ltb}
 use Rattle.nest.specs.Lists.{each, on, sum, All}
@@ -50,8 +50,8 @@ module _ (j : Outline) (T : ℕ) where
   segment_fine l c i = go (ltb i (length (plan_of j l).segments))
     where
       owned : (t : ℕ) (x : Option Row) → All (Fine T) (on x (λ p. repeat_steps j l i t p.row) [])
-      owned t none = tt
-      owned t (some p) = repeats_fine l i t p.row
+      owned t None = tt
+      owned t (Some p) = repeats_fine l i t p.row
 
       fits : (t : ℕ) (b : Bool) → All (Fine T) (cond b (on (own_row (kind_of j l) c) (λ p. repeat_steps j l i t p.row) []) [])
       fits t true = owned t (own_row (kind_of j l) c)
@@ -66,8 +66,8 @@ module _ (j : Outline) (T : ℕ) where
       is_due t r false = tt
 
       given : (t : ℕ) (x : Option ℕ) → All (Fine T) (on x (λ r. cond (has_occurrence j l i && due_row j l i t r) (row_segment l i t r ∷ []) []) [])
-      given t none = tt
-      given t (some r) = is_due t r (has_occurrence j l i && due_row j l i t r)
+      given t None = tt
+      given t (Some r) = is_due t r (has_occurrence j l i && due_row j l i t r)
 
       by_source : (s : Source) → All (Fine T) (from_source j l i c s)
       by_source of_envelope = choose (loop_of j l).controlled
@@ -94,8 +94,8 @@ module _ (j : Outline) (T : ℕ) where
       (items_fine l c below b its (omega (arith, h, load_append (below k c) (each (item_steps below j l c) its))))
 
   stop_fine : (l : ℕ) (x : Option Row) → All (Fine T) (stop_at l x)
-  stop_fine l none = tt
-  stop_fine l (some p) = (tt, tt)
+  stop_fine l None = tt
+  stop_fine l (Some p) = (tt, tt)
 
   close_fine : (l n : ℕ) (body : List Step) → n ≤ T → segments_in body + segments_in (close_steps j l n body) ≤ T → All (Fine T) (close_steps j l n body)
   unfolding close_steps segments_in

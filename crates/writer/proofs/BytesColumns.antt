@@ -3,8 +3,9 @@ use Prim.Native.Nat.{ℕ, ◌+◌, ◌*◌, ◌-◌, ◌≤◌, ◌<◌}
 use mathlib.Core.Path.{◌≡◌, refl, sym, ◌∙◌}
 use mathlib.Core.Bool.{Bool, true, false}
 use mathlib.Core.List.{List}
-use mathlib.Core.Option.{Option, none, some, none-ne-some}
 use native.Mathlib.Omega.{arith}
+use Rattle.std.specs.Prelude.{Option, None, Some}
+use Rattle.std.proofs.lemmas.Option.{none-some}
 use lib.ListN.{length, get_or, take, drop, length-append, length-take, length-drop}
 use lib.Dec.{leb, ltb}
 use borrow.Author.Tests.{le-ltb, ltb-true}
@@ -40,18 +41,18 @@ value_ints (D.time32 xs) = 0
 
 -- no row from here on has a cell
 abbrev pub rows_in : Option Column → ℕ
-rows_in none = 0
-rows_in (some c) = value_rows c.values
+rows_in None = 0
+rows_in (Some c) = value_rows c.values
 
 -- the bytes of its texts
 abbrev pub bytes_in : Option Column → ℕ
-bytes_in none = 0
-bytes_in (some c) = value_bytes c.values
+bytes_in None = 0
+bytes_in (Some c) = value_bytes c.values
 
 -- the values of an `Int64` column
 abbrev pub ints_in : Option Column → ℕ
-ints_in none = 0
-ints_in (some c) = value_ints c.values
+ints_in None = 0
+ints_in (Some c) = value_ints c.values
 
 -- ---- its bytes in the data
 
@@ -90,57 +91,57 @@ values_in : (c : Column) → length (values_c.enc c.values) ≤ length (column_c
 unfolding column_c map_c dep_c
 values_in c = simp length-append (omega arith)
 
-pub option_in : {A : Type 0} (C : Codec A) (x : A) → length (C.enc x) ≤ length ((opt_c C).enc (some x))
+pub option_in : {A : Type 0} (C : Codec A) (x : A) → length (C.enc x) ≤ length ((opt_c C).enc (Some x))
 unfolding opt_c map_c enum_c ◌⊕◌
 option_in C x = omega arith
 
 pub column_takes : (c : Option Column) → rows_in c * 4 + bytes_in c ≤ length ((opt_c column_c).enc c)
-column_takes none = omega arith
-column_takes (some c) = omega (arith, values_take c.values, values_in c, option_in column_c c)
+column_takes None = omega arith
+column_takes (Some c) = omega (arith, values_take c.values, values_in c, option_in column_c c)
 
 pub ints_taken : (c : Option Column) → ints_in c * 8 ≤ length ((opt_c column_c).enc c)
-ints_taken none = omega arith
-ints_taken (some c) = omega (arith, ints_take c.values, values_in c, option_in column_c c)
+ints_taken None = omega arith
+ints_taken (Some c) = omega (arith, ints_take c.values, values_in c, option_in column_c c)
 
 -- ---- references
 
-told : (b : Option Bool) (x : Option Cell) (v : ℕ) → int64_of (validated b x) ≡ some v → int64_of x ≡ some v
-told none x v e = absurd (none-ne-some v e)
-told (some false) x v e = absurd (none-ne-some v e)
-told (some true) x v e = e
+told : (b : Option Bool) (x : Option Cell) (v : ℕ) → int64_of (validated b x) ≡ Some v → int64_of x ≡ Some v
+told None x v e = absurd (none-some v e)
+told (Some false) x v e = absurd (none-some v e)
+told (Some true) x v e = e
 
-int_held : (xs : List ℕ) (r v : ℕ) → int64_of (held int64 xs r) ≡ some v → r < length xs
+int_held : (xs : List ℕ) (r v : ℕ) → int64_of (held int64 xs r) ≡ Some v → r < length xs
 unfolding held
 int_held xs r v e = go (ltb r (length xs)) refl e
   where
-    go : (b : Bool) → ltb r (length xs) ≡ b → int64_of (pick b (some (int64 (get_or xs r 0))) none) ≡ some v → r < length xs
+    go : (b : Bool) → ltb r (length xs) ≡ b → int64_of (pick b (Some (int64 (get_or xs r 0))) None) ≡ Some v → r < length xs
     go true q e = ltb-true r (length xs) q
-    go false q e = absurd (none-ne-some v e)
+    go false q e = absurd (none-some v e)
 
-no_int : (f : ℕ → Cell) (xs : List ℕ) (r v : ℕ) → ((x : ℕ) → int64_of (some (f x)) ≡ none) → int64_of (held f xs r) ≡ some v → ⊥
+no_int : (f : ℕ → Cell) (xs : List ℕ) (r v : ℕ) → ((x : ℕ) → int64_of (Some (f x)) ≡ None) → int64_of (held f xs r) ≡ Some v → ⊥
 unfolding held
 no_int f xs r v n e = go (ltb r (length xs)) e
   where
-    go : (b : Bool) → int64_of (pick b (some (f (get_or xs r 0))) none) ≡ some v → ⊥
-    go true e = none-ne-some v (sym (n (get_or xs r 0)) ∙ e)
-    go false e = none-ne-some v e
+    go : (b : Bool) → int64_of (pick b (Some (f (get_or xs r 0))) None) ≡ Some v → ⊥
+    go true e = none-some v (sym (n (get_or xs r 0)) ∙ e)
+    go false e = none-some v e
 
-no_text : (offsets bytes : List ℕ) (r v : ℕ) → int64_of (bytes_of offsets bytes r) ≡ some v → ⊥
+no_text : (offsets bytes : List ℕ) (r v : ℕ) → int64_of (bytes_of offsets bytes r) ≡ Some v → ⊥
 unfolding bytes_of between
 no_text offsets bytes r v e =
     let a : ℕ = get_or offsets r 0 in
     let z : ℕ = get_or offsets (r + 1) 0 in
     go (ltb (r + 1) (length offsets)) (leb 2147483648 a) (leb 2147483648 z) (ltb z a) (ltb (length bytes) z) _ e
   where
-    go : (m n o p q : Bool) (t : List ℕ) → int64_of (pick m (pick n none (pick o none (pick p none (pick q none (some (binary t)))))) none) ≡ some v → ⊥
-    go false n o p q t e = none-ne-some v e
-    go true true o p q t e = none-ne-some v e
-    go true false true p q t e = none-ne-some v e
-    go true false false true q t e = none-ne-some v e
-    go true false false false true t e = none-ne-some v e
-    go true false false false false t e = none-ne-some v e
+    go : (m n o p q : Bool) (t : List ℕ) → int64_of (pick m (pick n None (pick o None (pick p None (pick q None (Some (binary t)))))) None) ≡ Some v → ⊥
+    go false n o p q t e = none-some v e
+    go true true o p q t e = none-some v e
+    go true false true p q t e = none-some v e
+    go true false false true q t e = none-some v e
+    go true false false false true t e = none-some v e
+    go true false false false false t e = none-some v e
 
-value_int : (x : D.Values) (r v : ℕ) → int64_of (value_of x r) ≡ some v → r < value_ints x
+value_int : (x : D.Values) (r v : ℕ) → int64_of (value_of x r) ≡ Some v → r < value_ints x
 unfolding value_of
 value_int (D.binary offsets bytes) r v e = absurd (no_text offsets bytes r v e)
 value_int (D.int64 xs s) r v e = int_held xs r v e
@@ -148,13 +149,13 @@ value_int (D.decimal xs s) r v e = absurd (no_int (λ x. decimal x s) xs r v (λ
 value_int (D.date32 xs) r v e = absurd (no_int date32 xs r v (λ x. refl) e)
 value_int (D.time32 xs) r v e = absurd (no_int time32 xs r v (λ x. refl) e)
 
-column_int : (c : Option Column) (r v : ℕ) → int64_of (opt_get c r) ≡ some v → r < ints_in c
+column_int : (c : Option Column) (r v : ℕ) → int64_of (opt_get c r) ≡ Some v → r < ints_in c
 unfolding opt_get get
-column_int none r v e = absurd (none-ne-some v e)
-column_int (some c) r v e = value_int c.values r v (told (bit_of c.validity c.length r) (value_of c.values r) v e)
+column_int None r v e = absurd (none-some v e)
+column_int (Some c) r v e = value_int c.values r v (told (bit_of c.validity c.length r) (value_of c.values r) v e)
 
 -- a row that has a reference stands among the values of its column
-pub reference_below : (refs : List (ℕ × Option Column)) (u r v : ℕ) → reference_in refs u r ≡ some v → r < ints_in (ref_column refs u)
+pub reference_below : (refs : List (ℕ × Option Column)) (u r v : ℕ) → reference_in refs u r ≡ Some v → r < ints_in (ref_column refs u)
 unfolding reference_in
 reference_below refs u r v e = column_int (ref_column refs u) r v e
 
@@ -170,15 +171,15 @@ weigh (date32 x) = 303
 weigh (time32 x) = 303
 
 valid_weigh : (b : Option Bool) (x : Option Cell) → weigh (or_null (validated b x)) ≤ weigh (or_null x)
-valid_weigh none x = omega arith
-valid_weigh (some false) x = omega arith
-valid_weigh (some true) x = omega arith
+valid_weigh None x = omega arith
+valid_weigh (Some false) x = omega arith
+valid_weigh (Some true) x = omega arith
 
 held_weigh : (f : ℕ → Cell) (xs : List ℕ) (r : ℕ) → ((x : ℕ) → weigh (f x) ≡ 303) → weigh (or_null (held f xs r)) ≤ 303
 unfolding held
 held_weigh f xs r n = go (ltb r (length xs))
   where
-    go : (b : Bool) → weigh (or_null (pick b (some (f (get_or xs r 0))) none)) ≤ 303
+    go : (b : Bool) → weigh (or_null (pick b (Some (f (get_or xs r 0))) None)) ≤ 303
     go true = omega (arith, n (get_or xs r 0))
     go false = omega arith
 
@@ -193,7 +194,7 @@ text_weigh offsets bytes r =
     let z : ℕ = get_or offsets (r + 1) 0 in
     go (ltb (r + 1) (length offsets)) (leb 2147483648 a) (leb 2147483648 z) (ltb z a) (ltb (length bytes) z) (take (z - a) (drop a bytes)) (omega (arith, length-take (z - a) (drop a bytes), length-drop a bytes))
   where
-    go : (m n o p q : Bool) (t : List ℕ) → length t ≤ length bytes → weigh (or_null (pick m (pick n none (pick o none (pick p none (pick q none (some (binary t)))))) none)) ≤ length bytes + 303
+    go : (m n o p q : Bool) (t : List ℕ) → length t ≤ length bytes → weigh (or_null (pick m (pick n None (pick o None (pick p None (pick q None (Some (binary t)))))) None)) ≤ length bytes + 303
     go false n o p q t h = omega arith
     go true true o p q t h = omega arith
     go true false true p q t h = omega arith
@@ -223,10 +224,10 @@ value_past (D.time32 xs) r h = held_past time32 xs r h
 
 pub cell_weigh : (c : Option Column) (r : ℕ) → weigh (cell_in c r) ≤ bytes_in c + 303
 unfolding cell_in opt_get get
-cell_weigh none r = omega arith
-cell_weigh (some c) r = omega (arith, valid_weigh (bit_of c.validity c.length r) (value_of c.values r), value_weigh c.values r)
+cell_weigh None r = omega arith
+cell_weigh (Some c) r = omega (arith, valid_weigh (bit_of c.validity c.length r) (value_of c.values r), value_weigh c.values r)
 
 pub cell_past : (c : Option Column) (r : ℕ) → rows_in c ≤ r → weigh (cell_in c r) ≡ 0
 unfolding cell_in opt_get get
-cell_past none r h = refl
-cell_past (some c) r h = omega (arith, valid_weigh (bit_of c.validity c.length r) (value_of c.values r), value_past c.values r h)
+cell_past None r h = refl
+cell_past (Some c) r h = omega (arith, valid_weigh (bit_of c.validity c.length r) (value_of c.values r), value_past c.values r h)

@@ -3,8 +3,9 @@ use Prim.Native.Nat.{ℕ, ◌≤◌}
 use mathlib.Core.Path.{◌≡◌, refl}
 use mathlib.Core.Bool.{Bool, true, false, cond}
 use mathlib.Core.List.{List, [], ◌∷◌}
-use mathlib.Core.Option.{Option, none, some, none-ne-some}
 use native.Mathlib.Omega.{arith}
+use Rattle.std.specs.Prelude.{Option, None, Some}
+use Rattle.std.proofs.lemmas.Option.{none-some}
 use lib.ListN.{length, length-append}
 use lib.Dec.{eqb}
 use Rattle.codec.specs.Codec.{Codec, items_enc, list_c, map_c, dep_c, ◌⊗◌, when_c}
@@ -25,8 +26,8 @@ use Rattle.writer.proofs.BytesLimits.{none_all, all_at, not_large}
 use Rattle.writer.proofs.BytesSections.{spec_bytes}
 
 abbrev pub or_zero : Option ℕ → ℕ
-or_zero none = 0
-or_zero (some n) = n
+or_zero None = 0
+or_zero (Some n) = n
 
 -- its first code
 abbrev pub code_of : ElementDef → List ℕ
@@ -40,11 +41,11 @@ pub record Defined (n : ℕ) (x : ℕ × ElementDef) : Type 0 where
 
 -- ---- the one that is found
 
-pub found_is : {K A : Type 0} (P : A → Type 0) (is : K → Bool) (xs : List (K × A)) → All (λ x. P x.1) xs → (d : A) → found is xs ≡ some d → P d
-found_is P is [] h d e = absurd (none-ne-some d e)
+pub found_is : {K A : Type 0} (P : A → Type 0) (is : K → Bool) (xs : List (K × A)) → All (λ x. P x.1) xs → (d : A) → found is xs ≡ Some d → P d
+found_is P is [] h d e = absurd (none-some d e)
 found_is {K} {A} P is (x ∷ xs) h d e = go (is x.0) e (found_is P is xs h.1 d)
   where
-    go : (t : Bool) → cond t (some x.1) (found is xs) ≡ some d → (found is xs ≡ some d → P d) → P d
+    go : (t : Bool) → cond t (Some x.1) (found is xs) ≡ Some d → (found is xs ≡ Some d → P d) → P d
     go true e more = let q : x.1 ≡ d = cc in rw (← q) h.0
     go false e more = more e
 
@@ -55,8 +56,8 @@ Limited x = (x.0 ≤ 255) × (or_zero x.1.min ≤ 255)
 
 least_small : (m : Option ℕ) → if_some large m ≡ false → or_zero m ≤ 255
 unfolding if_some
-least_small none h = omega arith
-least_small (some n) h = not_large n h
+least_small None h = omega arith
+least_small (Some n) h = not_large n h
 
 element_limited : (x : ℕ × ElementDef) → over_element x ≡ false → Limited x
 unfolding over_element
@@ -112,7 +113,7 @@ module _ (j : Job) (fits : over j ≡ false) where
       (λ s h. all_weaker _ (Defined n) s.1 (λ x g. record { number = g.0.0; least = g.0.1; code = g.1 }) (both_all Limited (λ (x : ℕ × ElementDef). length (code_of x.1) ≤ n) s.1 h.0 h.1))
       (both_all (λ (s : List ℕ × SegmentDef). All Limited s.1) (λ (s : List ℕ × SegmentDef). All (λ (x : ℕ × ElementDef). length (code_of x.1) ≤ n) s.1) j.spec.segments limits codes)
 
-  segment_is : (id : List ℕ) (d : SegmentDef) → segment_def j id ≡ some d → All (Defined (spec_bytes j)) d
+  segment_is : (id : List ℕ) (d : SegmentDef) → segment_def j id ≡ Some d → All (Defined (spec_bytes j)) d
   unfolding segment_def
   segment_is id d e = found_is (All (Defined (spec_bytes j))) (same_bytes id) j.spec.segments all_defined d e
 
@@ -120,20 +121,20 @@ module _ (j : Job) (fits : over j ≡ false) where
   defined id = go (segment_def j id) refl
     where
       go : (x : Option SegmentDef) → segment_def j id ≡ x → All (Defined (spec_bytes j)) (on x (λ d. d) [])
-      go none e = tt
-      go (some d) e = segment_is id d e
+      go None e = tt
+      go (Some d) e = segment_is id d e
 
   pub min_small : (id : List ℕ) (e : ℕ) → or_zero (min_of j id e) ≤ 255
   unfolding min_of element_def
   min_small id e = go (segment_def j id) refl
     where
-      inner : (d : SegmentDef) → All (Defined (spec_bytes j)) d → (y : Option ElementDef) → found (eqb e) d ≡ y → or_zero (on y (λ (d : ElementDef). d.min) none) ≤ 255
-      inner d h none q = omega arith
-      inner d h (some x) q = found_is (λ (x : ElementDef). or_zero x.min ≤ 255) (eqb e) d (all_weaker (Defined (spec_bytes j)) (λ (x : ℕ × ElementDef). or_zero x.1.min ≤ 255) d (λ x g. g.least) h) x q
+      inner : (d : SegmentDef) → All (Defined (spec_bytes j)) d → (y : Option ElementDef) → found (eqb e) d ≡ y → or_zero (on y (λ (d : ElementDef). d.min) None) ≤ 255
+      inner d h None q = omega arith
+      inner d h (Some x) q = found_is (λ (x : ElementDef). or_zero x.min ≤ 255) (eqb e) d (all_weaker (Defined (spec_bytes j)) (λ (x : ℕ × ElementDef). or_zero x.1.min ≤ 255) d (λ x g. g.least) h) x q
 
-      go : (x : Option SegmentDef) → segment_def j id ≡ x → or_zero (on (on x (found (eqb e)) none) (λ (d : ElementDef). d.min) none) ≤ 255
-      go none q = omega arith
-      go (some d) q = inner d (segment_is id d q) (found (eqb e) d) refl
+      go : (x : Option SegmentDef) → segment_def j id ≡ x → or_zero (on (on x (found (eqb e)) None) (λ (d : ElementDef). d.min) None) ≤ 255
+      go None q = omega arith
+      go (Some d) q = inner d (segment_is id d q) (found (eqb e) d) refl
 
 -- ---- the elements of a closer
 
@@ -142,7 +143,7 @@ pub record Controlled (c : Control) : Type 0 where
   pub count : c.count ≤ 255
 
 abbrev LoopControlled : Loop → Type 0
-LoopControlled v = (c : Control) → v.control ≡ some c → Controlled c
+LoopControlled v = (c : Control) → v.control ≡ Some c → Controlled c
 
 loop_controlled : (v : Loop) → over_loop v ≡ false → LoopControlled v
 unfolding over_loop over_control
@@ -151,9 +152,9 @@ loop_controlled v h c e =
     let t = none_of _ _ s.1 in
     record { closer = not_large c.closer t.0; count = not_large c.count (none_of _ _ t.1).0 }
 
-pub control_small : (j : Job) → over j ≡ false → (l : ℕ) (c : Control) → (loop_of j l).control ≡ some c → Controlled c
+pub control_small : (j : Job) → over j ≡ false → (l : ℕ) (c : Control) → (loop_of j l).control ≡ Some c → Controlled c
 unfolding over over_spec loop_of
 control_small j h l =
     let s = none_of _ _ (none_of _ _ h).0 in
     let loops = (none_of _ _ (none_of _ _ s.1).1).0 in
-    all_at LoopControlled no_loop (λ c e. absurd (none-ne-some c e)) j.spec.loops (all_weaker _ LoopControlled j.spec.loops loop_controlled (none_all over_loop j.spec.loops loops)) l
+    all_at LoopControlled no_loop (λ c e. absurd (none-some c e)) j.spec.loops (all_weaker _ LoopControlled j.spec.loops loop_controlled (none_all over_loop j.spec.loops loops)) l

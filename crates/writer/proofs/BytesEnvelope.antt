@@ -3,9 +3,9 @@ use Prim.Native.Nat.{ℕ, ◌+◌, ◌-◌, ◌^◌, ◌≤◌, ◌<◌}
 use mathlib.Core.Path.{◌≡◌, refl}
 use mathlib.Core.Bool.{Bool, true, false}
 use mathlib.Core.List.{List, [], ◌∷◌}
-use mathlib.Core.Option.{Option, none, some}
 use native.Mathlib.Omega.{arith}
 use native.Mathlib.Nat.{mod-lt}
+use Rattle.std.specs.Prelude.{Option, None, Some}
 use lib.Dec.{leb, lit<}
 use lib.ListN.{length, get_or}
 use Rattle.format.specs.Spec.{Control, ElementDef, count_segments, count_children, Counted}
@@ -43,9 +43,9 @@ module _ (j : Job) (fits : over j ≡ false) where
 
       go : (x : Option Control) → length (on x (λ c.
           let p = opener_put j l c (get_or s.counter l 0) in
-          F.segment_out j (loop_of j l).trigger p.parts p.findings p.entries none (F.counter_up l s)) (F.quiet s)).bytes ≤ 432000000
-      go none = omega arith
-      go (some c) =
+          F.segment_out j (loop_of j l).trigger p.parts p.findings p.entries None (F.counter_up l s)) (F.quiet s)).bytes ≤ 432000000
+      go None = omega arith
+      go (Some c) =
           let control : List ℕ = control_in j l c (get_or s.counter l 0) in
           let trigger : List ℕ = (loop_of j l).trigger in
           let f : ℕ × ElementDef → Put = put_element j trigger (depth_of j l) c.opener control in
@@ -60,7 +60,7 @@ module _ (j : Job) (fits : over j ≡ false) where
       P p = p.0 ≤ 255
 
       one : (p : ℕ × List ℕ) → P p → Bounded (counted c.closer p.0 p.1) (length p.1 + 255) 255
-      one p q = let b = text_bounded p.0 255 none p.1 (omega arith) q in record { costs = b.costs; reaches = b.reaches }
+      one p q = let b = text_bounded p.0 255 None p.1 (omega arith) q in record { costs = b.costs; reaches = b.reaches }
 
       all : (ps : List (ℕ × List ℕ)) → All P ps → Bounded (put_all (λ (p : ℕ × List ℕ). counted c.closer p.0 p.1) ps) (sum (λ (p : ℕ × List ℕ). length p.1 + 255) ps) 255
       all ps g = all_bounded P (λ (p : ℕ × List ℕ). counted c.closer p.0 p.1) (λ (p : ℕ × List ℕ). length p.1 + 255) 255 one ps g
@@ -86,10 +86,10 @@ module _ (j : Job) (fits : over j ≡ false) where
 
       go : (x : Option Control) → (loop_of j l).control ≡ x → (y : Option (List ℕ)) → (loop_of j l).end ≡ y → length (on x (λ (c : Control). on y (λ id.
           let p = closer_put c (pick b (control_in j l c (F.taken l s)) []) (F.count_of c.counted n m) in
-          F.segment_out j id p.parts p.findings p.entries none s) (F.quiet s)) (F.quiet s)).bytes ≤ 432000000
-      go none e y q = omega arith
-      go (some c) e none q = omega arith
-      go (some c) e (some id) q =
+          F.segment_out j id p.parts p.findings p.entries None s) (F.quiet s)) (F.quiet s)).bytes ≤ 432000000
+      go None e y q = omega arith
+      go (Some c) e None q = omega arith
+      go (Some c) e (Some id) q =
           let control : List ℕ = pick b (control_in j l c (F.taken l s)) [] in
           let k : ℕ = F.count_of c.counted n m in
           let ends : length id ≤ spec_bytes j = rw q at (end_within j l) in

@@ -2,7 +2,6 @@
 use Prim.Native.Nat.{ℕ, zero, suc, ◌+◌, ◌-◌, ◌%◌, ◌≤◌}
 use mathlib.Core.Bool.{Bool, true, false, cond}
 use mathlib.Core.List.{List, [], ◌∷◌, ◌++◌}
-use mathlib.Core.Option.{Option, none, some}
 use native.Mathlib.Omega.{arith}
 use lib.Dec.{eqb}
 use lib.IntN.{ℤ, nat_abs}
@@ -13,13 +12,12 @@ use Rattle.format.specs.Envelope as E
 use Rattle.format.specs.Envelope.{envelope_c}
 use Rattle.format.specs.Job.{Job}
 use Rattle.format.specs.Ask.{same_bytes}
-use Rattle.texts.specs.declared.render.Max.{Max}
-use Rattle.texts.specs.declared.render.Max.TheVariants.{Free}
+use Rattle.std.specs.Prelude.{None, Option, Some}
 use Rattle.texts.specs.Pad.{is_at, zero_padded, space_padded, padded}
 use Rattle.texts.specs.Floor.{signed32}
 use Rattle.texts.specs.Calendar.{or}
 use Rattle.texts.specs.Reason as R
-use Rattle.texts.specs.Reason.{Outcome, gives, refuses, shorter}
+use Rattle.texts.specs.Reason.{Width, Outcome, gives, refuses, shorter}
 use Rattle.texts.specs.DateText.{date_text, envelope_date, without_century}
 use Rattle.texts.specs.Clock.{within_day, hours_minutes, hours_minutes_seconds, short_clock, envelope_time}
 use Rattle.segment.specs.Parts.{pick}
@@ -37,19 +35,19 @@ use Rattle.writer.proofs.BytesDefined.{or_zero, code_of, Defined}
 
 pub zero_length : (min : Option ℕ) (text : List ℕ) → or_zero min ≤ 255 → length (zero_padded (min_in min) text) ≤ length text + 255
 unfolding zero_padded
-zero_length none text h = omega arith
-zero_length (some n) text h = omega (arith, length-append (replicate (n - length text) 48) text, length-replicate {A = ℕ} (n - length text) 48)
+zero_length None text h = omega arith
+zero_length (Some n) text h = omega (arith, length-append (replicate (n - length text) 48) text, length-replicate {A = ℕ} (n - length text) 48)
 
-space_length : (min : Option ℕ) (max : Max) (text : List ℕ) → or_zero min ≤ 255 → length (space_padded (min_in min) max text) ≤ length text + 255
+space_length : (min : Option ℕ) (max : Width) (text : List ℕ) → or_zero min ≤ 255 → length (space_padded (min_in min) max text) ≤ length text + 255
 unfolding space_padded
-space_length none max text h = omega arith
-space_length (some n) max text h = go (is_at max n)
+space_length None max text h = omega arith
+space_length (Some n) max text h = go (is_at max n)
   where
     go : (b : Bool) → length (cond b (text ++ replicate (n - length text) 32) text) ≤ length text + 255
     go true = omega (arith, length-append text (replicate (n - length text) 32), length-replicate {A = ℕ} (n - length text) 32)
     go false = omega arith
 
-padded_length : (b : Bool) (min : Option ℕ) (max : Max) (text : List ℕ) → or_zero min ≤ 255 → length (padded b (min_in min) max text) ≤ length text + 255
+padded_length : (b : Bool) (min : Option ℕ) (max : Width) (text : List ℕ) → or_zero min ≤ 255 → length (padded b (min_in min) max text) ≤ length text + 255
 unfolding padded
 padded_length true min max text h = zero_length min text h
 padded_length false min max text h = space_length min max text h
@@ -77,11 +75,11 @@ century_short : (b : Bool) (o : Outcome) → length (without_century b o).text �
 century_short true o = omega (arith, length-drop 2 o.text)
 century_short false o = omega arith
 
-envelope_date_lem : (d : ℤ) (max : Max) → length (envelope_date d max).text ≤ 8
+envelope_date_lem : (d : ℤ) (max : Width) → length (envelope_date d max).text ≤ 8
 unfolding envelope_date
-envelope_date_lem d max = omega (arith, century_short (shorter max 8) (date_text d Free), date_short d Free)
+envelope_date_lem d max = omega (arith, century_short (shorter max 8) (date_text d None), date_short d None)
 
-envelope_time_lem : (s : ℤ) (max : Max) → length (envelope_time s max).text ≤ 6
+envelope_time_lem : (s : ℤ) (max : Width) → length (envelope_time s max).text ≤ 6
 unfolding envelope_time short_clock
 envelope_time_lem s max = go (within_day s) (or (eqb (nat_abs s % 60) 0) (shorter max 6)) (nat_abs s)
   where
@@ -116,35 +114,35 @@ abbrev ShortSource : ℕ → Option Sourced → Type 0
 ShortSource U x = on x (λ (s : Sourced). length s.given.text) 0 ≤ U
 
 or_else : (x : Option (List ℕ)) (y : List ℕ) → length (on x (λ z. z) (trim_end y)) ≤ length (or_nothing x) + length y
-or_else none y = omega (arith, trim_length y)
-or_else (some x) y = omega arith
+or_else None y = omega (arith, trim_length y)
+or_else (Some x) y = omega arith
 
 repetition_short : (U : ℕ) (c : Option (List ℕ)) (r : Option ℕ) → 1 ≤ U → length (on c (λ c. c) []) ≤ U → Short U (repetition_given c r)
-repetition_short U none none one h = omega arith
-repetition_short U none (some b) one h = omega arith
-repetition_short U (some c) r one h = h
+repetition_short U None None one h = omega arith
+repetition_short U None (Some b) one h = omega arith
+repetition_short U (Some c) r one h = h
 
 abbrev field_list : E.Envelope → ElementDef → List (Option Given)
 field_list e d =
-    some (plainly e.sender_qualifier)
-    ∷ some (plainly e.sender_id)
-    ∷ some (plainly e.receiver_qualifier)
-    ∷ some (plainly e.receiver_id)
-    ∷ some (plainly (on e.application_sender (λ x. x) (trim_end e.sender_id)))
-    ∷ some (plainly (on e.application_receiver (λ x. x) (trim_end e.receiver_id)))
-    ∷ some (outcome (envelope_date (signed32 e.date) (max_in d.max)))
-    ∷ some (outcome (envelope_time (signed32 e.time) (max_in d.max)))
-    ∷ some (plainly e.usage_indicator)
-    ∷ none
+    Some (plainly e.sender_qualifier)
+    ∷ Some (plainly e.sender_id)
+    ∷ Some (plainly e.receiver_qualifier)
+    ∷ Some (plainly e.receiver_id)
+    ∷ Some (plainly (on e.application_sender (λ x. x) (trim_end e.sender_id)))
+    ∷ Some (plainly (on e.application_receiver (λ x. x) (trim_end e.receiver_id)))
+    ∷ Some (outcome (envelope_date (signed32 e.date) (max_in d.max)))
+    ∷ Some (outcome (envelope_time (signed32 e.time) (max_in d.max)))
+    ∷ Some (plainly e.usage_indicator)
+    ∷ None
     ∷ repetition_given (first d.codes) e.repetition
-    ∷ some (separator e.component)
+    ∷ Some (separator e.component)
     ∷ []
 
 field_short : (U : ℕ) (e : E.Envelope) (d : ElementDef) (f : ℕ) → 8 ≤ U → length (envelope_c.enc e) ≤ U → length (code_of d) ≤ U → Short U (field_given e d f)
 unfolding field_given
 field_short U e d f eight h k =
     let m = fields_in e in
-    all_at (Short U) none (omega arith) (field_list e d) (
+    all_at (Short U) None (omega arith) (field_list e d) (
       omega (arith, m),
       (
         omega (arith, m),
@@ -179,33 +177,33 @@ field_short U e d f eight h k =
       ),
     ) f
 
-fielded_short : (U : ℕ) (f : ℕ) (x : Option Given) → Short U x → ShortSource U (on x (λ g. some (record { field = some f; given = g })) none)
-fielded_short U f none h = omega arith
-fielded_short U f (some g) h = h
+fielded_short : (U : ℕ) (f : ℕ) (x : Option Given) → Short U x → ShortSource U (on x (λ g. Some (record { field = Some f; given = g })) None)
+fielded_short U f None h = omega arith
+fielded_short U f (Some g) h = h
 
 version_short : (j : Job) (U : ℕ) (trigger : List ℕ) (position : ℕ) (d : ElementDef) → spec_bytes j ≤ U → length (code_of d) ≤ U
     → length (on (version_at j trigger position) versioned (unsourced d)).given.text ≤ U
 version_short j U trigger position d h k = go j.spec.version (version_within j)
   where
-    named : (v : Version) (a b : Bool) → length v.first ≤ spec_bytes j → length (on (pick a (pick b (some v.first) none) none) versioned (unsourced d)).given.text ≤ U
+    named : (v : Version) (a b : Bool) → length v.first ≤ spec_bytes j → length (on (pick a (pick b (Some v.first) None) None) versioned (unsourced d)).given.text ≤ U
     named v true true m = omega arith
     named v true false m = k
     named v false b m = k
 
     go : (x : Option Version) → length (on x (λ (v : Version). v.first) []) ≤ spec_bytes j
-        → length (on (on x (λ (v : Version). pick (same_bytes v.segment trigger) (pick (eqb v.element position) (some v.first) none) none) none) versioned (unsourced d)).given.text ≤ U
-    go none m = k
-    go (some v) m = named v (same_bytes v.segment trigger) (eqb v.element position) m
+        → length (on (on x (λ (v : Version). pick (same_bytes v.segment trigger) (pick (eqb v.element position) (Some v.first) None) None) None) versioned (unsourced d)).given.text ≤ U
+    go None m = k
+    go (Some v) m = named v (same_bytes v.segment trigger) (eqb v.element position) m
 
 source_short : (j : Job) (U : ℕ) (trigger : List ℕ) (depth own : ℕ) (control : List ℕ) (position : ℕ) (d : ElementDef) → 8 ≤ U → envelope_bytes j ≤ U → spec_bytes j ≤ U → length (code_of d) ≤ U → length control ≤ U
     → ShortSource U (source_at j trigger depth own control position d)
 unfolding source_at
 source_short j U trigger depth own control position d eight env spec code c = go (eqb position own) (field_at depth position)
   where
-    go : (b : Bool) (x : Option ℕ) → ShortSource U (pick b (some (record { field = some 9; given = plainly control })) (on x (fielded j.envelope d) (some (on (version_at j trigger position) versioned (unsourced d)))))
+    go : (b : Bool) (x : Option ℕ) → ShortSource U (pick b (Some (record { field = Some 9; given = plainly control })) (on x (fielded j.envelope d) (Some (on (version_at j trigger position) versioned (unsourced d)))))
     go true x = c
-    go false (some f) = fielded_short U f (field_given j.envelope d f) (field_short U j.envelope d f eight env code)
-    go false none = version_short j U trigger position d spec code
+    go false (Some f) = fielded_short U f (field_given j.envelope d f) (field_short U j.envelope d f eight env code)
+    go false None = version_short j U trigger position d spec code
 
 pub element_bounded : (j : Job) (U : ℕ) (trigger : List ℕ) (depth own : ℕ) (control : List ℕ) → 8 ≤ U → envelope_bytes j ≤ U → spec_bytes j ≤ U → length control ≤ U
     → (x : ℕ × ElementDef) → Defined (spec_bytes j) x → Bounded (put_element j trigger depth own control x) (U + 510) 255
@@ -215,13 +213,13 @@ element_bounded j U trigger depth own control eight env spec c x h = go (source_
     put : (s : Sourced) (f : Option ℕ) → length s.given.text ≤ U → Bounded (put_sourced j trigger x.0 x.1 (record { field = f; given = s.given })) (U + 510) 255
     put s f m =
         let text : List ℕ = padded_to x.1 s.given.reason s.given.text in
-        let b = text_bounded x.0 255 none text (omega arith) h.number in
+        let b = text_bounded x.0 255 None text (omega arith) h.number in
         either f (record { costs = omega (arith, b.costs, to_length x.1 s.given.reason s.given.text h.least); reaches = b.reaches })
       where
-        either : (f : Option ℕ) → Bounded (put_text x.0 none (padded_to x.1 s.given.reason s.given.text)) (U + 510) 255 → Bounded (put_sourced j trigger x.0 x.1 (record { field = f; given = s.given })) (U + 510) 255
-        either none b = b
-        either (some f) b = record { costs = b.costs; reaches = b.reaches }
+        either : (f : Option ℕ) → Bounded (put_text x.0 None (padded_to x.1 s.given.reason s.given.text)) (U + 510) 255 → Bounded (put_sourced j trigger x.0 x.1 (record { field = f; given = s.given })) (U + 510) 255
+        either None b = b
+        either (Some f) b = record { costs = b.costs; reaches = b.reaches }
 
     go : (y : Option Sourced) → ShortSource U y → Bounded (on y (put_sourced j trigger x.0 x.1) nothing) (U + 510) 255
-    go none m = nothing_bounded (U + 510) 255
-    go (some s) m = put s s.field m
+    go None m = nothing_bounded (U + 510) 255
+    go (Some s) m = put s s.field m

@@ -3,8 +3,8 @@ use Prim.Native.Nat.{ℕ, zero, suc, ◌≤◌}
 use mathlib.Core.Path.{◌≡◌, refl}
 use mathlib.Core.Bool.{Bool, true, false}
 use mathlib.Core.List.{List, [], ◌∷◌}
-use mathlib.Core.Option.{Option, none, some}
 use native.Mathlib.Omega.{arith}
+use Rattle.std.specs.Prelude.{Option, None, Some}
 use lib.ListN.{get_or}
 use borrow.Author.Tests.{ltb-false}
 use Rattle.codec.specs.Codec.{pick}
@@ -43,8 +43,8 @@ pub record Placed (e : ElementPlan) : Type 0 where
 
 component_small : (c : Option ℕ) → if_some large c ≡ false → or_one c ≤ 255
 unfolding if_some
-component_small none h = omega arith
-component_small (some c) h = not_large c h
+component_small None h = omega arith
+component_small (Some c) h = not_large c h
 
 element_placed : (e : ElementPlan) → over_element_plan e ≡ false → Placed e
 unfolding over_element_plan
@@ -78,8 +78,8 @@ unfolding over_table Stepped if_some over_step
 table_stepped t h = go t.repeat (none_of _ _ (none_of _ _ h).1).0
   where
     go : (x : Option Repeat) → if_some over_step x ≡ false → on x (λ (r : Repeat). r.step) 0 ≤ 255
-    go none e = omega arith
-    go (some r) e = not_large r.step e
+    go None e = omega arith
+    go (Some r) e = not_large r.step e
 
 pub step_small : (j : Job) → over j ≡ false → (t : ℕ) → step_of j t ≤ 255
 unfolding over over_spec step_of table_of Stepped

@@ -2,9 +2,9 @@
 use Prim.Native.Nat.{ℕ, ◌+◌, ◌*◌, ◌/◌, ◌≤◌, min, max}
 use mathlib.Core.Path.{◌≡◌, refl}
 use mathlib.Core.List.{List, [], ◌∷◌}
-use mathlib.Core.Option.{Option, none}
 use native.Mathlib.Omega.{arith}
 use native.Mathlib.Nat.{mul-add, mul-le-mul, mul-le-mul_right}
+use Rattle.std.specs.Prelude.{Option, None}
 use lib.ListN.{length, get_or}
 use Rattle.format.specs.Plan.{Value, from_column, from_group, from_code, ElementPlan}
 use Rattle.format.specs.Data.{Column}
@@ -62,7 +62,7 @@ module _ (j : Job) (l i t p : ℕ) where
 
   column_total : (c : ℕ) → sum (λ r. weigh (cell_of (data_of j t) c r)) hung ≤ quota (data_bytes j)
   column_total c =
-      let x : Option Column = get_or (data_of j t).columns c none in
+      let x : Option Column = get_or (data_of j t).columns c None in
       let k : ℕ = min (limit j t l) (rows_in x) in
       omega (arith, column_sum j t c l p, shared k (bytes_in x) (data_bytes j) (omega (arith, data-within j t c (row_table (kind_of o l)))))
 

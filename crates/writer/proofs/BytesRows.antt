@@ -4,9 +4,11 @@ use Prim.Native.Nat.{ℕ, zero, suc, ◌+◌, ◌*◌, ◌-◌, ◌≤◌, ◌<�
 use mathlib.Core.Path.{◌≡◌, refl, sym, ap}
 use mathlib.Core.Bool.{Bool, true, false, cond, ◌&&◌, true≢false}
 use mathlib.Core.List.{List, [], ◌∷◌, foldr}
-use mathlib.Core.Option.{Option, none, some, map, none-ne-some}
 use native.Mathlib.Omega.{arith}
 use native.Mathlib.Nat.{suc-mul, mul-le-mul_right}
+use Rattle.std.specs.Prelude.{Option, None, Some}
+use Rattle.std.specs.Option.{option_map}
+use Rattle.std.proofs.lemmas.Option.{none-some}
 use lib.ListN.{length, get_or}
 use lib.Dec.{eqb, leb}
 use borrow.Author.Tests.{eqb-true, leb-true, leb-false}
@@ -52,7 +54,7 @@ module _ (p : ℕ → Bool) (g : ℕ → ℕ) (k B : ℕ) (most : (r : ℕ) → 
 
 module _ (o : Outline) where
   Anchored : Anchor → Type 0
-  Anchored a = row_table (kind_of o a.loop) ≡ some a.table
+  Anchored a = row_table (kind_of o a.loop) ≡ Some a.table
 
   anchor_is : (l : ℕ) (k : Kind) → kind_of o l ≡ k → All Anchored (anchor_at l k)
   unfolding Anchored
@@ -100,30 +102,30 @@ module _ (j : Job) (t : ℕ) where
   abbrev pub limit : ℕ → ℕ
   limit l = within (row_table (kind_of o l))
 
-  claim_below : (r : ℕ) (bs : List Anchor) (k : Claim) → All (Anchored o) bs → claim_in o t r bs ≡ some k → r < limit k.loop
+  claim_below : (r : ℕ) (bs : List Anchor) (k : Claim) → All (Anchored o) bs → claim_in o t r bs ≡ Some k → r < limit k.loop
   unfolding claim_in Anchored outline_of
-  claim_below r [] k h e = absurd (none-ne-some k e)
+  claim_below r [] k h e = absurd (none-some k e)
   claim_below r (a ∷ bs) k h e = go (o.reference t a.table r) refl e (claim_below r bs k h.1)
     where
-      go : (x : Option ℕ) → o.reference t a.table r ≡ x → on x (λ v. some (claim_on a v)) (claim_in o t r bs) ≡ some k → (claim_in o t r bs ≡ some k → r < limit k.loop) → r < limit k.loop
-      go none q e more = more e
-      go (some v) q e more =
+      go : (x : Option ℕ) → o.reference t a.table r ≡ x → on x (λ v. Some (claim_on a v)) (claim_in o t r bs) ≡ Some k → (claim_in o t r bs ≡ Some k → r < limit k.loop) → r < limit k.loop
+      go None q e more = more e
+      go (Some v) q e more =
           let c : claim_on a v ≡ k = cc in
-          let w : row_table (kind_of o a.loop) ≡ some a.table = h.0 in
+          let w : row_table (kind_of o a.loop) ≡ Some a.table = h.0 in
           rw (← c) (rw w (reference_below (data_of j t).refs a.table r v q))
 
   pub hooked_below : (l p r : ℕ) → hooked (hook o t r) l p ≡ true → r < limit l
   unfolding hook
   hooked_below l p r e = go (repeated o t) (claim_in o t r (anchors o t)) refl e
     where
-      placed : (k : Claim) (y : Option ℕ) → r < limit k.loop → hooked (map (hook_on k) y) l p ≡ true → r < limit l
-      placed k none h e = absurd (true≢false (sym e))
-      placed k (some q) h e = let s : l ≡ k.loop = eqb-true l k.loop (both (eqb l k.loop) (eqb p q) e) in rw s h
+      placed : (k : Claim) (y : Option ℕ) → r < limit k.loop → hooked (option_map (hook_on k) y) l p ≡ true → r < limit l
+      placed k None h e = absurd (true≢false (sym e))
+      placed k (Some q) h e = let s : l ≡ k.loop = eqb-true l k.loop (both (eqb l k.loop) (eqb p q) e) in rw s h
 
-      go : (b : Bool) (x : Option Claim) → claim_in o t r (anchors o t) ≡ x → hooked (cond b (on x (settle o) none) none) l p ≡ true → r < limit l
+      go : (b : Bool) (x : Option Claim) → claim_in o t r (anchors o t) ≡ x → hooked (cond b (on x (settle o) None) None) l p ≡ true → r < limit l
       go false x q e = absurd (true≢false (sym e))
-      go true none q e = absurd (true≢false (sym e))
-      go true (some k) q e = placed k (first_row o k.table k.value) (claim_below r (anchors o t) k (anchors_are o t) q) e
+      go true None q e = absurd (true≢false (sym e))
+      go true (Some k) q e = placed k (first_row o k.table k.value) (claim_below r (anchors o t) k (anchors_are o t) q) e
 
   pub rows_limit : (l p : ℕ) → length (repeat_rows o t l p) ≤ limit l
   unfolding repeat_rows
@@ -132,9 +134,9 @@ module _ (j : Job) (t : ℕ) where
       omega (arith, sum_each_time 1 (keep q (from 0 (row_count o t))), kept_sum q (λ r. 1) (limit l) 1 (λ r e. omega arith) (λ r e h. absurd (let z = hooked_below l p r e in omega arith)) (row_count o t))
 
   -- the cells of one column
-  pub column_sum : (c l p : ℕ) → sum (λ r. weigh (cell_of (data_of j t) c r)) (repeat_rows o t l p) ≤ min (limit l) (rows_in (get_or (data_of j t).columns c none)) * (bytes_in (get_or (data_of j t).columns c none) + 303)
+  pub column_sum : (c l p : ℕ) → sum (λ r. weigh (cell_of (data_of j t) c r)) (repeat_rows o t l p) ≤ min (limit l) (rows_in (get_or (data_of j t).columns c None)) * (bytes_in (get_or (data_of j t).columns c None) + 303)
   unfolding repeat_rows
   column_sum c l p =
-      let col : Option Column = get_or (data_of j t).columns c none in
+      let col : Option Column = get_or (data_of j t).columns c None in
       kept_sum (λ r. hooked (hook o t r) l p) (λ r. weigh (cell_in col r)) (min (limit l) (rows_in col)) (bytes_in col + 303) (λ r e. cell_weigh col r)
       (λ r e h. cell_past col r (let z = hooked_below l p r e in omega arith)) (row_count o t)

@@ -3,8 +3,8 @@ use Prim.Native.Nat.{ℕ, ◌+◌, ◌*◌, ◌≤◌}
 use mathlib.Core.Path.{refl}
 use mathlib.Core.Bool.{Bool, true, false}
 use mathlib.Core.List.{List, [], ◌∷◌, ◌++◌}
-use mathlib.Core.Option.{Option, none, some}
 use native.Mathlib.Omega.{arith}
+use Rattle.std.specs.Prelude.{Option, None, Some}
 use lib.ListN.{length, get_or, length-append}
 use lib.Dec.{eqb}
 use Rattle.codec.specs.Codec as C
@@ -54,8 +54,8 @@ text_longer xs = omega (arith, length-append (num_c.enc (length xs)) (items_enc 
 
 option_some : (x : Option ℕ) → 1 ≤ length ((opt_c num_c).enc x)
 unfolding opt_c map_c enum_c ◌⊕◌
-option_some none = omega arith
-option_some (some n) = omega arith
+option_some None = omega arith
+option_some (Some n) = omega arith
 
 value_long : (v : Value) → 5 + code_in v ≤ length (value_c.enc v)
 unfolding value_c map_c enum_c ◌⊕◌
@@ -109,10 +109,10 @@ refs_in t u = omega (arith, refs_take t.refs u, length-append ((le_c 4).enc (len
 
 -- the references to u and column c
 abbrev column_of : TableData → ℕ → Option Column
-column_of t c = get_or t.columns c none
+column_of t c = get_or t.columns c None
 
 column_in_lem : (t : TableData) (c : ℕ) → rows_in (column_of t c) * 4 + bytes_in (column_of t c) ≤ length ((list_c (opt_c column_c)).enc t.columns)
-column_in_lem t c = list_within (opt_c column_c) (λ (x : Option Column). rows_in x * 4 + bytes_in x) none refl column_takes t.columns c
+column_in_lem t c = list_within (opt_c column_c) (λ (x : Option Column). rows_in x * 4 + bytes_in x) None refl column_takes t.columns c
 
 table_takes : (u c : ℕ) (t : TableData) → ints_in (ref_column t.refs u) * 8 + (rows_in (column_of t c) * 4 + bytes_in (column_of t c)) ≤ length (table_data_c.enc t)
 unfolding table_data_c map_c dep_c
@@ -123,8 +123,8 @@ unfolding data_of ref_column
 table_within j t c u = list_within table_data_c (λ (x : TableData). ints_in (ref_column x.refs u) * 8 + (rows_in (column_of x c) * 4 + bytes_in (column_of x c))) no_table_data refl (table_takes u c) j.tables t
 
 pub data-within : (j : Job) (t c : ℕ) (x : Option ℕ) → within j t x * 8 + (rows_in (column_of (data_of j t) c) * 4 + bytes_in (column_of (data_of j t) c)) ≤ data_bytes j
-data-within j t c none = omega (arith, table_within j t c 0)
-data-within j t c (some u) = table_within j t c u
+data-within j t c None = omega (arith, table_within j t c 0)
+data-within j t c (Some u) = table_within j t c u
 
 -- ---- identifiers
 
@@ -141,13 +141,13 @@ unfolding S.loop_c map_c dep_c
 trigger_in v = let h = text_long v.trigger in simp length-append (omega arith)
 
 abbrev pub or_nothing : Option (List ℕ) → List ℕ
-or_nothing none = []
-or_nothing (some x) = x
+or_nothing None = []
+or_nothing (Some x) = x
 
 pub option_text : (x : Option (List ℕ)) → length (or_nothing x) ≤ length ((opt_c bytes_c).enc x)
 unfolding opt_c map_c enum_c ◌⊕◌
-option_text none = omega arith
-option_text (some x) = let h = text_long x in omega arith
+option_text None = omega arith
+option_text (Some x) = let h = text_long x in omega arith
 
 end_in : (v : S.Loop) → length (or_nothing v.end) ≤ length ((S.loop_c).enc v)
 unfolding S.loop_c map_c dep_c
@@ -172,8 +172,8 @@ unfolding S.version_c map_c dep_c
 first_in v = let h = text_long v.first in simp length-append (omega arith)
 
 version_in : (x : Option S.Version) → length (on x (λ (v : S.Version). v.first) []) ≤ length ((opt_c S.version_c).enc x)
-version_in none = omega arith
-version_in (some v) = omega (arith, first_in v, option_in S.version_c v)
+version_in None = omega arith
+version_in (Some v) = omega (arith, first_in v, option_in S.version_c v)
 
 version_spec : (v : S.Spec) → length ((opt_c S.version_c).enc v.version) ≤ length ((S.spec_c).enc v)
 unfolding S.spec_c map_c dep_c

@@ -2,9 +2,9 @@
 use Prim.Native.Nat.{ℕ, ◌+◌, ◌*◌, ◌≤◌, max}
 use mathlib.Core.Bool.{Bool, true, false}
 use mathlib.Core.List.{List, [], ◌∷◌, ◌++◌}
-use mathlib.Core.Option.{Option}
 use native.Mathlib.Omega.{arith}
 use native.Mathlib.Nat.{mul-le-mul}
+use Rattle.std.specs.Prelude.{Option}
 use lib.ListN.{length}
 use lib.Dec.{eqb}
 use Rattle.format.specs.Plan.{Value, from_column, from_group, from_code, ElementPlan}

@@ -1,8 +1,8 @@
 -- Every loop's next control number stays within 64 bits.
 use Prim.Native.Nat.{ℕ, zero, suc, ◌+◌, ◌^◌, ◌<◌}
 use mathlib.Core.List.{List, [], ◌∷◌}
-use mathlib.Core.Option.{Option, none, some}
 use native.Mathlib.Nat.{mod-lt}
+use Rattle.std.specs.Prelude.{Option, None, Some}
 use lib.Dec.{lit<}
 use lib.ListN.{get_or, set, replicate}
 use Rattle.format.specs.Spec.{Control}
@@ -36,9 +36,9 @@ step_counting j (opener l) s h = go (loop_of j l).control
   where
     go : (x : Option Control) → Counting (on x (λ c.
         let p = opener_put j l c (get_or s.counter l 0) in
-        F.segment_out j (loop_of j l).trigger p.parts p.findings p.entries none (F.counter_up l s)) (F.quiet s)).state.counter
-    go none = h
-    go (some c) = set_counting s.counter l (F.next (get_or s.counter l 0)) (next_small (get_or s.counter l 0)) h
+        F.segment_out j (loop_of j l).trigger p.parts p.findings p.entries None (F.counter_up l s)) (F.quiet s)).state.counter
+    go None = h
+    go (Some c) = set_counting s.counter l (F.next (get_or s.counter l 0)) (next_small (get_or s.counter l 0)) h
 step_counting j (row_segment l i t r) s h = h
 step_counting j (fill l i t k r) s h = h
 step_counting j (chunk l i t rs) s h = h
@@ -46,10 +46,10 @@ step_counting j (closer l b n m) s h = go (loop_of j l).control (loop_of j l).en
   where
     go : (x : Option Control) (y : Option (List ℕ)) → Counting (on x (λ (c : Control). on y (λ id.
         let p = closer_put c (pick b (control_in j l c (F.taken l s)) []) (F.count_of c.counted n m) in
-        F.segment_out j id p.parts p.findings p.entries none s) (F.quiet s)) (F.quiet s)).state.counter
-    go none y = h
-    go (some c) none = h
-    go (some c) (some id) = h
+        F.segment_out j id p.parts p.findings p.entries None s) (F.quiet s)) (F.quiet s)).state.counter
+    go None y = h
+    go (Some c) None = h
+    go (Some c) (Some id) = h
 
 pub start_counting : (n k : ℕ) → n < 2 ^ 64 → Counting (replicate k n)
 start_counting n zero h l = lit< tt

@@ -13,8 +13,7 @@ use Rattle.texts.specs.Number.{int_text, decimal_text}
 use Rattle.texts.specs.Wide.{signed, signed64, signed128}
 use Rattle.texts.specs.Floor.{signed32}
 use Rattle.texts.specs.Reason as R
-use Rattle.texts.specs.Reason.{Outcome, gives, refuses, shorter}
-use Rattle.texts.specs.declared.render.Max.{Max}
+use Rattle.texts.specs.Reason.{Width, Outcome, gives, refuses, shorter}
 use Rattle.texts.specs.Calendar.{Day, civil_of, near}
 use Rattle.texts.specs.DateText as T
 use Rattle.texts.specs.DateText.{two, month_day, long_date, short_date, day_text, date_text}
@@ -57,14 +56,14 @@ short_date_lem low high reason t = go (T.between low high t.year)
     go true = omega arith
     go false = omega arith
 
-day_short : (t : Day) (max : Max) → length (day_text t max).text ≤ 8
+day_short : (t : Day) (max : Width) → length (day_text t max).text ≤ 8
 day_short t max = picked (shorter max 8) (short_date 1950 2049 2 t) (long_date t) 8 (short_date_lem 1950 2049 2 t) (long_date_lem t)
 
-pub date_short : (d : ℤ) (max : Max) → length (date_text d max).text ≤ 8
+pub date_short : (d : ℤ) (max : Width) → length (date_text d max).text ≤ 8
 unfolding date_text
 date_short d max = picked (near d) (day_text (civil_of d) max) (refuses 1) 8 (day_short (civil_of d) max) (omega arith)
 
-clock_short : (n : ℕ) (max : Max) → length (clock n max).text ≤ 6
+clock_short : (n : ℕ) (max : Width) → length (clock n max).text ≤ 6
 unfolding clock
 clock_short n max = go (eqb (n % 60) 0) (shorter max 6)
   where
@@ -73,11 +72,11 @@ clock_short n max = go (eqb (n % 60) 0) (shorter max 6)
     go false true = omega arith
     go false false = omega arith
 
-time_short : (s : ℤ) (max : Max) → length (time_text s max).text ≤ 6
+time_short : (s : ℤ) (max : Width) → length (time_text s max).text ≤ 6
 unfolding time_text
 time_short s max = picked (within_day s) (clock (nat_abs s) max) (refuses 3) 6 (clock_short (nat_abs s) max) (omega arith)
 
-pub cell_charge : (c : Cell) (max : Max) (n : ℕ) → scale_of c ≤ 38 → n ≤ 255 → charge (cell_text c max).text n ≤ weigh c
+pub cell_charge : (c : Cell) (max : Width) (n : ℕ) → scale_of c ≤ 38 → n ≤ 255 → charge (cell_text c max).text n ≤ weigh c
 unfolding cell_text
 cell_charge null max n k h = omega arith
 cell_charge (binary bytes) max n k h = omega (arith, charge_most bytes n)

@@ -6,9 +6,9 @@
 use Prim.Native.Nat.{ℕ, suc, ◌+◌, ◌*◌, ◌/◌, ◌^◌, ◌≤◌, ◌<◌}
 use mathlib.Core.Path.{◌≡◌, refl}
 use mathlib.Core.List.{List, [], ◌∷◌}
-use mathlib.Core.Option.{none}
 use native.Mathlib.Omega.{arith}
 use native.Mathlib.Nat.{mul-add, mul-le-mul}
+use Rattle.std.specs.Prelude.{None}
 use lib.ListN.{length, get_or, length-append}
 use Rattle.lent.specs.Fit.{cap}
 use Rattle.codec.specs.Codec.{Bytes, le_c, map_c, dep_c}
@@ -67,8 +67,8 @@ module _ (b : List ℕ) (bs : Bytes b) (p : Passed b) where
   -- ---- one step
 
   given_most : (t r : ℕ) (v : Value) → given j t r v ≤ (data_bytes j + 303) + code_in v
-  given_most t r (from_column c) = omega (arith, cell_weigh (get_or (data_of j t).columns c none) r, data-within j t c none)
-  given_most t r (from_group c) = omega (arith, cell_weigh (get_or (data_of j t).columns c none) r, data-within j t c none)
+  given_most t r (from_column c) = omega (arith, cell_weigh (get_or (data_of j t).columns c None) r, data-within j t c None)
+  given_most t r (from_group c) = omega (arith, cell_weigh (get_or (data_of j t).columns c None) r, data-within j t c None)
   given_most t r (from_code code) = omega arith
 
   row_few : (l i t r : ℕ) (s : F.State) → length (row_out j l i t r s).bytes ≤ 432000000

@@ -3,9 +3,9 @@ use Prim.Native.Nat.{ℕ, zero, suc, ◌+◌, ◌*◌, ◌≤◌}
 use mathlib.Core.Path.{◌≡◌, refl}
 use mathlib.Core.Bool.{Bool, true, false}
 use mathlib.Core.List.{List, [], ◌∷◌, ◌++◌}
-use mathlib.Core.Option.{Option, none, some}
 use native.Mathlib.Omega.{arith}
 use native.Mathlib.Nat.{mul-le-mul_right}
+use Rattle.std.specs.Prelude.{Option, None, Some}
 use lib.ListN.{length, get_or, length-append}
 use lib.Dec.{ltb, leb, eqb}
 use Rattle.format.specs.Words.{member_of}
@@ -44,8 +44,8 @@ unfolding separators
 separators_few e = go e.repetition refl
   where
     go : (x : Option ℕ) → e.repetition ≡ x → length (separators e) ≤ 4
-    go none q = rw q (omega arith)
-    go (some c) q = rw q (omega arith)
+    go None q = rw q (omega arith)
+    go (Some c) q = rw q (omega arith)
 
 delimited_few : (j : Job) (o : Origin) (p : Place) (text : List ℕ) → length (delimited j o p text) ≤ 4
 unfolding delimited
@@ -85,16 +85,16 @@ chunk_value_few j id t step k r p (from_group c) = cell_few j id (p.element + k 
 chunk_value_few j id t step k r p (from_code code) = first_only (eqb k 0) (put_text p.element p.component code) (omega arith)
 
 sourced_few : (j : Job) (trigger : List ℕ) (position : ℕ) (d : ElementDef) (f : Option ℕ) (g : Given) → length (put_sourced j trigger position d (record { field = f; given = g })).findings ≤ 5
-sourced_few j trigger position d none g = omega arith
-sourced_few j trigger position d (some f) g = tried_few j (field f) (place_of trigger position none) g.reason _ g.checked
+sourced_few j trigger position d None g = omega arith
+sourced_few j trigger position d (Some f) g = tried_few j (field f) (place_of trigger position None) g.reason _ g.checked
 
 element_few : (j : Job) (trigger : List ℕ) (depth own : ℕ) (control : List ℕ) (x : ℕ × ElementDef) → length (put_element j trigger depth own control x).findings ≤ 5
 unfolding put_element
 element_few j trigger depth own control x = go (source_at j trigger depth own control x.0 x.1)
   where
     go : (s : Option Sourced) → length (on s (put_sourced j trigger x.0 x.1) nothing).findings ≤ 5
-    go none = omega arith
-    go (some s) = sourced_few j trigger x.0 x.1 s.field s.given
+    go None = omega arith
+    go (Some s) = sourced_few j trigger x.0 x.1 s.field s.given
 
 -- ---- all places of a segment
 
@@ -124,12 +124,12 @@ closer_few c control count = go (leb c.count c.closer)
     go false = omega arith
 
 order_few : (o : Outline) (t r : ℕ) (high : Option ℕ) → length (order_findings o t r high) ≤ 1
-order_few o t r none = omega arith
-order_few o t r (some h) = go (ltb r h) (above o t r)
+order_few o t r None = omega arith
+order_few o t r (Some h) = go (ltb r h) (above o t r)
   where
     go : (b : Bool) (x : Option ℕ) → length (pick b (on x (λ u. out_of_order t r u (on (o.reference t u r) (λ v. v) 0) h ∷ []) []) []) ≤ 1
-    go true none = omega arith
-    go true (some u) = omega arith
+    go true None = omega arith
+    go true (Some u) = omega arith
     go false x = omega arith
 
 -- ---- a step
@@ -149,7 +149,7 @@ module _ (j : Job) (E : ℕ) (planned : (l i : ℕ) → length (planned_of j l i
   pub step_findings : (x : Step) (s : F.State) → length (step_out j x s).findings ≤ texted x * (E * 5) + halts x
   unfolding step_out stop_out row_out fill_out chunk_out
   step_findings (enters l) s = omega arith
-  step_findings (stop l t r) s = omega (arith, order_few (outline_of j) t r (get_or s.high t none))
+  step_findings (stop l t r) s = omega (arith, order_few (outline_of j) t r (get_or s.high t None))
   step_findings (opener l) s =
       opener_is j l s (λ o. length o.findings ≤ 1 * (E * 5) + 0) (λ p. length p.findings ≤ E * 5) (λ id p t q. omega arith) (omega arith)
       (λ c. omega (arith, opener_few j l c (get_or s.counter l 0), mul-le-mul_right 5 (defined (loop_of j l).trigger)))

@@ -3,8 +3,8 @@ use Prim.Native.Nat.{ℕ, ◌+◌, ◌*◌, ◌-◌, ◌/◌, ◌≤◌}
 use mathlib.Core.Path.{◌≡◌, refl, ap, ◌∙◌}
 use mathlib.Core.Bool.{◌||◌}
 use mathlib.Core.List.{List, [], ◌∷◌, ◌++◌}
-use mathlib.Core.Option.{Option, none, some}
 use native.Mathlib.Omega.{arith}
+use Rattle.std.specs.Prelude.{Option, None, Some}
 use lib.ListN.{length, take, drop}
 use lib.Seq.{sets}
 use lib.Dec.{ltb}
@@ -25,8 +25,7 @@ use Rattle.emit.specs.Fold as F
 use Rattle.emit.specs.Written.{words_of}
 use Rattle.emit.specs.Did.{state_of, row_words, traced_word, traced_words, stop_word, stop_words, Did, Small}
 use Rattle.emit.proofs.FindingLaws.{stored_findings}
-use Rattle.writer.specs.declared.Answer.{Answer}
-use Rattle.writer.specs.Answer.{number_of, values_of}
+use Rattle.writer.specs.Answer.{Answered, number_of, values_of}
 use Rattle.writer.specs.Result.{Result, result_of}
 use Rattle.writer.specs.Wrote.{threes, tens, WroteFrom}
 use Rattle.writer.specs.Filled.{first_state, start_of, Filled}
@@ -58,8 +57,8 @@ traced_wide : (x : F.Traced) → length (traced_word x) ≡ 3
 traced_wide x = go x.row
   where
     go : (r : Option (ℕ × ℕ)) → length (x.entry ∷ row_words r) ≡ 3
-    go none = refl
-    go (some y) = refl
+    go None = refl
+    go (Some y) = refl
 
 stop_wide : (x : Stop) → length (stop_word x) ≡ 3
 stop_wide x = refl
@@ -75,7 +74,7 @@ pub started : {r : Result} {s : State} {start : ℕ} {d d₁ g g₁ f f₁ p p�
 started from e w = omega (arith, w.findings.counted)
 
 -- only the whole places were lent; the rest of each list comes behind them
-pub wrote_filled : {b d d' g g₁ f f₁ p p₁ : List ℕ} {s : State} {start room : ℕ} (from : ℕ) (a : Answer) → Bytes b → Passed b → census (outline_of (job_of b)) ≤ 65536 → start ≡ start_of from
+pub wrote_filled : {b d d' g g₁ f f₁ p p₁ : List ℕ} {s : State} {start room : ℕ} (from : ℕ) (a : Answered) → Bytes b → Passed b → census (outline_of (job_of b)) ≤ 65536 → start ≡ start_of from
     → Filled (result_of (job_of b)) s start d d' (take (threes g * 3) g) g₁ (take (tens f * 10) f) f₁ (take (threes p * 3) p) p₁
     → (number_of a ≡ pick (ltb (length d) s.counts.bytes || (ltb (threes g) (s.counts.segments / 3) || (ltb room ((s.counts.findings - start) / 10) || ltb (threes p) (s.counts.stops / 3)))) 7 0)
     × (values_of a ≡ s.counts.bytes ∷ s.counts.segments / 3 ∷ (s.counts.findings - start) / 10 ∷ s.counts.stops / 3 ∷ [])

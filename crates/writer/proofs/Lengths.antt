@@ -3,9 +3,9 @@ use Prim.Native.Nat.{ℕ, zero, suc, ◌+◌, ◌*◌, ◌≤◌}
 use mathlib.Core.Path.{◌≡◌, refl}
 use mathlib.Core.Bool.{Bool, true, false, cond}
 use mathlib.Core.List.{List, [], ◌∷◌, ◌++◌, map}
-use mathlib.Core.Option.{some}
 use native.Mathlib.Omega.{arith}
 use native.Mathlib.Nat.{zero-mul, suc-mul}
+use Rattle.std.specs.Prelude.{Some}
 use lib.ListN.{length, get_or, length-append, length-map}
 use Rattle.codec.specs.Codec.{Codec, Bytes, le_c, length_enc_le, items_enc, list_c, map_c, dep_c, ◌⊗◌, enum_c, ◌⊕◌, when_c}
 use Rattle.codec.specs.Forms.{num_c, bytes_c}
@@ -106,7 +106,7 @@ found_in is [] = omega arith
 found_in is (x ∷ xs) = go (is x.0) (found_in is xs)
   where
     go : (t : Bool) → length (on (found is xs) (λ d. d) []) * 12 ≤ length (items_enc (bytes_c ⊗ S.segment_c) xs)
-        → length (on (cond t (some x.1) (found is xs)) (λ d. d) []) * 12 ≤ length ((bytes_c.enc x.0 ++ (S.segment_c).enc x.1) ++ items_enc (bytes_c ⊗ S.segment_c) xs)
+        → length (on (cond t (Some x.1) (found is xs)) (λ d. d) []) * 12 ≤ length ((bytes_c.enc x.0 ++ (S.segment_c).enc x.1) ++ items_enc (bytes_c ⊗ S.segment_c) xs)
     go true h = let q = segment_long x.1 in simp length-append (omega arith)
     go false h = simp length-append (omega arith)
 

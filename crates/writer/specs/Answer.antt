@@ -1,25 +1,32 @@
 -- Document 01's number and values for each case of the answer ("What a call gives back").
-use Rattle.std.specs.Prelude.{ℕ, List, [], ◌∷◌}
-use Rattle.writer.specs.declared.Answer.{Answer}
-use Rattle.writer.specs.declared.Answer.TheVariants.{Done, Size, Structure, Limit, Loops, Text, Instances, Room}
+use Rattle.std.specs.Prelude.{ℕ, List, [], ◌∷◌, Result, Ok, Err}
+use Rattle.refusal.specs.Answer.{number}
+use Rattle.writer.specs.declared.Totals.{Totals}
+use Rattle.writer.specs.declared.Refused.{Refused}
+use Rattle.writer.specs.declared.Refused.TheVariants.{Job, Instances, Room}
 
-abbrev pub number_of : Answer → ℕ
-number_of (Done b g f p) = 0
-number_of Size = 1
-number_of Structure = 2
-number_of Limit = 3
-number_of Loops = 4
-number_of Text = 5
-number_of Instances = 6
-number_of (Room b g f p) = 7
+-- what a call answers
+abbrev pub Answered : Type 0
+Answered = Result Totals Refused
+
+abbrev pub number_by : Refused → ℕ
+number_by (Job r) = number r
+number_by Instances = 6
+number_by (Room s) = 7
+
+abbrev pub number_of : Result Totals Refused → ℕ
+number_of (Ok s) = 0
+number_of (Err e) = number_by e
 
 -- the four counts: bytes, segments, findings, stops
-abbrev pub values_of : Answer → List ℕ
-values_of (Done b g f p) = b ∷ g ∷ f ∷ p ∷ []
-values_of Size = []
-values_of Structure = []
-values_of Limit = []
-values_of Loops = []
-values_of Text = []
-values_of Instances = []
-values_of (Room b g f p) = b ∷ g ∷ f ∷ p ∷ []
+abbrev pub numbers : Totals → List ℕ
+numbers s = s.bytes ∷ s.segments ∷ s.findings ∷ s.stops ∷ []
+
+abbrev pub values_by : Refused → List ℕ
+values_by (Job r) = []
+values_by Instances = []
+values_by (Room s) = numbers s
+
+abbrev pub values_of : Result Totals Refused → List ℕ
+values_of (Ok s) = numbers s
+values_of (Err e) = values_by e

@@ -5,8 +5,7 @@ use Rattle.format.specs.Sections.{job_of}
 use Rattle.nest.specs.Finding.{record_of}
 use Rattle.emit.specs.Did.{traced_word, stop_word}
 use Rattle.lossless.specs.NothingLost.{NothingLost}
-use Rattle.writer.specs.declared.Answer.{Answer}
-use Rattle.writer.specs.Answer.{number_of, values_of}
+use Rattle.writer.specs.Answer.{Answered, number_of, values_of}
 use Rattle.writer.specs.Result.{Result, result_of, counts_of}
 use Rattle.writer.specs.Refused.{first_of, refusal}
 use Rattle.writer.specs.Lists.{in_front, holding, unless_refused}
@@ -35,7 +34,7 @@ unfoldable pub window_from : List ℕ → ℕ → List ℕ → List ℕ
 window_from b from w = unless_refused (refusal b) w (holding (tens w) record_of (drop from (result_of (job_of b)).findings) w)
 
 -- the list of findings has `room` places; w is the window that begins with number `from`
-pub record WroteFrom (b d d' g g' w w' p p' : List ℕ) (from room : ℕ) (a : Answer) : Type 0 where
+pub record WroteFrom (b d d' g g' w w' p p' : List ℕ) (from room : ℕ) (a : Answered) : Type 0 where
   pub number : number_of a ≡ number_for b (length d) (threes g) room (threes p)
   pub values : values_of a ≡ values_for b
   pub document : d' ≡ unless_refused (refusal b) d (in_front (take (length d) (result_of (job_of b)).bytes) d)

@@ -1,7 +1,7 @@
 // The writer: a job's document, segments, findings and stops, in lists that the caller lends. Of the findings it fills a window, a list that holds those from one number on.
 #![tactic(auto)]
 
-ghost use Rattle.std.specs.Prelude.{◌≡◌, ◌||◌, ◌+◌, ◌-◌, ◌*◌, ◌≤◌, ◌<◌, ◌/◌, [], ◌∷◌, length, get_or, ltb};
+ghost use Rattle.std.specs.Prelude.{◌≡◌, ◌||◌, ◌+◌, ◌-◌, ◌*◌, ◌≤◌, ◌<◌, ◌/◌, [], ◌∷◌, length, get_or, ltb, MatchOption};
 ghost use Rattle.std.proofs.lemmas.List.Edits.{sets};
 ghost use Rattle.codec.specs.Codec.{pick};
 ghost use Rattle.lent.specs.Fit.{Noted};
@@ -14,7 +14,8 @@ ghost use Rattle.nest.specs.Rising.{rising_flags};
 ghost use Rattle.nest.specs.Ready.{Ready, outline_at, words};
 ghost use Rattle.walk.specs.Nested.{Nested};
 ghost use Rattle.walk.specs.Tour.{census};
-ghost use Rattle.writer.specs.Answer.{number_of, values_of};
+ghost use Rattle.writer.specs.Answer.{number_by, number_of, numbers, values_of};
+ghost use Rattle.writer.specs.declared.Refused.TheVariants.{Job};
 ghost use Rattle.writer.specs.Result.{result_of};
 ghost use Rattle.writer.specs.Wrote.{window_from, WroteFrom};
 ghost use Rattle.writer.specs.Filled.{first_state, start_of, Filled};
@@ -27,23 +28,50 @@ use nest::keys::all_keys;
 use nest::order::mark_rising;
 use nest::report::all_findings;
 use nest::rows::nest_rows;
-use refusal::Checked;
+use refusal::Refusal;
 use run::run;
 use spec::envelope::control_number;
 use spec::ids::TableId;
 
-// Done and Room: how many bytes, segments, findings and stops there are; in Room a list is shorter than its count. The others refuse the job.
+// How many bytes, segments, findings and stops a job comes to.
 #[derive(Clone, Copy)]
-pub enum Answer {
-    Done(usize, usize, usize, usize),
-    Size,
-    Structure,
-    Limit,
-    Loops,
-    Text,
-    Instances,
-    Room(usize, usize, usize, usize),
+pub struct Totals {
+    pub bytes: usize,
+    pub segments: usize,
+    pub findings: usize,
+    pub stops: usize,
 }
+
+// What a job is refused for: itself, too many loop instances, or that a list is shorter than its count.
+#[derive(Clone, Copy)]
+pub enum Refused {
+    Job(Refusal),
+    Instances,
+    Room(Totals),
+}
+
+impl Refused {
+    // Document 01's number.
+    pub fn number(self) -> u32
+        ensures { result ≡ number_by self }
+    {
+        match self {
+            Refused::Job(refusal) => refusal.number(),
+            Refused::Instances => 6,
+            Refused::Room(_) => 7,
+        }
+    }
+}
+
+impl From<Refusal> for Refused {
+    ghost from_gives = { λ r e. e ≡ Job r };
+
+    fn from(refusal: Refusal) -> Refused {
+        Refused::Job(refusal)
+    }
+}
+
+pub type Answer = Result<Totals, Refused>;
 
 // What nest finds: duplicate keys first, then row by row.
 fn nest_findings(job: &[u8], index: &[u16], nest: &[u32], window: &mut [u64], start: usize) -> usize
@@ -85,7 +113,7 @@ fn first_state(control: u64, findings: usize) -> State
     }
 }
 
-// The whole result, as far as it fits: nest's findings, then the walk.
+// The whole result, as far as it fits: nest's findings, then the walk. The lists go one by one: of bytes behind a borrow in a struct nothing would be known.
 fn written(
     job: &[u8],
     index: &[u16],
@@ -109,23 +137,28 @@ fn answer_of(s: State, start: usize, d: usize, g: usize, f: usize, p: usize) -> 
     requires { start ≤ s.counts.findings }
     ensures { (number_of result ≡ pick (ltb d s.counts.bytes || (ltb g (s.counts.segments / 3) || (ltb f ((s.counts.findings - start) / 10) || ltb p (s.counts.stops / 3)))) 7 0) × (values_of result ≡ s.counts.bytes ∷ s.counts.segments / 3 ∷ (s.counts.findings - start) / 10 ∷ s.counts.stops / 3 ∷ []) }
 {
-    let bytes = s.counts.bytes;
     let segments = s.counts.segments / 3;
     let findings = (s.counts.findings - start) / 10;
     let stops = s.counts.stops / 3;
-    if d < bytes {
-        return Answer::Room(bytes, segments, findings, stops);
+    let totals = Totals {
+        bytes: s.counts.bytes,
+        segments,
+        findings,
+        stops,
+    };
+    if d < totals.bytes {
+        return Err(Refused::Room(totals));
     }
     if g < segments {
-        return Answer::Room(bytes, segments, findings, stops);
+        return Err(Refused::Room(totals));
     }
     if f < findings {
-        return Answer::Room(bytes, segments, findings, stops);
+        return Err(Refused::Room(totals));
     }
     if p < stops {
-        return Answer::Room(bytes, segments, findings, stops);
+        return Err(Refused::Room(totals));
     }
-    Answer::Done(bytes, segments, findings, stops)
+    Ok(totals)
 }
 
 // A job that passes 1 to 6. Only whole places of a list are written to.
@@ -181,7 +214,7 @@ fn nested(
 {
     let many = crowded(job, index, nest);
     if many {
-        return Answer::Instances;
+        return Err(Refused::Instances);
     }
     walked(
         job, index, nest, document, segments, window, stops, from, room,
@@ -197,8 +230,8 @@ fn hang_rows(job: &[u8], index: &[u16], nest: &mut [u32])
     mark_rising(job, index, nest);
 }
 
-// A job of at most 240 rows: its array is short, since each call sets it to zero.
-fn few_rows(
+// A job of few enough rows: its array has N numbers, and is short where rows are few, since each call sets it to zero.
+fn in_array<const N: usize>(
     job: &[u8],
     index: &[u16],
     document: &mut [u8],
@@ -208,30 +241,10 @@ fn few_rows(
     from: usize,
     room: usize,
 ) -> Answer
-    requires { Ready job.now index.now × (rows_of_all (job_of job.now).tables ≤ 240) }
+    requires { Ready job.now index.now × (rows_of_all (job_of job.now).tables * 3 + 16 ≤ N) × (N ≤ 12304) }
     ensures { WroteFrom job.now document.old document.new segments.old segments.new window.old window.new stops.old stops.new from room result }
 {
-    let mut nest = [0u32; 736];
-    hang_rows(job, index, &mut nest);
-    nested(
-        job, index, &nest, document, segments, window, stops, from, room,
-    )
-}
-
-fn many_rows(
-    job: &[u8],
-    index: &[u16],
-    document: &mut [u8],
-    segments: &mut [u64],
-    window: &mut [u64],
-    stops: &mut [u64],
-    from: usize,
-    room: usize,
-) -> Answer
-    requires { Ready job.now index.now }
-    ensures { WroteFrom job.now document.old document.new segments.old segments.new window.old window.new stops.old stops.new from room result }
-{
-    let mut nest = [0u32; 12304];
+    let mut nest = [0u32; N];
     hang_rows(job, index, &mut nest);
     nested(
         job, index, &nest, document, segments, window, stops, from, room,
@@ -256,9 +269,9 @@ fn passed(
     let tables = tables::data::data_count(job, &index);
     let rows = tables::data::first_row(job, &index, TableId(tables));
     if rows <= 240 {
-        return few_rows(job, &index, document, segments, window, stops, from, room);
+        return in_array::<736>(job, &index, document, segments, window, stops, from, room);
     }
-    many_rows(job, &index, document, segments, window, stops, from, room)
+    in_array::<12304>(job, &index, document, segments, window, stops, from, room)
 }
 
 // The whole call: the answer, and what the lent lists then hold. The list of findings has `room` places; the window is to begin with number `from`.
@@ -273,27 +286,8 @@ pub fn window(
 ) -> Answer
     ensures { WroteFrom job.now document.old document.new segments.old segments.new window.old window.new stops.old stops.new from room result }
 {
-    let checked = refusal::check(job);
-    match checked {
-        Checked::Job => {
-            return passed(job, document, segments, window, stops, from, room);
-        }
-        Checked::Size => {
-            return Answer::Size;
-        }
-        Checked::Structure => {
-            return Answer::Structure;
-        }
-        Checked::Limit => {
-            return Answer::Limit;
-        }
-        Checked::Loops => {
-            return Answer::Loops;
-        }
-        Checked::Text => {
-            return Answer::Text;
-        }
-    }
+    refusal::check(job)?;
+    passed(job, document, segments, window, stops, from, room)
 }
 
 // The findings from number `from` on, and nothing else of the job.
@@ -303,7 +297,7 @@ pub fn later(job: &[u8], window: &mut [u64], from: usize)
     let mut document = [0u8; 1];
     let mut segments = [0u64; 3];
     let mut stops = [0u64; 3];
-    crate::window(
+    let _ = crate::window(
         job,
         &mut document,
         &mut segments,
@@ -314,18 +308,24 @@ pub fn later(job: &[u8], window: &mut [u64], from: usize)
     );
 }
 
+// The totals of an answer that has some: of a finished job, and of one that a list is too short for.
+pub fn totals_of(a: Answer) -> Option<Totals>
+    ensures { MatchOption result (values_of a ≡ []) (λ s. values_of a ≡ numbers s) }
+{
+    match a {
+        Ok(totals) => Some(totals),
+        Err(Refused::Room(totals)) => Some(totals),
+        Err(Refused::Job(_)) => None,
+        Err(Refused::Instances) => None,
+    }
+}
+
 // How many findings there are; 0 for a refused job.
 pub fn found(a: Answer) -> usize
     ensures { result ≡ get_or (values_of a) 2 0 }
 {
-    match a {
-        Answer::Done(_, _, f, _) => f,
-        Answer::Room(_, _, f, _) => f,
-        Answer::Size => 0,
-        Answer::Structure => 0,
-        Answer::Limit => 0,
-        Answer::Loops => 0,
-        Answer::Text => 0,
-        Answer::Instances => 0,
+    match totals_of(a) {
+        Some(totals) => totals.findings,
+        None => 0,
     }
 }

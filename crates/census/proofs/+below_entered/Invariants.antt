@@ -3,7 +3,7 @@ use Rattle.nest.specs.Ready.{outline_at}
 use Rattle.walk.specs.Contexts.{context_by}
 use Rattle.instances.specs.Cursor.{coming}
 use Rattle.census.proofs.Counting.{Below, Entering}
-use Prim.Native.Nat.{◌+◌, ◌-◌, ◌*◌}
+use Prim.Native.Nat.{◌+◌, ◌*◌}
 use Rattle.census.proofs.+below_entered.Given as goal
 
 abbrev pub decreases-below : goal.decreases-below
@@ -14,9 +14,6 @@ decreases-entered l = l.height * 2
 
 abbrev pub invariant-below-loop-i : goal.invariant-below-loop-i
 invariant-below-loop-i l = Below (outline_at l.job) l.height l.l.0 (context_by l.c) l.n l.i l.m l.leaf
-
-abbrev pub decreases-below-loop-i : goal.decreases-below-loop-i
-decreases-below-loop-i l = l.count - l.i
 
 abbrev pub invariant-entered-loop-m : goal.invariant-entered-loop-m
 invariant-entered-loop-m l = Entering (outline_at l.job) l.nest l.height l.l.0 l.n l.initial.cur l.m l.leaf l.cur

@@ -8,6 +8,3 @@ decreases-most l = l.height
 
 abbrev pub invariant-loop-i : goal.invariant-loop-i
 invariant-loop-i l = Most (outline_at l.job) (l.height - 1) l.l.0 l.i l.s
-
-abbrev pub decreases-loop-i : goal.decreases-loop-i
-decreases-loop-i l = l.count - l.i

@@ -13,7 +13,7 @@ pub overflow_add-n : goal.overflow_add-n
 overflow_add-n c = omega (arith, c.most-m.ensures.few, c.loop-i.invariant.few)
 
 pub loop-i-preserved : goal.loop-i-preserved
-loop-i-preserved c = roots_most_next _ _ _ c.loop-i.invariant _ c.root_count-count.ensures _ _ _ _ c.loop-i-test.true c.root-l.ensures c.loop_count-height.ensures c.most-m.ensures c.capped-n.ensures
+loop-i-preserved c = roots_most_next _ _ _ c.loop-i.invariant _ c.root_count-count.ensures _ _ _ _ c.loop-i-test.true c.root-l.ensures c.loop_count-height.ensures c.most-m.ensures c.min-n.ensures
 
 pub returns : goal.returns
 returns c = roots_most_end _ _ _ c.loop-i.invariant _ c.root_count-count.ensures c.loop-i-test.false

@@ -1,10 +1,6 @@
-use Prim.Native.Nat.{◌-◌}
 use Rattle.format.specs.Sections.{job_of}
 use Rattle.census.proofs.Bounding.{RootsMost}
 use Rattle.census.proofs.bound.Given as goal
 
 abbrev pub invariant-loop-i : goal.invariant-loop-i
 invariant-loop-i l = RootsMost (job_of l.job) l.i l.n
-
-abbrev pub decreases-loop-i : goal.decreases-loop-i
-decreases-loop-i l = l.count - l.i

@@ -6,10 +6,10 @@ pub longest-requires : goal.longest-requires
 longest-requires c = (rows_room_for c.requires _ _ c.row_count-rows.ensures _ c.first_row-base.ensures, rows_small c.requires _ _ c.row_count-rows.ensures, rows_climb c.requires _ _ c.row_count-rows.ensures _ c.first_row-base.ensures (sym c.rises.ensures ∙ c.if-rises.true))
 
 pub returns-then-rises : goal.returns-then-rises
-returns-then-rises c = fan_hung c.requires _ _ c.row_count-rows.ensures _ c.first_row-base.ensures _ _ _ c.table_parent-parent.ensures c.in-Is.is c.longest.ensures
+returns-then-rises c = fan_hung c.requires _ _ c.row_count-rows.ensures _ c.first_row-base.ensures _ _ _ c.table_parent-parent.ensures c.in-Some.is c.longest.ensures
 
-pub returns-in-Is : goal.returns-in-Is
-returns-in-Is c = fan_all c.requires _ _ c.row_count-rows.ensures
+pub returns-in-Some : goal.returns-in-Some
+returns-in-Some c = fan_all c.requires _ _ c.row_count-rows.ensures
 
 pub returns-in-None : goal.returns-in-None
 returns-in-None c = fan_all c.requires _ _ c.row_count-rows.ensures

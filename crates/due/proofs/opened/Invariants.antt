@@ -1,4 +1,3 @@
-use Prim.Native.Nat.{◌-◌}
 use mathlib.Core.Path.{◌≡◌}
 use Rattle.format.specs.Sections.{job_of}
 use Rattle.nest.specs.OfJob.{outline_of}
@@ -8,6 +7,3 @@ use Rattle.due.proofs.opened.Given as goal
 
 abbrev pub invariant-loop-k : goal.invariant-loop-k
 invariant-loop-k l = opened (outline_of (job_of l.job)) l.l.0 ≡ opens_from (outline_of (job_of l.job)) l.l.0 l.k
-
-abbrev pub decreases-loop-k : goal.decreases-loop-k
-decreases-loop-k l = l.n - l.k

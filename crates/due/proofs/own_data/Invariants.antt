@@ -1,4 +1,3 @@
-use Prim.Native.Nat.{◌-◌}
 use mathlib.Core.Path.{◌≡◌}
 use Rattle.format.specs.Sections.{job_of}
 use Rattle.nest.specs.Lists.{some_of, up_to}
@@ -10,6 +9,3 @@ use Rattle.due.proofs.own_data.Given as goal
 
 abbrev pub invariant-loop-i : goal.invariant-loop-i
 invariant-loop-i l = own_data (outline_of (job_of l.job)) l.l.0 l.t.0 l.r.0 ≡ some_of (fills (job_of l.job) l.l.0 l.t.0 l.r.0) (up_to l.i (planned (outline_of (job_of l.job)) l.l.0))
-
-abbrev pub decreases-loop-i : goal.decreases-loop-i
-decreases-loop-i l = l.n - l.i

@@ -1,4 +1,3 @@
-use Prim.Native.Nat.{◌-◌}
 use mathlib.Core.Path.{◌≡◌}
 use Rattle.format.specs.Sections.{job_of}
 use mathlib.Core.Bool.{not}
@@ -11,6 +10,3 @@ use Rattle.due.proofs.same_group.Given as goal
 
 abbrev pub invariant-loop-k : goal.invariant-loop-k
 invariant-loop-k l = (outline_of (job_of l.job)).same_group l.l.0 l.a.0 l.b.0 ≡ not (some_of (differ (job_of l.job) l.t.0 l.a.0 l.b.0) (drop l.k (group_columns_of (job_of l.job) l.l.0)))
-
-abbrev pub decreases-loop-k : goal.decreases-loop-k
-decreases-loop-k l = l.n - l.k

@@ -18,23 +18,23 @@ num-envelope-requires c = omega (arith, (sound_of _ c.requires).most)
 pub num-data-requires : goal.num-data-requires
 num-data-requires c = omega (arith, (sound_of _ c.requires).most)
 
-pub spec_at-requires : goal.spec_at-requires
-spec_at-requires c = omega (arith, sound_of _ c.requires)
-
-pub plan_at-requires : goal.plan_at-requires
-plan_at-requires c = omega (arith, sound_of _ c.requires)
-
-pub layout_at-requires : goal.layout_at-requires
-layout_at-requires c = omega (arith, sound_of _ c.requires)
-
-pub envelope_at-requires : goal.envelope_at-requires
-envelope_at-requires c = omega (arith, sound_of _ c.requires)
-
 pub overflow_cast-t : goal.overflow_cast-t
 overflow_cast-t c = omega (arith, (sound_of _ c.requires).most)
 
-pub data_at-requires : goal.data_at-requires
-data_at-requires c = omega (arith, sound_of _ c.requires)
+pub invariant_of-ends_at : goal.invariant_of-ends_at
+invariant_of-ends_at c = record { within = omega (arith, sound_of _ c.requires) }
+
+pub invariant_of-ends_at-2 : goal.invariant_of-ends_at-2
+invariant_of-ends_at-2 c = record { within = omega (arith, sound_of _ c.requires) }
+
+pub invariant_of-ends_at-3 : goal.invariant_of-ends_at-3
+invariant_of-ends_at-3 c = record { within = omega (arith, sound_of _ c.requires) }
+
+pub invariant_of-ends_at-4 : goal.invariant_of-ends_at-4
+invariant_of-ends_at-4 c = record { within = omega (arith, sound_of _ c.requires) }
+
+pub invariant_of-ends_at-5 : goal.invariant_of-ends_at-5
+invariant_of-ends_at-5 c = record { within = omega (arith, sound_of _ c.requires) }
 
 pub returns : goal.returns
-returns c = cc (spoilt_is _ _ _ _ _ _ _ _ _ _ _ refl c.num-plan.ensures.0 c.num-layout.ensures.0 c.num-envelope.ensures.0 c.num-data.ensures.0 c.spec_at.ensures c.plan_at.ensures c.layout_at.ensures c.envelope_at.ensures c.data_at.ensures)
+returns c = cc (spoilt_is _ _ _ _ _ _ _ _ _ _ _ refl c.num-plan.ensures.0 c.num-layout.ensures.0 c.num-envelope.ensures.0 c.num-data.ensures.0 c.ends_at.ensures c.ends_at-2.ensures c.ends_at-3.ensures c.ends_at-4.ensures c.ends_at-5.ensures)

@@ -26,8 +26,8 @@ returns-then-implied t c = some_none _ _ _ _ c.if-height-eq0.false _ (implied_of
 pub by_kind-cur-requires : goal.by_kind-cur-requires
 by_kind-cur-requires t c = (c.requires.0, c.requires.1, c.requires.2, c.instances-kind.ensures, sym c.by_children-implied.ensures ∙ c.if-implied.false)
 
-pub next_instance-first-requires : goal.next_instance-first-requires
-next_instance-first-requires t c = (c.requires.0, c.by_kind-cur.ensures.going)
+pub next_instance-requires : goal.next_instance-requires
+next_instance-requires t c = (c.requires.0, c.by_kind-cur.ensures.going)
 
 pub returns : goal.returns
-returns t c = some_coming _ _ _ _ _ c.if-height-eq0.false _ c.by_kind-cur.ensures _ c.next_instance-first.ensures
+returns t c = c.is_some.ensures ∙ some_coming _ _ _ _ _ c.if-height-eq0.false _ c.by_kind-cur.ensures _ c.next_instance.ensures

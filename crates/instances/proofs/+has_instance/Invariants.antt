@@ -10,6 +10,3 @@ decreases-has_instance l = l.height
 
 abbrev pub invariant-loop-i : goal.invariant-loop-i
 invariant-loop-i l = some_child (outline_at l.job) (l.height - 1) l.l.0 (context_by l.c) 0 ≡ some_child (outline_at l.job) (l.height - 1) l.l.0 (context_by l.c) l.i
-
-abbrev pub decreases-loop-i : goal.decreases-loop-i
-decreases-loop-i l = l.n - l.i

@@ -1,11 +1,7 @@
-use Prim.Native.Nat.{◌≤◌, ◌-◌}
 use mathlib.Core.Path.{◌≡◌}
 use lib.ListN.{length, take, replicate}
 use lib.Seq.{sets}
 use Rattle.lent.proofs.fill.Given as goal
 
 abbrev pub invariant-loop-i : goal.invariant-loop-i
-invariant-loop-i l = (l.i ≤ l.n) × (length l.d ≡ length l.initial.d) × (l.d ≡ sets l.initial.d l.at (take l.i (replicate l.n l.b)))
-
-abbrev pub decreases-loop-i : goal.decreases-loop-i
-decreases-loop-i l = l.n - l.i
+invariant-loop-i l = (length l.d ≡ length l.initial.d) × (l.d ≡ sets l.initial.d l.at (take l.i (replicate l.n l.b)))

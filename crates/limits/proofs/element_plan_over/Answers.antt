@@ -1,10 +1,22 @@
 use Rattle.codec.specs.Skip.{skip_map, skip_pair}
+use Rattle.codec.specs.Limits.{any_nil}
 use Rattle.format.specs.Fields.{is_element_plan}
 use Rattle.format.specs.Plan.{element_plan_c}
 use Rattle.format.specs.Refusal.{over_element_plan}
-use Rattle.says.proofs.Walk.{both, only, says_at}
+use Rattle.says.proofs.Walk.{says_be}
+use Rattle.says.proofs.Pass.{is_found, is_clear, any_here, any_later, any_not}
 use Rattle.limits.proofs.element_plan_over.Goals as goal
 
-pub returns : goal.returns
+pub returns-then-large_at : goal.returns-then-large_at
 unfolding over_element_plan
-returns c v i = let l = is_element_plan _ _ _ v i in (both _ _ _ _ _ c.either-found.ensures (says_at _ _ _ _ _ _ _ _ c.large_at-x.ensures l.element (cc)) (only _ _ (says_at _ _ _ _ _ _ _ _ c.opt_large_at-y.ensures l.component (cc))), λ z. (unfold element_plan_c in simp (skip_map, skip_pair) (cc)))
+returns-then-large_at c v i = is_found _ _ (any_here _ _ (says_be _ _ _ _ _ _ _ _ _ c.large_at.ensures c.if-large_at.true (is_element_plan _ _ _ v i).element (cc)))
+
+pub returns-then-opt_large_at : goal.returns-then-opt_large_at
+unfolding over_element_plan
+returns-then-opt_large_at c v i = is_found _ _ (any_later _ _ (any_here _ _ (says_be _ _ _ _ _ _ _ _ _ c.opt_large_at.ensures c.if-opt_large_at.true (is_element_plan _ _ _ v i).component (cc))))
+
+pub returns : goal.returns
+unfolding over_element_plan element_plan_c
+returns c v i =
+    let l = is_element_plan _ _ _ v i in
+    is_clear _ _ _ (any_not _ _ (says_be _ _ _ _ _ _ _ _ _ c.large_at.ensures c.if-large_at.false l.element (cc)) (any_not _ _ (says_be _ _ _ _ _ _ _ _ _ c.opt_large_at.ensures c.if-opt_large_at.false l.component (cc)) any_nil)) (simp (skip_map, skip_pair) (cc))

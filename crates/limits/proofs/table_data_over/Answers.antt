@@ -2,9 +2,14 @@ use Rattle.codec.specs.Skip.{skip_map, skip_pair}
 use Rattle.format.specs.Fields.{is_table_data_lem}
 use Rattle.format.specs.Data.{table_data_c}
 use Rattle.format.specs.Refusal.{over_table_data}
-use Rattle.says.proofs.Walk.{more_than}
+use Rattle.says.proofs.Walk.{long_is, long_not}
+use Rattle.says.proofs.Pass.{is_found, is_clear}
 use Rattle.limits.proofs.table_data_over.Goals as goal
 
-pub returns : goal.returns
+pub returns-then-count_at-gt32 : goal.returns-then-count_at-gt32
 unfolding over_table_data
-returns c v i = let l = is_table_data_lem _ _ _ v i in (more_than _ _ _ _ _ _ _ 32 c.count_at-found.ensures.0 (cc) l.columns, λ z. (unfold table_data_c in simp (skip_map, skip_pair) (cc)))
+returns-then-count_at-gt32 c v i = is_found _ _ (long_is _ _ _ _ _ _ _ 32 c.count_at.ensures.0 (is_table_data_lem _ _ _ v i).columns (cc) c.if-count_at-gt32.true)
+
+pub returns : goal.returns
+unfolding over_table_data table_data_c
+returns c v i = is_clear _ _ _ (long_not _ _ _ _ _ _ _ 32 c.count_at.ensures.0 (is_table_data_lem _ _ _ v i).columns (cc) c.if-count_at-gt32.false) (simp (skip_map, skip_pair) (cc))

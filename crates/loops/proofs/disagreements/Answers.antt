@@ -6,16 +6,13 @@ pub loop-k-init : goal.loop-k-init
 loop-k-init c = λ ls q. upto_start _ _ _ _ _ c.count_at-n.ensures.0
 
 pub disagrees_at-requires : goal.disagrees_at-requires
-disagrees_at-requires c = (c.requires.0, below_same _ _ _ _ _ _ c.count_at-n.ensures.0 c.loop-k-test.true c.below-children.ensures _ c.place_of-p.ensures, c.requires.1)
+disagrees_at-requires c = below_same _ _ _ _ _ _ c.count_at-n.ensures.0 (omega arith) c.below-children.ensures _ c.place_of-p.ensures
 
 pub returns-then-disagrees_at : goal.returns-then-disagrees_at
-returns-then-disagrees_at c = λ ls q. upto_found _ _ _ _ _ c.count_at-n.ensures.0 _ _ _ (c.loop-k.invariant ls q) c.loop-k-test.true c.place_of-p.ensures (c.disagrees_at.ensures ls q) c.if-disagrees_at.true
-
-pub overflow_add-k : goal.overflow_add-k
-overflow_add-k c = omega (arith, c.loop-k-test.true, c.count_at-n.ensures.1)
+returns-then-disagrees_at c = λ ls q. upto_found _ _ _ _ _ c.count_at-n.ensures.0 _ _ _ (c.loop-k.invariant ls q) (omega arith) c.place_of-p.ensures (c.disagrees_at.ensures ls q) c.if-disagrees_at.true
 
 pub loop-k-preserved : goal.loop-k-preserved
-loop-k-preserved c = λ ls q. upto_again _ _ _ _ _ c.count_at-n.ensures.0 _ _ _ (c.loop-k.invariant ls q) c.loop-k-test.true c.place_of-p.ensures (c.disagrees_at.ensures ls q) c.if-disagrees_at.false
+loop-k-preserved c = λ ls q. upto_again _ _ _ _ _ c.count_at-n.ensures.0 _ _ _ (c.loop-k.invariant ls q) (omega arith) c.place_of-p.ensures (c.disagrees_at.ensures ls q) c.if-disagrees_at.false
 
 pub returns : goal.returns
-returns c = λ ls q. upto_none _ _ _ _ _ c.count_at-n.ensures.0 _ (c.loop-k.invariant ls q) c.loop-k-test.false
+returns c = λ ls q. upto_none _ _ _ _ _ c.count_at-n.ensures.0 _ (c.loop-k.invariant ls q) (omega arith)

@@ -4,11 +4,7 @@ use Rattle.codec.specs.Skip.{Is}
 use Rattle.format.specs.Spec.{Loop, loop_c}
 use Rattle.format.specs.Refusal.{disagrees}
 use Rattle.loops.proofs.ByNumber.{Upto}
-use Prim.Native.Nat.{◌-◌}
 use Rattle.loops.proofs.disagreements.Given as goal
 
 abbrev pub invariant-loop-k : goal.invariant-loop-k
-invariant-loop-k l = (ls : List Loop) → Is (list_c loop_c) l.b l.end l.at ls → Upto l.b l.end l.at (disagrees ls) l.n l.k
-
-abbrev pub decreases-loop-k : goal.decreases-loop-k
-decreases-loop-k l = l.n - l.k
+invariant-loop-k l = (ls : List Loop) → Is (list_c loop_c) l.loops.section.bytes.now l.loops.section.end l.loops.at ls → Upto l.loops.section.bytes.now l.loops.section.end l.loops.at (disagrees ls) l.n l.k

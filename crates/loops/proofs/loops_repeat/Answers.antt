@@ -9,13 +9,10 @@ pub loop-k-init : goal.loop-k-init
 loop-k-init c = upto_start _ _ _ _ _ c.count_at-n.ensures.0
 
 pub returns-then-repeats_at : goal.returns-then-repeats_at
-returns-then-repeats_at c = says_as _ _ _ _ _ _ _ (upto_found _ _ _ _ _ c.count_at-n.ensures.0 _ _ _ c.loop-k.invariant c.loop-k-test.true (λ i. refl) (below_test _ _ _ _ _ _ c.count_at-n.ensures.0 c.loop-k-test.true c.below-children.ensures repeats _ c.repeats_at.ensures) c.if-repeats_at.true) (any_each _ 0)
-
-pub overflow_add-k : goal.overflow_add-k
-overflow_add-k c = omega (arith, c.loop-k-test.true, c.count_at-n.ensures.1)
+returns-then-repeats_at c = says_as _ _ _ _ _ _ _ (upto_found _ _ _ _ _ c.count_at-n.ensures.0 _ _ _ c.loop-k.invariant (omega arith) (λ i. refl) (below_test _ _ _ _ _ _ c.count_at-n.ensures.0 (omega arith) c.below-children.ensures repeats _ c.repeats_at.ensures) c.if-repeats_at.true) (any_each _ 0)
 
 pub loop-k-preserved : goal.loop-k-preserved
-loop-k-preserved c = upto_again _ _ _ _ _ c.count_at-n.ensures.0 _ _ _ c.loop-k.invariant c.loop-k-test.true (λ i. refl) (below_test _ _ _ _ _ _ c.count_at-n.ensures.0 c.loop-k-test.true c.below-children.ensures repeats _ c.repeats_at.ensures) c.if-repeats_at.false
+loop-k-preserved c = upto_again _ _ _ _ _ c.count_at-n.ensures.0 _ _ _ c.loop-k.invariant (omega arith) (λ i. refl) (below_test _ _ _ _ _ _ c.count_at-n.ensures.0 (omega arith) c.below-children.ensures repeats _ c.repeats_at.ensures) c.if-repeats_at.false
 
 pub returns : goal.returns
-returns c = says_as _ _ _ _ _ _ _ (upto_none _ _ _ _ _ c.count_at-n.ensures.0 _ c.loop-k.invariant c.loop-k-test.false) (any_each _ 0)
+returns c = says_as _ _ _ _ _ _ _ (upto_none _ _ _ _ _ c.count_at-n.ensures.0 _ c.loop-k.invariant (omega arith)) (any_each _ 0)

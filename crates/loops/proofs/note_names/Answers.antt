@@ -1,23 +1,25 @@
+use Rattle.std.specs.Prelude.{◌-◌, ◌+◌, ◌≡◌}
 use mathlib.Core.Path.{refl, ◌∙◌}
 use native.Mathlib.Omega.{arith}
 use Rattle.tree.proofs.Names.{noting_start, noting_again, noting_full, noting_done}
 use Rattle.loops.proofs.Items.{loops_first, loops_none}
 use Rattle.loops.proofs.note_names.Goals as goal
 
-pub loop-left-init : goal.loop-left-init
-loop-left-init c = (refl, (omega arith, noting_start _ _ _ _ _ _ _ _ c.count_at-left.ensures.0 c.le_at-p.ensures))
+pub loop-i-init : goal.loop-i-init
+loop-i-init c = let z : c.count_at-n.result - 0 ≡ c.count_at-n.result = omega arith in (refl, (omega arith, rw z (noting_start _ _ _ _ _ _ _ _ c.count_at-n.ensures.0 c.le_at-p.ensures)))
 
 pub returns-then-names-k : goal.returns-then-names-k
-returns-then-names-k c = let i = c.loop-left.invariant in (i.0, (i.1.0, noting_full _ _ _ _ _ _ _ _ _ i.1.1 (omega (arith, c.if-names-k.true, i.0))))
+returns-then-names-k c = let i = c.loop-i.invariant in (i.0, (i.1.0, noting_full _ _ _ _ _ _ _ _ _ i.1.1 (omega (arith, c.if-names-k.true, i.0))))
 
 pub note_name-k-requires : goal.note_name-k-requires
-note_name-k-requires c = omega (arith, c.if-names-k.false, c.loop-left.invariant.0)
+note_name-k-requires c = omega (arith, c.if-names-k.false, c.loop-i.invariant.0)
 
-pub loop-left-preserved : goal.loop-left-preserved
-loop-left-preserved c =
-    let i = c.loop-left.invariant in
+pub loop-i-preserved : goal.loop-i-preserved
+loop-i-preserved c =
+    let i = c.loop-i.invariant in
     let f = c.note_name-k.ensures in
-    (f.0 ∙ i.0, (omega (arith, f.0, f.1.0, c.if-names-k.false, i.0), noting_again _ _ _ _ _ _ loops_first _ _ _ _ _ _ i.1.1 c.loop-left-test.true c.item_at-p.ensures f.1.1))
+    let z : c.count_at-n.result - (c.loop-i._i + 1) ≡ c.count_at-n.result - c.loop-i._i - 1 = omega arith in
+    (f.0 ∙ i.0, (omega (arith, f.0, f.1.0, c.if-names-k.false, i.0), rw z (noting_again _ _ _ _ _ _ loops_first _ _ _ _ _ _ i.1.1 (omega arith) c.ends_at-p.ensures f.1.1)))
 
 pub returns : goal.returns
-returns c = let i = c.loop-left.invariant in (i.0, (i.1.0, noting_done _ _ _ _ _ _ loops_none _ _ _ i.1.1 c.loop-left-test.false))
+returns c = let i = c.loop-i.invariant in (i.0, (i.1.0, noting_done _ _ _ _ _ _ loops_none _ _ _ i.1.1 (omega arith)))

@@ -7,13 +7,10 @@ pub loop-k-init : goal.loop-k-init
 loop-k-init c = λ ls q. upto_start _ _ _ _ _ c.count_at-n.ensures.0
 
 pub returns-then-ringed_at : goal.returns-then-ringed_at
-returns-then-ringed_at c = λ ls q. upto_found _ _ _ _ _ c.count_at-n.ensures.0 _ _ _ (c.loop-k.invariant ls q) c.loop-k-test.true (λ i. refl) (λ v l. c.ringed_at.ensures ls q v) c.if-ringed_at.true
-
-pub overflow_add-k : goal.overflow_add-k
-overflow_add-k c = omega (arith, c.loop-k-test.true, c.count_at-n.ensures.1)
+returns-then-ringed_at c = λ ls q. upto_found _ _ _ _ _ c.count_at-n.ensures.0 _ _ _ (c.loop-k.invariant ls q) (omega arith) (λ i. refl) (λ v l. c.ringed_at.ensures ls q v) c.if-ringed_at.true
 
 pub loop-k-preserved : goal.loop-k-preserved
-loop-k-preserved c = λ ls q. upto_again _ _ _ _ _ c.count_at-n.ensures.0 _ _ _ (c.loop-k.invariant ls q) c.loop-k-test.true (λ i. refl) (λ v l. c.ringed_at.ensures ls q v) c.if-ringed_at.false
+loop-k-preserved c = λ ls q. upto_again _ _ _ _ _ c.count_at-n.ensures.0 _ _ _ (c.loop-k.invariant ls q) (omega arith) (λ i. refl) (λ v l. c.ringed_at.ensures ls q v) c.if-ringed_at.false
 
 pub returns : goal.returns
-returns c = λ ls q. upto_none _ _ _ _ _ c.count_at-n.ensures.0 _ (c.loop-k.invariant ls q) c.loop-k-test.false
+returns c = λ ls q. upto_none _ _ _ _ _ c.count_at-n.ensures.0 _ (c.loop-k.invariant ls q) (omega arith)

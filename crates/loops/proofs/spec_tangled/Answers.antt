@@ -11,4 +11,4 @@ returns-then-loops_repeat c v i = children_tangle v _ (c.loops_repeat.ensures _ 
 
 pub returns : goal.returns
 unfolding tangled_spec
-returns c v i = let l = is_spec _ _ _ v i in both _ _ _ _ _ c.either-2.ensures (c.disagreements-x.ensures _ l.loops _ l.loops) (both _ _ _ _ _ c.either.ensures (c.rings-y.ensures _ l.loops _ l.loops) (only _ _ (says_at _ _ _ _ _ _ _ _ (c.misroots-z.ensures _ (is_at _ _ _ _ _ _ c.requires.1 l.roots)) l.loops refl)))
+returns c v i = let l = is_spec _ _ _ v i in both _ _ _ _ _ c.either-2.ensures (c.disagreements-x.ensures _ l.loops _ l.loops) (both _ _ _ _ _ c.either.ensures (c.rings-y.ensures _ l.loops _ l.loops) (only _ _ (says_at _ _ _ _ _ _ _ _ (c.misroots-z.ensures _ (is_at _ _ _ _ _ _ c.requires l.roots)) l.loops refl)))

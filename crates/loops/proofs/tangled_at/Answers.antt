@@ -4,20 +4,19 @@ use Rattle.format.specs.Decoding.{read_job, sound_of}
 use Rattle.says.proofs.Walk.{section_says}
 use Rattle.says.proofs.Walk.{count_length}
 use Rattle.loops.proofs.Forest.{order_says, order_out, roots_for, spec_loops, spec_roots_lem, tables_for, tangled_outside, tangled_order, tangled_rest, tangled_roots, tangled_spec_lem}
-use borrow.Author.Rules.{rules}
 use Rattle.loops.proofs.tangled_at.Goals as goal
 
-pub count_at-n-requires : goal.count_at-n-requires
-count_at-n-requires c = omega (arith, sound_of _ c.requires.0)
+pub invariant_of-spec : goal.invariant_of-spec
+invariant_of-spec c = record { within = omega (arith, sound_of _ c.requires.0) }
+
+pub invariant_of-orders : goal.invariant_of-orders
+invariant_of-orders c = record { within = omega (arith, sound_of _ c.requires.0) }
 
 pub spec_outside-requires : goal.spec_outside-requires
-spec_outside-requires c = (roots_for _ _ _ _ c.start-plan.ensures c.requires.2, tables_for _ _ _ _ c.start-plan.ensures c.requires.3, omega (arith, sound_of _ c.requires.0))
+spec_outside-requires c = (roots_for _ _ _ _ c.start-plan.ensures c.requires.2, tables_for _ _ _ _ c.start-plan.ensures c.requires.3)
 
 pub returns-then-spec_outside : goal.returns-then-spec_outside
 returns-then-spec_outside c = let r = read_job _ c.requires.0 c.requires.1 in tangled_outside _ _ r _ (section_says _ _ _ _ _ _ _ _ _ c.spec_outside.ensures refl c.start-plan.ensures r.spec) c.if-spec_outside.true
-
-pub orders_outside-requires : goal.orders_outside-requires
-orders_outside-requires c = omega (arith, sound_of _ c.requires.0)
 
 pub returns-then-orders_outside : goal.returns-then-orders_outside
 returns-then-orders_outside c =
@@ -25,9 +24,6 @@ returns-then-orders_outside c =
     let z = count_length _ _ _ _ _ _ c.count_at-n.ensures.0 (spec_loops _ _ _ _ c.start-plan.ensures r.spec) in
     tangled_order _ _ r _ (section_says _ _ _ _ _ _ _ _ _ c.spec_outside.ensures refl c.start-plan.ensures r.spec) _
     (order_out _ _ r _ _ _ _ c.orders_outside.ensures c.start-layout.ensures c.start-envelope.ensures z) c.if-spec_outside.false c.if-orders_outside.true
-
-pub repeats_at-requires : goal.repeats_at-requires
-repeats_at-requires c = omega (arith, sound_of _ c.requires.0)
 
 pub returns-then-repeats_at : goal.returns-then-repeats_at
 returns-then-repeats_at c =
@@ -37,11 +33,8 @@ returns-then-repeats_at c =
     (order_out _ _ r _ _ _ _ c.orders_outside.ensures c.start-layout.ensures c.start-envelope.ensures z) c.if-spec_outside.false c.if-orders_outside.false
     _ (spec_roots_lem _ _ _ _ _ _ c.repeats_at.ensures (roots_for _ _ _ _ c.start-plan.ensures c.requires.2) c.start-plan.ensures r.spec) c.if-repeats_at.true
 
-pub fill_places-requires : goal.fill_places-requires
-fill_places-requires c = omega (arith, sound_of _ c.requires.0)
-
 pub spec_tangled-requires : goal.spec_tangled-requires
-spec_tangled-requires c = (search rules, roots_for _ _ _ _ c.start-plan.ensures c.requires.2, omega (arith, sound_of _ c.requires.0))
+spec_tangled-requires c = roots_for _ _ _ _ c.start-plan.ensures c.requires.2
 
 pub returns-then-spec_tangled : goal.returns-then-spec_tangled
 returns-then-spec_tangled c =
@@ -50,9 +43,6 @@ returns-then-spec_tangled c =
     tangled_spec_lem _ _ r _ (section_says _ _ _ _ _ _ _ _ _ c.spec_outside.ensures refl c.start-plan.ensures r.spec) _
     (order_out _ _ r _ _ _ _ c.orders_outside.ensures c.start-layout.ensures c.start-envelope.ensures z) c.if-spec_outside.false c.if-orders_outside.false
     _ (section_says _ _ _ _ _ _ _ _ _ c.spec_tangled.ensures refl c.start-plan.ensures r.spec) c.if-spec_tangled.true
-
-pub misorders-requires : goal.misorders-requires
-misorders-requires c = (search rules, omega (arith, sound_of _ c.requires.0), omega (arith, sound_of _ c.requires.0))
 
 pub returns : goal.returns
 returns c =

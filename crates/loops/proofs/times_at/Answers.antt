@@ -1,15 +1,18 @@
-use Rattle.loops.proofs.Tangle.{times_start, times_again, times_done}
+use Rattle.std.specs.Prelude.{◌-◌, ◌+◌, ◌≡◌}
 use native.Mathlib.Omega.{arith}
+use Rattle.loops.proofs.Tangle.{times_start, times_again, times_done}
 use Rattle.loops.proofs.times_at.Goals as goal
 
-pub loop-left-init : goal.loop-left-init
-loop-left-init c = (omega (arith, c.count_at-left.ensures.1), times_start _ _ _ _ _ _ c.count_at-left.ensures.0 c.le_at-p.ensures)
+pub loop-i-init : goal.loop-i-init
+loop-i-init c = let z : c.count_at-n.result - 0 ≡ c.count_at-n.result = omega arith in (omega arith, rw z (times_start _ _ _ _ _ _ c.count_at-n.ensures.0 c.le_at-p.ensures))
 
 pub overflow_add-t : goal.overflow_add-t
-overflow_add-t c = omega (arith, c.loop-left.invariant.0, c.hit_at-t.ensures.1)
+overflow_add-t c = omega (arith, c.loop-i.invariant.0, c.hit_at-t.ensures.1, c.count_at-n.ensures.1)
 
-pub loop-left-preserved : goal.loop-left-preserved
-loop-left-preserved c = (omega (arith, c.loop-left.invariant.0, c.loop-left-test.true, c.hit_at-t.ensures.1), times_again _ _ _ _ _ _ _ _ _ c.loop-left.invariant.1 c.loop-left-test.true c.le_at-p-in-loop-left.ensures c.hit_at-t.ensures.0)
+pub loop-i-preserved : goal.loop-i-preserved
+loop-i-preserved c =
+    let z : c.count_at-n.result - (c.loop-i._i + 1) ≡ c.count_at-n.result - c.loop-i._i - 1 = omega arith in
+    (omega (arith, c.loop-i.invariant.0, c.hit_at-t.ensures.1), rw z (times_again _ _ _ _ _ _ _ _ _ c.loop-i.invariant.1 (omega arith) c.le_at-p-in-loop-i.ensures c.hit_at-t.ensures.0))
 
 pub returns : goal.returns
-returns c = times_done _ _ _ _ _ _ _ c.loop-left.invariant.1 c.loop-left-test.false
+returns c = times_done _ _ _ _ _ _ _ c.loop-i.invariant.1 (omega arith)

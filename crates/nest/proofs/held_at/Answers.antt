@@ -1,9 +1,10 @@
-use mathlib.Core.Path.{sym}
-use Rattle.nest.proofs.FoundLaws.{held_yes, held_no}
+use mathlib.Core.Path.{sym, ap}
+use Prim.Native.Nat.{◌+◌}
+use lib.Dec.{eqb}
+use Rattle.nest.specs.Found.{held_at}
+use Rattle.nest.proofs.FoundLaws.{nest_first}
 use Rattle.nest.proofs.held_at.Goals as goal
 
-pub returns-then-nest-i : goal.returns-then-nest-i
-returns-then-nest-i c = sym (held_yes _ _ _ _ c.if-nest-i.true)
-
 pub returns : goal.returns
-returns c = sym (held_no _ _ _ _ c.if-nest-i.false)
+unfolding held_at
+returns c = ap (λ n. eqb n (c.args.p.0 + 1)) (sym (nest_first c.args.nest.now c.args.base c.args.k))

@@ -1,12 +1,9 @@
 use mathlib.Core.Path.{sym, ◌∙◌}
-use Rattle.nest.proofs.FoundLaws.{hooked_yes, hooked_elsewhere, hooked_no}
+use Rattle.nest.proofs.FoundLaws.{hooked_there, hooked_no}
 use Rattle.nest.proofs.hooked_at.Goals as goal
 
-pub returns-then-nest-i : goal.returns-then-nest-i
-returns-then-nest-i c = sym (hooked_yes _ _ _ _ _ (sym c.held_at-held.ensures ∙ c.if-held.true) c.if-nest-i.true)
+pub returns-then-held_at : goal.returns-then-held_at
+returns-then-held_at c = hooked_there _ _ _ _ _ (sym c.held_at.ensures ∙ c.if-held_at.true)
 
-pub returns-then-held : goal.returns-then-held
-returns-then-held c = sym (hooked_elsewhere _ _ _ _ _ (sym c.held_at-held.ensures ∙ c.if-held.true) c.if-nest-i.false)
-
-pub returns : goal.returns
-returns c = sym (hooked_no _ _ _ _ _ (sym c.held_at-held.ensures ∙ c.if-held.false))
+pub returns-else-held_at : goal.returns-else-held_at
+returns-else-held_at c = c.if-held_at.false ∙ sym (hooked_no _ _ _ _ _ (sym c.held_at.ensures ∙ c.if-held_at.false))

@@ -4,7 +4,7 @@ use borrow.Author.Rules.{rules}
 use Rattle.places.proofs.segments_fit.Goals as goal
 
 pub plans_wrong-requires : goal.plans_wrong-requires
-plans_wrong-requires c = (search rules, search rules, omega (arith, c.requires.passed.sound))
+plans_wrong-requires c = (search rules, search rules)
 
 pub returns : goal.returns
 returns c = segments_decided _ c.requires.passed _ _ _ c.start-plan.ensures c.start-layout.ensures c.plans_wrong.ensures

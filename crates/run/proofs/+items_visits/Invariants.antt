@@ -15,18 +15,15 @@ decreases-visits l = l.height * 2
 
 abbrev pub invariant-items-loop-k : goal.invariant-items-loop-k
 invariant-items-loop-k l = record {
-  in_order : l.k ≤ l.order.count;
+  in_order : l.k ≤ l.k-end;
   along : ItemsTo (job_of l.job) l.height l.l.0 (context_by l.c) l.k l.initial.t l.t l.written l.n l.initial.doc l.doc l.initial.segments l.segments l.initial.findings l.findings l.initial.stops l.stops;
 }
 
-abbrev pub decreases-items-loop-k : goal.decreases-items-loop-k
-decreases-items-loop-k l = l.order.count - l.k
-
-abbrev pub invariant-visits-loop-d : goal.invariant-visits-loop-d
-invariant-visits-loop-d l = record {
+abbrev pub invariant-visits-loop-next : goal.invariant-visits-loop-next
+invariant-visits-loop-next l = record {
   along : VisitsTo (job_of l.job) l.height l.l.0 (coming (outline_at l.job) l.nest l.initial.cur) (coming (outline_at l.job) l.nest l.cur) l.initial.t l.t l.written l.n l.initial.doc l.doc l.initial.segments l.segments l.initial.findings l.findings l.initial.stops l.stops;
   going : Going (outline_at l.job) l.nest l.cur;
 }
 
-abbrev pub decreases-visits-loop-d : goal.decreases-visits-loop-d
-decreases-visits-loop-d l = length (coming (outline_at l.job) l.nest l.cur)
+abbrev pub decreases-visits-loop-next : goal.decreases-visits-loop-next
+decreases-visits-loop-next l = length (coming (outline_at l.job) l.nest l.cur)

@@ -8,6 +8,3 @@ invariant-loop-k l = record {
   in_roots : l.k ≤ l.count;
   far : RootsTo (job_of l.job) l.height l.k l.initial.t l.t l.initial.doc l.doc l.initial.segments l.segments l.initial.findings l.findings l.initial.stops l.stops;
 }
-
-abbrev pub decreases-loop-k : goal.decreases-loop-k
-decreases-loop-k l = l.count - l.k

@@ -10,4 +10,4 @@ pub returns : goal.returns
 returns c =
     let a = c.args in
     let h : length a.doc.now ≤ cap = omega (arith, (goal.at.returns c).Start) in
-    stored_closing a.s a.pen a.last h c.less-left.ensures c.put_run-a.ensures c.put_ending.ensures
+    stored_closing a.s a.pen a.last h c.saturating_sub-left.ensures c.put_run-a.ensures c.put_ending.ensures

@@ -10,5 +10,5 @@ pub returns : goal.returns
 returns c =
     let a = c.args in
     let h : length a.doc.now ≤ cap = omega (arith, (goal.at.returns c).Start) in
-    penned_reach a.s a.pen a.p a.c c.components_in-stand.ensures c.less-behind.ensures c.less-m.ensures c.less-n.ensures h
+    penned_reach a.s a.pen a.p a.c c.components_in-stand.ensures c.saturating_sub-behind.ensures c.saturating_sub-m.ensures c.saturating_sub-n.ensures h
     c.put_run-a.ensures c.put_run-b.ensures

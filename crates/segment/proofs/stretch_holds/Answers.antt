@@ -3,37 +3,26 @@ use mathlib.Core.Path.{sym, ◌∙◌, refl}
 use native.Mathlib.Omega.{arith}
 use lib.ListN.{length}
 use Rattle.lent.specs.Fit.{stretch}
-use Rattle.lent.proofs.Laws.{length_stretch}
 use Rattle.segment.specs.Pen.{one_of}
 use Rattle.segment.proofs.Texts.{any_turn, any_past}
-use borrow.Author.Rules.{rules}
 use Rattle.segment.proofs.stretch_holds.Goals as goal
 
 pub loop-i-init : goal.loop-i-init
-loop-i-init c =
-    (search rules, refl)
-
-pub overflow_add-start : goal.overflow_add-start
-overflow_add-start c =
-    let a = c.args in omega (arith, c.stretch_len-n.ensures, length_stretch a.source.now a.start a.len)
-
-pub bounds-source-start : goal.bounds-source-start
-bounds-source-start c =
-    let a = c.args in omega (arith, c.stretch_len-n.ensures, length_stretch a.source.now a.start a.len)
+loop-i-init c = refl
 
 pub returns-then-one_of : goal.returns-then-one_of
 returns-then-one_of c =
     let a = c.args in
     let h : c.loop-i.i < length (stretch a.source.now a.start a.len) = omega (arith, c.stretch_len-n.ensures) in
-    sym (c.loop-i.invariant.1 ∙ any_turn (one_of a.a a.b a.c a.d) a.source.now a.start a.len c.loop-i.i h ∙ rw (sym c.one_of.ensures ∙ c.if-one_of.true))
+    sym (c.loop-i.invariant ∙ any_turn (one_of a.a a.b a.c a.d) a.source.now a.start a.len c.loop-i.i h ∙ rw (sym c.one_of.ensures ∙ c.if-one_of.true))
 
 pub loop-i-preserved : goal.loop-i-preserved
 loop-i-preserved c =
     let a = c.args in
     let h : c.loop-i.i < length (stretch a.source.now a.start a.len) = omega (arith, c.stretch_len-n.ensures) in
-    (search rules, c.loop-i.invariant.1 ∙ any_turn (one_of a.a a.b a.c a.d) a.source.now a.start a.len c.loop-i.i h ∙ rw (sym c.one_of.ensures ∙ c.if-one_of.false))
+    c.loop-i.invariant ∙ any_turn (one_of a.a a.b a.c a.d) a.source.now a.start a.len c.loop-i.i h ∙ rw (sym c.one_of.ensures ∙ c.if-one_of.false)
 
 pub returns : goal.returns
 returns c =
     let a = c.args in
-    sym (c.loop-i.invariant.1 ∙ any_past (one_of a.a a.b a.c a.d) (stretch a.source.now a.start a.len) c.loop-i.i (omega (arith, c.stretch_len-n.ensures)))
+    sym (c.loop-i.invariant ∙ any_past (one_of a.a a.b a.c a.d) (stretch a.source.now a.start a.len) c.loop-i.i (omega (arith, c.stretch_len-n.ensures)))

@@ -1,4 +1,3 @@
-use Prim.Native.Nat.{◌≤◌, ◌-◌}
 use mathlib.Core.Path.{◌≡◌}
 use lib.ListN.{drop}
 use Rattle.lent.specs.Fit.{stretch}
@@ -6,7 +5,4 @@ use Rattle.segment.specs.Pen.{holds_any, one_of}
 use Rattle.segment.proofs.stretch_holds.Given as goal
 
 abbrev pub invariant-loop-i : goal.invariant-loop-i
-invariant-loop-i l = (l.i ≤ l.n) × (holds_any (one_of l.a l.b l.c l.d) (stretch l.source l.start l.len) ≡ holds_any (one_of l.a l.b l.c l.d) (drop l.i (stretch l.source l.start l.len)))
-
-abbrev pub decreases-loop-i : goal.decreases-loop-i
-decreases-loop-i l = l.n - l.i
+invariant-loop-i l = holds_any (one_of l.a l.b l.c l.d) (stretch l.source l.start l.len) ≡ holds_any (one_of l.a l.b l.c l.d) (drop l.i (stretch l.source l.start l.len))

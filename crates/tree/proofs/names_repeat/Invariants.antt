@@ -1,11 +1,6 @@
-use Prim.Native.Nat.{◌-◌}
-use mathlib.Core.Path.{◌≡◌}
-use lib.ListN.{drop, take}
+use Rattle.std.specs.Prelude.{◌≡◌, drop, take}
 use Rattle.format.specs.Words.{repeats}
 use Rattle.tree.proofs.names_repeat.Given as goal
 
 abbrev pub invariant-loop-i : goal.invariant-loop-i
 invariant-loop-i l = repeats (take l.n l.names) ≡ repeats (drop l.i (take l.n l.names))
-
-abbrev pub decreases-loop-i : goal.decreases-loop-i
-decreases-loop-i l = l.n - l.i

@@ -8,16 +8,16 @@ use mathlib.Core.Path.{refl}
 use Rattle.column.proofs.get.short_cell.Goals as goal
 
 pub returns-then-n-row : goal.returns-then-n-row
-returns-then-n-row c = let a = c.requires in get_set _ _ _ _ _ _ a.4 a.3 (ends_plain _ _ _ _ _ a.2 refl) _ c.bit_at-bit.ensures c.in-Set.is _ (short_reader _ _ _ _ _ a.2 (λ h. λ e xs is. reads_none _ (held_past Cell.date32 4 _ _ _ _ a.4 c.if-n-row.true e xs is)) (λ h. λ e xs is. reads_none _ (held_past Cell.time32 4 _ _ _ _ a.4 c.if-n-row.true e xs is)))
+returns-then-n-row c = let a = c.requires in get_set _ _ _ _ _ _ a.4 a.3 (ends_plain _ _ _ _ _ a.2 refl) _ c.bit_at-bit.ensures (rw c.in-Some-true.field-0-test at c.in-Some-true.is) _ (short_reader _ _ _ _ _ a.2 (λ h. λ e xs is. reads_none _ (held_past Cell.date32 4 _ _ _ _ a.4 c.if-n-row.true e xs is)) (λ h. λ e xs is. reads_none _ (held_past Cell.time32 4 _ _ _ _ a.4 c.if-n-row.true e xs is)))
 
 pub returns-then-kind-eq3 : goal.returns-then-kind-eq3
-returns-then-kind-eq3 c = let a = c.requires in get_set _ _ _ _ _ _ a.4 a.3 (ends_plain _ _ _ _ _ a.2 refl) _ c.bit_at-bit.ensures c.in-Set.is _ (short_reader _ _ _ _ _ a.2 (λ h. λ e xs is. reads_days _ _ (held_is Cell.date32 4 _ _ _ _ a.4 c.if-n-row.false _ c.num-x.ensures.0 e xs is)) (λ h. absurd (omega (arith, c.if-kind-eq3.true))))
+returns-then-kind-eq3 c = let a = c.requires in get_set _ _ _ _ _ _ a.4 a.3 (ends_plain _ _ _ _ _ a.2 refl) _ c.bit_at-bit.ensures (rw c.in-Some-true.field-0-test at c.in-Some-true.is) _ (short_reader _ _ _ _ _ a.2 (λ h. λ e xs is. reads_days _ _ (held_is Cell.date32 4 _ _ _ _ a.4 c.if-n-row.false _ c.num-x.ensures.0 e xs is)) (λ h. absurd (omega (arith, c.if-kind-eq3.true))))
 
-pub returns-in-Missing : goal.returns-in-Missing
-returns-in-Missing c = let a = c.requires in get_missing _ _ _ _ _ _ a.4 a.3 (ends_plain _ _ _ _ _ a.2 refl) _ c.bit_at-bit.ensures c.in-Missing.is
+pub returns-in-None : goal.returns-in-None
+returns-in-None c = let a = c.requires in get_missing _ _ _ _ _ _ a.4 a.3 (ends_plain _ _ _ _ _ a.2 refl) _ c.bit_at-bit.ensures c.in-None.is
 
-pub returns-in-Unset : goal.returns-in-Unset
-returns-in-Unset c = let a = c.requires in get_unset _ _ _ _ _ _ a.4 a.3 (ends_plain _ _ _ _ _ a.2 refl) _ c.bit_at-bit.ensures c.in-Unset.is
+pub returns-in-Some-false : goal.returns-in-Some-false
+returns-in-Some-false c = let a = c.requires in get_unset _ _ _ _ _ _ a.4 a.3 (ends_plain _ _ _ _ _ a.2 refl) _ c.bit_at-bit.ensures (rw c.in-Some-false.field-0-test at c.in-Some-false.is)
 
 pub returns-else-kind-eq3 : goal.returns-else-kind-eq3
-returns-else-kind-eq3 c = let a = c.requires in get_set _ _ _ _ _ _ a.4 a.3 (ends_plain _ _ _ _ _ a.2 refl) _ c.bit_at-bit.ensures c.in-Set.is _ (short_reader _ _ _ _ _ a.2 (λ h. absurd (c.if-kind-eq3.false h)) (λ h. λ e xs is. reads_seconds _ _ (held_is Cell.time32 4 _ _ _ _ a.4 c.if-n-row.false _ c.num-x.ensures.0 e xs is)))
+returns-else-kind-eq3 c = let a = c.requires in get_set _ _ _ _ _ _ a.4 a.3 (ends_plain _ _ _ _ _ a.2 refl) _ c.bit_at-bit.ensures (rw c.in-Some-true.field-0-test at c.in-Some-true.is) _ (short_reader _ _ _ _ _ a.2 (λ h. absurd (c.if-kind-eq3.false h)) (λ h. λ e xs is. reads_seconds _ _ (held_is Cell.time32 4 _ _ _ _ a.4 c.if-n-row.false _ c.num-x.ensures.0 e xs is)))

@@ -1,4 +1,4 @@
 use Rattle.emit.proofs.cells.max_by.Goals as goal
 
-pub returns-in-Is : goal.returns-in-Is
-returns-in-Is c = rw c.in-Is.is
+pub returns-in-Some : goal.returns-in-Some
+returns-in-Some c = rw c.in-Some.is

@@ -1,5 +1,5 @@
-use mathlib.Core.Path.{◌∙◌}
+use Rattle.emit.proofs.TextLaws.{writes_own}
 use Rattle.emit.proofs.cells.of_said.Goals as goal
 
 pub returns : goal.returns
-returns c = λ job o s. c.of_text.ensures job o s.text (c.reason_of.ensures ∙ s.reason)
+returns c = λ job o s. writes_own c.args.said o (rw c.text_in-text.ensures at (c.own.ensures job)) c.err.ensures.value s

@@ -1,4 +1,4 @@
-use Prim.Native.Nat.{◌≤◌, ◌-◌}
+use Prim.Native.Nat.{◌-◌}
 use mathlib.Core.Path.{◌≡◌}
 use mathlib.Core.List.{[]}
 use lib.ListN.{get_or}
@@ -6,7 +6,4 @@ use Rattle.emit.specs.Table.{table, searched}
 use Rattle.emit.proofs.envelope.search.Given as goal
 
 abbrev pub invariant-loop-i : goal.invariant-loop-i
-invariant-loop-i l = (l.i ≤ 9) × (searched (get_or table l.depth []) 9 0 l.position ≡ searched (get_or table l.depth []) (9 - l.i) l.i l.position)
-
-abbrev pub decreases-loop-i : goal.decreases-loop-i
-decreases-loop-i l = 9 - l.i
+invariant-loop-i l = searched (get_or table l.depth []) 9 0 l.position ≡ searched (get_or table l.depth []) (9 - l.i) l.i l.position

@@ -1,19 +1,16 @@
-use Rattle.std.proofs.Common.{rules, sym, ◌∙◌}
+use Rattle.std.proofs.Common.{rules, sym, ap, ◌∙◌}
 use Rattle.format.specs.Passed.{passed}
+use Rattle.refusal.specs.Answer.{number_of}
 use Rattle.exports.proofs.Laws.{nested, refused}
 use Rattle.exports.proofs.nesting.baktuven_nest.Goals as goal
 
+-- the job is refused: the list is as it was
+pub returns-in-Err-clause-nest_after : goal.returns-in-Err-clause-nest_after
+returns-in-Err-clause-nest_after c = refused _ _ _ (sym (ap number_of c.in-Err.is) ∙ c.check.ensures)
+
 pub fill_index-requires : goal.fill_index-requires
-fill_index-requires c = (passed _ (sym (c.numbered-refused.ensures ∙ c.check.ensures) ∙ c.if-refused-eq0.true), search rules)
+fill_index-requires c = (passed _ (sym c.check.ensures ∙ ap number_of c.in_default.is), search rules)
 
 -- the job is not refused: the list holds where its rows hang
-pub returns-then-refused-eq0 : goal.returns-then-refused-eq0
-returns-then-refused-eq0 c =
-    let q = sym (c.numbered-refused.ensures ∙ c.check.ensures) ∙ c.if-refused-eq0.true in
-    record { value = sym q; nest_after = nested _ _ _ q c.nested.ensures }
-
--- the job is refused: the list is as it was
-pub returns : goal.returns
-returns c =
-    let q = c.numbered-refused.ensures ∙ c.check.ensures in
-    record { value = q; nest_after = refused _ _ _ q c.if-refused-eq0.false }
+pub returns-clause-nest_after : goal.returns-clause-nest_after
+returns-clause-nest_after c = nested _ _ _ (sym c.check.ensures ∙ ap number_of c.in_default.is) c.nested.ensures

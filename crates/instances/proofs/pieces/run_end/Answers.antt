@@ -1,20 +1,20 @@
 use Rattle.instances.proofs.Runs.{running, run_inside, run_on, run_less, run_cut, run_over}
 use Rattle.instances.proofs.pieces.run_end.Goals as goal
 
-pub loop-row-init : goal.loop-row-init
-loop-row-init c = running _ _ _ _ c.requires.1
+pub loop-a-init : goal.loop-a-init
+loop-a-init c = running _ _ _ _ c.requires.1
 
-pub next_row-a-requires : goal.next_row-a-requires
-next_row-a-requires c = run_inside _ _ _ _ _ _ c.loop-row.invariant _ c.moved-at.ensures
+pub next_row-requires : goal.next_row-requires
+next_row-requires c = run_inside _ _ _ _ _ _ c.loop-a.invariant _ c.moved.ensures
 
-pub loop-row-smaller : goal.loop-row-smaller
-loop-row-smaller c = run_less _ _ _ _ _ _ c.loop-row.invariant _ c.moved-at.ensures _ c.next_row-a.ensures c.if-more.true
+pub loop-a-smaller : goal.loop-a-smaller
+loop-a-smaller c = run_less _ _ _ _ _ _ c.loop-a.invariant _ c.moved.ensures _ c.next_row.ensures _ c.in-Some.is
 
-pub loop-row-preserved : goal.loop-row-preserved
-loop-row-preserved c = run_on _ _ _ _ _ _ c.loop-row.invariant _ c.moved-at.ensures _ c.next_row-a.ensures _ c.if-more.true c.same_group-same.ensures c.if-same.true
+pub loop-a-preserved : goal.loop-a-preserved
+loop-a-preserved c = run_on _ _ _ _ _ _ c.loop-a.invariant _ c.moved.ensures _ c.next_row.ensures _ c.in-Some.is _ c.same_group-same.ensures c.if-not-same.false
 
-pub returns-else-same : goal.returns-else-same
-returns-else-same c = run_cut _ _ _ _ _ _ c.loop-row.invariant _ c.moved-at.ensures _ c.next_row-a.ensures _ c.if-more.true c.same_group-same.ensures c.if-same.false
+pub returns-then-not-same : goal.returns-then-not-same
+returns-then-not-same c = run_cut _ _ _ _ _ _ c.loop-a.invariant _ c.moved.ensures _ c.next_row.ensures _ c.in-Some.is _ c.same_group-same.ensures c.if-not-same.true
 
-pub returns-else-more : goal.returns-else-more
-returns-else-more c = run_over _ _ _ _ _ _ c.loop-row.invariant _ c.moved-at.ensures _ c.next_row-a.ensures _ c.if-more.false
+pub returns : goal.returns
+returns c = run_over _ _ _ _ _ _ c.loop-a.invariant _ c.moved.ensures _ c.next_row.ensures c.in_default.is

@@ -1,13 +1,9 @@
 use Rattle.nest.proofs.Reports.{Reported}
 use Rattle.nest.specs.OfJob.{outline_of}
 use Rattle.nest.specs.NestFindings.{duplicates}
-use Prim.Native.Nat.{◌-◌, ◌≤◌}
 use lib.ListN.{length}
 use Rattle.format.specs.Sections.{job_of}
 use Rattle.nest.proofs.duplicates.all_duplicates.Given as goal
 
 abbrev pub invariant-loop-t : goal.invariant-loop-t
-invariant-loop-t l = Reported (duplicates (outline_of (job_of l.job))) (length (outline_of (job_of l.job)).row_counts) l.initial.findings l.at l.findings l.next l.t × (l.t ≤ l.count)
-
-abbrev pub decreases-loop-t : goal.decreases-loop-t
-decreases-loop-t l = l.count - l.t
+invariant-loop-t l = Reported (duplicates (outline_of (job_of l.job))) (length (outline_of (job_of l.job)).row_counts) l.initial.findings l.at l.findings l.next l.t

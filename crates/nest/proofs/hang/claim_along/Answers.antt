@@ -6,19 +6,13 @@ use mathlib.Core.Path.{refl}
 use Rattle.nest.proofs.hang.claim_along.Goals as goal
 
 pub loop-k-init : goal.loop-k-init
-loop-k-init c = (tried_none _ _ _ _ refl, omega arith)
+loop-k-init c = tried_none _ _ _ _ refl
 
-pub offset_bounds-line-i : goal.offset_bounds-line-i
-offset_bounds-line-i c = omega (arith, c.requires.1.few c.requires.2)
-
-pub bounds-line-i : goal.bounds-line-i
-bounds-line-i c = omega (arith, c.requires.1.few c.requires.2)
-
-pub returns-in-Number : goal.returns-in-Number
-returns-in-Number c = tried_here _ _ _ _ _ c.loop-k.invariant.0 _ _ _ _ (c.requires.1.next c.requires.2 _ c.loop-k-test.true) (refers _ _ _ _ _ c.reference-value.ensures _ c.in-Number.is)
+pub returns-in-Some : goal.returns-in-Some
+returns-in-Some c = tried_here _ _ _ _ _ c.loop-k.invariant _ _ _ _ (c.requires.1.next _ c.loop-k-test.true) (refers _ _ _ _ _ c.reference.ensures _ c.in-Some.is)
 
 pub loop-k-preserved : goal.loop-k-preserved
-loop-k-preserved c = (tried_next _ _ _ _ _ c.loop-k.invariant.0 _ _ _ (c.requires.1.next c.requires.2 _ c.loop-k-test.true) (refers_not _ _ _ _ _ c.reference-value.ensures c.in-NoNumber.is), omega arith)
+loop-k-preserved c = tried_next _ _ _ _ _ c.loop-k.invariant _ _ _ (c.requires.1.next _ c.loop-k-test.true) (refers_not _ _ _ _ _ c.reference.ensures c.in-None.is)
 
 pub returns : goal.returns
-returns c = tried_end _ _ _ _ _ c.loop-k.invariant.0 (lined_end _ _ _ _ c.requires.1 c.requires.2 c.loop-k.invariant.1 c.loop-k-test.false)
+returns c = tried_end _ _ _ _ _ c.loop-k.invariant (lined_end _ _ _ _ c.requires.1 (omega arith) c.loop-k-test.false)

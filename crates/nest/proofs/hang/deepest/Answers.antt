@@ -12,7 +12,7 @@ depth_at-requires c = loop_small _ c.requires.0.passed _ _ _ _ c.table_loop_coun
 pub loop-i-preserved : goal.loop-i-preserved
 loop-i-preserved c =
     let small = loop_small _ c.requires.0.passed _ _ _ _ c.table_loop_count-n.ensures c.loop-i-test.true c.table_loop-l.ensures in
-    (within_next _ _ _ _ _ _ _ c.loop-i.invariant.0 c.table_loop-l.ensures (c.depth_at.ensures ∙ c.requires.1.of _ small) (omega (arith, c.greater-d.ensures)) (omega (arith, c.greater-d.ensures)), omega arith)
+    (within_next _ _ _ _ _ _ _ c.loop-i.invariant.0 c.table_loop-l.ensures (c.depth_at.ensures.value ∙ c.requires.1.of _ small) (omega (arith, c.max-d.ensures)) (omega (arith, c.max-d.ensures)), omega (arith, c.depth_at.ensures.small, c.max-d.ensures))
 
 pub returns : goal.returns
-returns c = within_all _ _ _ _ _ c.loop-i.invariant.0 c.table_loop_count-n.ensures c.loop-i-test.false
+returns c = record { of = within_all _ _ _ _ _ c.loop-i.invariant.0 c.table_loop_count-n.ensures c.loop-i-test.false; small = c.loop-i.invariant.1 }

@@ -1,11 +1,8 @@
 use Rattle.nest.specs.Keys.{Within}
+use Prim.Native.Nat.{◌<◌}
 use Rattle.nest.specs.OfJob.{outline_of}
 use Rattle.format.specs.Sections.{job_of}
-use Prim.Native.Nat.{◌-◌, ◌≤◌}
 use Rattle.nest.proofs.hang.deepest.Given as goal
 
 abbrev pub invariant-loop-i : goal.invariant-loop-i
-invariant-loop-i l = Within (outline_of (job_of l.job)) l.t.0 l.i l.d × (l.i ≤ l.n)
-
-abbrev pub decreases-loop-i : goal.decreases-loop-i
-decreases-loop-i l = l.n - l.i
+invariant-loop-i l = Within (outline_of (job_of l.job)) l.t.0 l.i l.d × (l.d < 256)

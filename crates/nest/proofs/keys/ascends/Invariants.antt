@@ -1,11 +1,7 @@
 use Rattle.nest.proofs.Rising.{Climbing}
 use Rattle.nest.specs.OfJob.{outline_of}
-use Prim.Native.Nat.{◌-◌}
 use Rattle.format.specs.Sections.{job_of}
 use Rattle.nest.proofs.keys.ascends.Given as goal
 
 abbrev pub invariant-loop-k : goal.invariant-loop-k
 invariant-loop-k l = Climbing (outline_of (job_of l.job)) l.u.0 l.k l.last
-
-abbrev pub decreases-loop-k : goal.decreases-loop-k
-decreases-loop-k l = l.n - l.k

@@ -1,16 +1,17 @@
-use Rattle.nest.proofs.Ways.{row_here, row_not, row_nowhere}
-use native.Mathlib.Omega.{arith}
-use mathlib.Core.Path.{refl}
+use mathlib.Core.Path.{◌≡◌, sym, ap, ◌∙◌}
+use borrow.Author.Rules.{rules}
+use lib.Dec.{eqb}
+use Rattle.format.specs.Ask as A
+use Rattle.format.specs.Sections.{job_of}
+use Rattle.column.specs.Cell.{key_of}
+use Rattle.nest.specs.Lists.{keep, first, up_to}
+use Rattle.nest.specs.Found.{found_by}
+use Rattle.nest.specs.Ready.{outline_at}
+use Rattle.nest.proofs.Bridge.{rows_is, key_is}
 use Rattle.nest.proofs.keys.first_with.Goals as goal
 
-pub loop-k-init : goal.loop-k-init
-loop-k-init c = (refl, omega arith)
-
-pub returns-then-key-v : goal.returns-then-key-v
-returns-then-key-v c = row_here _ _ _ _ _ _ c.row_count-n.ensures c.loop-k-test.true c.key-key.ensures c.loop-k.invariant.0 c.if-key-v.true
-
-pub loop-k-preserved : goal.loop-k-preserved
-loop-k-preserved c = (row_not _ _ _ _ _ _ c.row_count-n.ensures c.loop-k-test.true c.key-key.ensures c.loop-k.invariant.0 c.if-key-v.false, omega arith)
-
 pub returns : goal.returns
-returns c = row_nowhere _ _ _ _ _ c.row_count-n.ensures c.loop-k-test.false c.loop-k.invariant.0
+returns c =
+    c.first_row_where.ensures (λ p. eqb ((outline_at c.args.job.now).key c.args.u.0 p) c.args.v)
+    (λ k r h q. let e : r ≡ eqb (key_of (A.data_of (job_of c.args.job.now) c.args.u.0) k) c.args.v = search rules in e ∙ ap (λ m. eqb m c.args.v) (sym (key_is (job_of c.args.job.now) c.args.u.0 k)))
+    ∙ ap (λ n. found_by (first (keep (λ p. eqb ((outline_at c.args.job.now).key c.args.u.0 p) c.args.v) (up_to 0 n)))) (c.row_count-n.ensures ∙ sym (rows_is (job_of c.args.job.now) c.args.u.0))

@@ -1,16 +1,15 @@
 use Rattle.nest.proofs.Ways.{names_yes, names_no, names_end}
-use native.Mathlib.Omega.{arith}
 use mathlib.Core.Path.{refl}
 use Rattle.nest.proofs.keys.names.Goals as goal
 
 pub loop-k-init : goal.loop-k-init
-loop-k-init c = (refl, omega arith)
+loop-k-init c = refl
 
-pub returns-then-a-u : goal.returns-then-a-u
-returns-then-a-u c = names_yes _ _ _ _ _ _ c.ancestor_count-n.ensures c.ancestor-a.ensures c.loop-k-test.true c.loop-k.invariant.0 c.if-a-u.true
+pub returns-then-ancestor-u : goal.returns-then-ancestor-u
+returns-then-ancestor-u c = names_yes _ _ _ _ _ _ c.ancestor_count-n.ensures c.ancestor.ensures c.loop-k-test.true c.loop-k.invariant c.if-ancestor-u.true
 
 pub loop-k-preserved : goal.loop-k-preserved
-loop-k-preserved c = (names_no _ _ _ _ _ _ c.ancestor_count-n.ensures c.ancestor-a.ensures c.loop-k-test.true c.loop-k.invariant.0 c.if-a-u.false, omega arith)
+loop-k-preserved c = names_no _ _ _ _ _ _ c.ancestor_count-n.ensures c.ancestor.ensures c.loop-k-test.true c.loop-k.invariant c.if-ancestor-u.false
 
 pub returns : goal.returns
-returns c = names_end _ _ _ _ _ c.ancestor_count-n.ensures c.loop-k-test.false c.loop-k.invariant.0
+returns c = names_end _ _ _ _ _ c.ancestor_count-n.ensures c.loop-k-test.false c.loop-k.invariant

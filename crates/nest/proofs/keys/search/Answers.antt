@@ -1,24 +1,27 @@
-use Rattle.nest.proofs.Rising.{between_all, between_low, between_high, between_here, between_none}
+use mathlib.Core.Path.{◌≡◌, sym, ap, ◌∙◌}
 use native.Mathlib.Omega.{arith}
+use borrow.Author.Rules.{rules}
+use lib.Dec.{ltb}
+use Rattle.format.specs.Ask as A
+use Rattle.format.specs.Sections.{job_of}
+use Rattle.column.specs.Cell.{key_of}
+use Rattle.nest.specs.Seek.{SplitAt}
+use Rattle.nest.proofs.Bridge.{key_is}
+use Rattle.nest.proofs.Rising.{lower, lower_turns, lower_none, key_here}
 use Rattle.nest.proofs.keys.search.Goals as goal
+use Rattle.nest.proofs.keys.search.Goals.{After-halve-at}
 
-pub loop-low-init : goal.loop-low-init
-loop-low-init c = (between_all _ _ _ _ c.row_count-high.ensures, omega arith)
+split : (c : After-halve-at) → SplitAt (lower (job_of c.args.job.now) c.args.u.0 c.args.v c.requires.1) 0 c.row_count-n.result c.halve-at.result
+split c =
+    c.halve-at.ensures (lower (job_of c.args.job.now) c.args.u.0 c.args.v c.requires.1)
+    (λ k r h q. let e : r ≡ ltb (key_of (A.data_of (job_of c.args.job.now) c.args.u.0) k) c.args.v = search rules in e ∙ ap (λ m. ltb m c.args.v) (sym (key_is (job_of c.args.job.now) c.args.u.0 k)))
+    (lower_turns _ _ _ c.requires.1 _ c.row_count-n.ensures)
 
-pub returns-then-key-v : goal.returns-then-key-v
-returns-then-key-v c = between_here _ _ _ _ _ _ _ c.requires.1 c.loop-low.invariant.0 (omega arith) c.key-key.ensures c.if-key-v.true
+pub overflow_cast-k : goal.overflow_cast-k
+overflow_cast-k c = omega (arith, (split c).within)
 
-pub loop-low-smaller-then-key-v-2 : goal.loop-low-smaller-then-key-v-2
-loop-low-smaller-then-key-v-2 c = omega arith
-
-pub loop-low-preserved-then-key-v-2 : goal.loop-low-preserved-then-key-v-2
-loop-low-preserved-then-key-v-2 c = (between_low _ _ _ _ _ _ _ c.requires.1 c.loop-low.invariant.0 (omega arith) c.key-key.ensures c.if-key-v-2.true, omega arith)
-
-pub loop-low-smaller : goal.loop-low-smaller
-loop-low-smaller c = omega arith
-
-pub loop-low-preserved : goal.loop-low-preserved
-loop-low-preserved c = (between_high _ _ _ _ _ _ _ c.requires.1 c.loop-low.invariant.0 (omega arith) c.key-key.ensures c.if-key-v.false c.if-key-v-2.false, omega arith)
+pub returns-then-is_key : goal.returns-then-is_key
+returns-then-is_key c = key_here _ _ _ _ c.requires.1 (c.is_key.ensures.there c.if-is_key.true)
 
 pub returns : goal.returns
-returns c = between_none _ _ _ _ _ c.loop-low.invariant.0 c.loop-low-test.false
+returns c = lower_none _ _ _ c.requires.1 _ _ c.row_count-n.ensures (split (goal.at.returns c).After-halve-at) (c.is_key.ensures.not_there c.if-is_key.false)

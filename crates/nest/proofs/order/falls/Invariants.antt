@@ -1,4 +1,4 @@
-use Prim.Native.Nat.{ℕ, ◌-◌, ◌≤◌}
+use Prim.Native.Nat.{ℕ, ◌≤◌}
 use mathlib.Core.Path.{◌≡◌}
 use Rattle.format.specs.Sections.{job_of}
 use Rattle.format.specs.Ask as A
@@ -10,6 +10,3 @@ use Rattle.nest.proofs.order.falls.Given as goal
 
 abbrev pub invariant-loop-k : goal.invariant-loop-k
 invariant-loop-k l = ((t : ℕ) → l.base ≡ T.rows_before (job_of l.job).tables t → l.rows ≡ (A.data_of (job_of l.job) t).rows → falls (outline_of (job_of l.job)) t ≡ falls_from (outline_of (job_of l.job)) t l.k) × (1 ≤ l.k)
-
-abbrev pub decreases-loop-k : goal.decreases-loop-k
-decreases-loop-k l = l.rows - l.k

@@ -1,4 +1,4 @@
-use Prim.Native.Nat.{◌+◌, ◌-◌, ◌≤◌}
+use Prim.Native.Nat.{◌+◌}
 use lib.ListN.{length}
 use Rattle.format.specs.Sections.{job_of}
 use Rattle.nest.specs.Found.{ArrayIs}
@@ -8,7 +8,4 @@ use Rattle.nest.proofs.Placing.{Storing}
 use Rattle.nest.proofs.order.mark_rising.Given as goal
 
 abbrev pub invariant-loop-t : goal.invariant-loop-t
-invariant-loop-t l = Storing (rising_flag (outline_of (job_of l.job))) (length (outline_of (job_of l.job)).row_counts) l.initial.nest l.flags l.nest (l.flags + l.t) l.t × ArrayIs (outline_of (job_of l.job)) l.nest × (l.t ≤ l.count)
-
-abbrev pub decreases-loop-t : goal.decreases-loop-t
-decreases-loop-t l = l.count - l.t
+invariant-loop-t l = Storing (rising_flag (outline_of (job_of l.job))) (length (outline_of (job_of l.job)).row_counts) l.initial.nest l.flags l.nest (l.flags + l.t) l.t × ArrayIs (outline_of (job_of l.job)) l.nest

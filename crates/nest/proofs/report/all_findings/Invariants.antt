@@ -2,12 +2,8 @@ use Rattle.nest.proofs.Reports.{Reported}
 use Rattle.nest.specs.OfJob.{outline_of}
 use Rattle.nest.specs.NestFindings.{table_findings}
 use lib.ListN.{length}
-use Prim.Native.Nat.{◌-◌, ◌≤◌}
 use Rattle.format.specs.Sections.{job_of}
 use Rattle.nest.proofs.report.all_findings.Given as goal
 
 abbrev pub invariant-loop-t : goal.invariant-loop-t
-invariant-loop-t l = Reported (table_findings (outline_of (job_of l.job))) (length (outline_of (job_of l.job)).tables) l.initial.findings l.at l.findings l.next l.t × (l.t ≤ l.count)
-
-abbrev pub decreases-loop-t : goal.decreases-loop-t
-decreases-loop-t l = l.count - l.t
+invariant-loop-t l = Reported (table_findings (outline_of (job_of l.job))) (length (outline_of (job_of l.job)).tables) l.initial.findings l.at l.findings l.next l.t

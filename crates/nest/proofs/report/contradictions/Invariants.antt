@@ -1,13 +1,9 @@
 use Rattle.nest.proofs.Lacking.{against}
 use Rattle.nest.proofs.Reports.{Reported}
 use lib.ListN.{length}
-use Prim.Native.Nat.{◌-◌, ◌≤◌}
 use Rattle.format.specs.Ask as A
 use Rattle.format.specs.Sections.{job_of}
 use Rattle.nest.proofs.report.contradictions.Given as goal
 
 abbrev pub invariant-loop-k : goal.invariant-loop-k
-invariant-loop-k l = Reported (against (job_of l.job) l.t.0 l.r.0 l.u.0 l.p.0) (length (A.table_of (job_of l.job) l.u.0).ancestors) l.initial.findings l.at l.findings l.next l.k × (l.k ≤ l.count)
-
-abbrev pub decreases-loop-k : goal.decreases-loop-k
-decreases-loop-k l = l.count - l.k
+invariant-loop-k l = Reported (against (job_of l.job) l.t.0 l.r.0 l.u.0 l.p.0) (length (A.table_of (job_of l.job) l.u.0).ancestors) l.initial.findings l.at l.findings l.next l.k

@@ -2,8 +2,8 @@ use Rattle.nest.proofs.Lacking.{lacks_claim, lacks_anchor, missing_some, missing
 use Rattle.nest.proofs.Reports.{stored_finding}
 use Rattle.nest.proofs.report.repeat_missing.Goals as goal
 
-pub returns-in-Is : goal.returns-in-Is
-returns-in-Is c = stored_finding _ _ _ _ _ _ _ (lacks_claim _ _ _ c.requires.2 _ c.claim-anchored.ensures _ c.in-Is.is) (missing_some _ _ _ _) c.note_words.ensures
+pub returns-in-Ok : goal.returns-in-Ok
+returns-in-Ok c = stored_finding _ _ _ _ _ _ _ (lacks_claim _ _ _ c.requires.2 _ c.claim-anchored.ensures _ c.in-Ok.is) (missing_some _ _ _ _) c.note_words.ensures
 
-pub returns-in-Nothing : goal.returns-in-Nothing
-returns-in-Nothing c = stored_finding _ _ _ _ _ _ _ (lacks_anchor _ _ _ c.requires.2 _ c.claim-anchored.ensures _ c.in-Nothing.is) (missing_none _ _ _) c.note_words-in-Nothing.ensures
+pub returns-in-Err : goal.returns-in-Err
+returns-in-Err c = stored_finding _ _ _ _ _ _ _ (lacks_anchor _ _ _ c.requires.2 _ c.claim-anchored.ensures _ c.in-Err.is) (missing_none _ _ _) c.note_words-in-Err.ensures

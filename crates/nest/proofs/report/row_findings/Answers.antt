@@ -9,8 +9,8 @@ row_above-above-requires c = omega (arith, numbers_within _ _ c.requires.1 _ _ _
 pub table_above-table-requires : goal.table_above-table-requires
 table_above-table-requires c = numbers_within _ _ c.requires.1 _ _ _ c.requires.3 c.requires.4
 
-pub returns-in-Row : goal.returns-in-Row
-returns-in-Row c = stored_as _ _ _ _ _ _ (row_placed_lem _ _ c.requires.1 _ _ _ c.requires.3 c.requires.4 _ c.row_above-above.ensures _ _ c.in-Row.is c.table_above-table.ensures) c.contradictions.ensures
+pub returns-in-Some : goal.returns-in-Some
+returns-in-Some c = stored_as _ _ _ _ _ _ (row_placed_lem _ _ c.requires.1 _ _ _ c.requires.3 c.requires.4 _ c.row_above-above.ensures _ _ c.in-Some.is c.table_above-table.ensures) c.contradictions.ensures
 
-pub returns-in-Nothing : goal.returns-in-Nothing
-returns-in-Nothing c = stored_as _ _ _ _ _ _ (row_unplaced _ _ c.requires.1 _ _ _ c.requires.3 c.requires.4 _ c.row_above-above.ensures c.in-Nothing.is) c.missing.ensures
+pub returns-in-None : goal.returns-in-None
+returns-in-None c = stored_as _ _ _ _ _ _ (row_unplaced _ _ c.requires.1 _ _ _ c.requires.3 c.requires.4 _ c.row_above-above.ensures c.in-None.is) c.missing.ensures

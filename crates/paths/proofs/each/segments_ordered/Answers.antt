@@ -1,17 +1,11 @@
-use mathlib.Core.Path.{ap}
-use mathlib.Core.Bool.{not}
+use Rattle.paths.specs.Tests.{segment_ordered}
+use Rattle.nest.specs.OfJob.{outline_of}
+use Rattle.format.specs.Sections.{job_of}
 use Rattle.paths.proofs.Answers.{planned_in_lem}
-use Rattle.paths.proofs.Tests.{down_start, down_bad, down_on, down_done}
+use mathlib.Core.Path.{ap, ◌∙◌}
+use borrow.Author.Rules.{rules}
+use Rattle.walk.specs.Check.{each_below}
 use Rattle.paths.proofs.each.segments_ordered.Goals as goal
 
-pub loop-left-init : goal.loop-left-init
-loop-left-init c = down_start _ _ _ (planned_in_lem _ _ _ c.planned_count-left.ensures)
-
-pub returns-then-not-right : goal.returns-then-not-right
-returns-then-not-right c = down_bad _ _ _ _ c.loop-left.invariant c.loop-left-test.true c.segment_ordered-right.ensures (ap not c.if-not-right.true)
-
-pub loop-left-preserved : goal.loop-left-preserved
-loop-left-preserved c = down_on _ _ _ _ c.loop-left.invariant c.loop-left-test.true c.segment_ordered-right.ensures (ap not c.if-not-right.false)
-
 pub returns : goal.returns
-returns c = down_done _ _ _ c.loop-left.invariant c.loop-left-test.false
+returns c = c.each.ensures (segment_ordered (outline_of (job_of c.args.job.now)) c.args.l.0) (λ k r h q. search rules) ∙ ap (λ m. each_below m (segment_ordered (outline_of (job_of c.args.job.now)) c.args.l.0)) (planned_in_lem _ _ _ c.planned_count.ensures)

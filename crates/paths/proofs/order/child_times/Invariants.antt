@@ -3,11 +3,7 @@ use Rattle.format.specs.Sections.{job_of}
 use Rattle.paths.proofs.Tests.{Summing}
 use Rattle.nest.specs.Lists.{once}
 use lib.Dec.{eqb}
-use Prim.Native.Nat.{◌-◌}
 use Rattle.paths.proofs.order.child_times.Given as goal
 
 abbrev pub invariant-loop-i : goal.invariant-loop-i
 invariant-loop-i l = Summing (λ y. once (eqb y l.k)) (loop_of (job_of l.job) l.l.0).children l.i l.seen
-
-abbrev pub decreases-loop-i : goal.decreases-loop-i
-decreases-loop-i l = l.n - l.i

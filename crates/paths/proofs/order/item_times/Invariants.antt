@@ -3,11 +3,7 @@ use Rattle.plan.specs.Answers.{item_of}
 use Rattle.format.specs.Ask.{order_of}
 use Rattle.format.specs.Sections.{job_of}
 use Rattle.paths.proofs.Tests.{Summing}
-use Prim.Native.Nat.{◌-◌}
 use Rattle.paths.proofs.order.item_times.Given as goal
 
 abbrev pub invariant-loop-i : goal.invariant-loop-i
 invariant-loop-i l = Summing (same_item (item_of l.x)) (order_of (job_of l.job) l.l.0) l.i l.seen
-
-abbrev pub decreases-loop-i : goal.decreases-loop-i
-decreases-loop-i l = l.n - l.i

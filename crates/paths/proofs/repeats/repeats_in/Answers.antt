@@ -1,16 +1,10 @@
-use native.Mathlib.Omega.{arith}
-use Rattle.paths.proofs.Tests.{count_on}
-use Rattle.paths.proofs.Answers.{planned_few, repeat_seen, repeats_start, repeats_done}
+use mathlib.Core.Path.{ap, ◌∙◌}
+use borrow.Author.Rules.{rules}
+use Rattle.format.specs.Sections.{job_of}
+use Rattle.nest.specs.OfJob.{outline_of}
+use Rattle.walk.specs.Check.{how_many}
+use Rattle.paths.proofs.Answers.{repeats_at, planned_in_lem, repeats_done}
 use Rattle.paths.proofs.repeats.repeats_in.Goals as goal
 
-pub loop-left-init : goal.loop-left-init
-loop-left-init c = (repeats_start _ _ _ _ c.planned_count-left.ensures, planned_few _ _ c.requires.0.plan _)
-
-pub overflow_add-seen : goal.overflow_add-seen
-overflow_add-seen c = omega (arith, c.once-more.ensures.1, c.loop-left.invariant.0.few, c.loop-left.invariant.1)
-
-pub loop-left-preserved : goal.loop-left-preserved
-loop-left-preserved c = (count_on _ _ _ _ _ c.loop-left.invariant.0 c.loop-left-test.true (repeat_seen _ _ _ _ _ _ _ c.once-more.ensures.0 c.is_repeat-mine.ensures c.source-s.ensures) c.once-more.ensures.1, c.loop-left.invariant.1)
-
 pub returns : goal.returns
-returns c = repeats_done _ _ _ _ _ c.loop-left.invariant.0 c.loop-left-test.false
+returns c = c.how_many.ensures.counted (repeats_at (outline_of (job_of c.args.job.now)) c.args.t.0 c.args.l.0) (λ k r h q. search rules) ∙ ap (λ m. how_many m (repeats_at (outline_of (job_of c.args.job.now)) c.args.t.0 c.args.l.0)) (planned_in_lem _ _ _ c.planned_count-n.ensures) ∙ repeats_done _ _ _

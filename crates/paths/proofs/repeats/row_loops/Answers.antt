@@ -1,12 +1,10 @@
-use Rattle.paths.proofs.Tests.{count_start, count_on}
-use Rattle.paths.proofs.Answers.{rows_seen, rows_done}
+use mathlib.Core.Path.{ap, ◌∙◌}
+use borrow.Author.Rules.{rules}
+use Rattle.format.specs.Sections.{job_of}
+use Rattle.nest.specs.OfJob.{outline_of}
+use Rattle.walk.specs.Check.{how_many}
+use Rattle.paths.proofs.Answers.{rows_at, rows_done}
 use Rattle.paths.proofs.repeats.row_loops.Goals as goal
 
-pub loop-left-init : goal.loop-left-init
-loop-left-init c = count_start _ _ _ c.loops-left.ensures.0
-
-pub loop-left-preserved : goal.loop-left-preserved
-loop-left-preserved c = count_on _ _ _ _ _ c.loop-left.invariant c.loop-left-test.true (rows_seen _ _ _ _ _ _ c.once-more.ensures.0 c.is_rows-mine.ensures c.kind-k.ensures) c.once-more.ensures.1
-
 pub returns : goal.returns
-returns c = rows_done _ _ _ _ c.loop-left.invariant c.loop-left-test.false
+returns c = c.how_many.ensures.counted (rows_at (outline_of (job_of c.args.job.now)) c.args.t.0) (λ k r h q. search rules) ∙ ap (λ m. how_many m (rows_at (outline_of (job_of c.args.job.now)) c.args.t.0)) (c.loops.ensures.0) ∙ rows_done _ _

@@ -4,5 +4,5 @@ use Rattle.places.proofs.triggers.loop_wrong.Goals as goal
 pub returns-in-None : goal.returns-in-None
 returns-in-None c v i = loop_free _ _ v _ c.control-c.ensures c.in-None.is
 
-pub returns-in-Is : goal.returns-in-Is
-returns-in-Is c v i = loop_ruled _ _ v _ c.control-c.ensures _ _ c.in-Is.is (c.ruled_wrong.ensures v i)
+pub returns-in-Some : goal.returns-in-Some
+returns-in-Some c v i = loop_ruled _ _ v _ c.control-c.ensures _ _ c.in-Some.is (c.ruled_wrong.ensures v i)

@@ -1,21 +1,23 @@
+use Rattle.std.specs.Prelude.{◌≡◌, ◌+◌, ◌-◌}
 use native.Mathlib.Omega.{arith}
 use Rattle.says.proofs.Behind.{from_start, from_again, from_found, from_none}
 use Rattle.places.proofs.triggers.loops_wrong.Goals as goal
 
-pub loop-left-init : goal.loop-left-init
-loop-left-init c = (omega (arith, c.count_at-left.ensures.0, c.requires.1), from_start _ _ _ _ _ _ _ c.count_at-left.ensures.0 c.le_at-p.ensures)
+pub loop-k-init : goal.loop-k-init
+loop-k-init c =
+    let z : c.count_at-n.result - 0 ≡ c.count_at-n.result = omega arith in
+    (omega (arith, c.count_at-n.ensures.0, c.requires.1), rw z (from_start _ _ _ _ _ _ _ c.count_at-n.ensures.0 c.le_at-p.ensures))
 
 pub loop_wrong-requires : goal.loop_wrong-requires
-loop_wrong-requires c = (c.requires.0, omega (arith, c.loop-left.invariant.0, c.loop-left-test.true), c.requires.2)
+loop_wrong-requires c = (c.requires.0, omega (arith, c.loop-k.invariant.0))
 
 pub returns-then-loop_wrong : goal.returns-then-loop_wrong
-returns-then-loop_wrong c = from_found _ _ _ _ _ _ _ _ _ c.loop-left.invariant.1 c.loop-left-test.true c.loop_wrong.ensures c.if-loop_wrong.true
+returns-then-loop_wrong c = from_found _ _ _ _ _ _ _ _ _ c.loop-k.invariant.1 (omega arith) c.loop_wrong.ensures c.if-loop_wrong.true
 
-pub overflow_add-k : goal.overflow_add-k
-overflow_add-k c = omega (arith, c.loop-left.invariant.0, c.loop-left-test.true)
-
-pub loop-left-preserved : goal.loop-left-preserved
-loop-left-preserved c = (omega (arith, c.loop-left.invariant.0, c.loop-left-test.true), from_again _ _ _ _ _ _ _ _ _ _ c.loop-left.invariant.1 c.loop-left-test.true c.loop_plan_at-p.ensures c.loop_wrong.ensures c.if-loop_wrong.false)
+pub loop-k-preserved : goal.loop-k-preserved
+loop-k-preserved c =
+    let z : c.count_at-n.result - (c.loop-k.k + 1) ≡ c.count_at-n.result - c.loop-k.k - 1 = omega arith in
+    (c.loop-k.invariant.0, rw z (from_again _ _ _ _ _ _ _ _ _ _ c.loop-k.invariant.1 (omega arith) c.ends_at-p.ensures c.loop_wrong.ensures c.if-loop_wrong.false))
 
 pub returns : goal.returns
-returns c = from_none _ _ _ _ _ _ _ _ c.loop-left.invariant.1 c.loop-left-test.false
+returns c = from_none _ _ _ _ _ _ _ _ c.loop-k.invariant.1 (omega arith)

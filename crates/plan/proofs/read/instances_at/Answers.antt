@@ -5,20 +5,20 @@ use Rattle.plan.proofs.read.instances_at.Goals as goal
 pub returns-then-job-at : goal.returns-then-job-at
 returns-then-job-at c = λ e v m j. absurd (omega (arith, m, c.if-job-at.true))
 
-pub returns-then-t-eq0 : goal.returns-then-t-eq0
-returns-then-t-eq0 c = λ e v m. instances_case_lem _ _ _ _ c.byte_at-t.ensures.0 c.num-n.ensures.0 0 c.if-t-eq0.true e v
+pub returns-in-0 : goal.returns-in-0
+returns-in-0 c = λ e v m. instances_case_lem _ _ _ _ c.byte_at-t.ensures.0 c.num-n.ensures.0 0 c.in-0.is e v
 
-pub returns-then-t-eq1 : goal.returns-then-t-eq1
-returns-then-t-eq1 c = λ e v m. instances_case_lem _ _ _ _ c.byte_at-t.ensures.0 c.num-n.ensures.0 1 c.if-t-eq1.true e v
+pub returns-in-1 : goal.returns-in-1
+returns-in-1 c = λ e v m. instances_case_lem _ _ _ _ c.byte_at-t.ensures.0 c.num-n.ensures.0 1 c.in-1.is e v
 
-pub returns-then-t-eq2 : goal.returns-then-t-eq2
-returns-then-t-eq2 c = λ e v m. instances_case_lem _ _ _ _ c.byte_at-t.ensures.0 c.num-n.ensures.0 2 c.if-t-eq2.true e v
+pub returns-in-2 : goal.returns-in-2
+returns-in-2 c = λ e v m. instances_case_lem _ _ _ _ c.byte_at-t.ensures.0 c.num-n.ensures.0 2 c.in-2.is e v
 
-pub returns-then-t-eq3 : goal.returns-then-t-eq3
-returns-then-t-eq3 c = λ e v m. instances_case_lem _ _ _ _ c.byte_at-t.ensures.0 c.num-n.ensures.0 3 c.if-t-eq3.true e v
+pub returns-in-3 : goal.returns-in-3
+returns-in-3 c = λ e v m. instances_case_lem _ _ _ _ c.byte_at-t.ensures.0 c.num-n.ensures.0 3 c.in-3.is e v
 
-pub returns-then-t-eq4 : goal.returns-then-t-eq4
-returns-then-t-eq4 c = λ e v m. instances_case_lem _ _ _ _ c.byte_at-t.ensures.0 c.num-n.ensures.0 4 c.if-t-eq4.true e v
+pub returns-in-4 : goal.returns-in-4
+returns-in-4 c = λ e v m. instances_case_lem _ _ _ _ c.byte_at-t.ensures.0 c.num-n.ensures.0 4 c.in-4.is e v
 
-pub returns : goal.returns
-returns c = λ e v m. instances_else _ _ _ _ c.byte_at-t.ensures.0 c.num-n.ensures.0 c.if-t-eq0.false c.if-t-eq1.false c.if-t-eq2.false c.if-t-eq3.false c.if-t-eq4.false e v
+pub returns-in_default : goal.returns-in_default
+returns-in_default c = λ e v m. instances_else _ _ _ _ c.byte_at-t.ensures.0 c.num-n.ensures.0 (omega arith) (omega arith) (omega arith) (omega arith) (omega arith) e v

@@ -21,12 +21,6 @@ note_element-found-requires c = let p = c.requires in (p.0, p.1, p.2, (read_step
 pub entries_of-requires : goal.entries_of-requires
 entries_of-requires c = let p = c.requires in ((read_step _ _ p.1 _ _ c.loop-i.invariant.along c.loop-i-test.true _ c.element_at-e.ensures).low, p.1.near, p.3)
 
-pub overflow_add-i : goal.overflow_add-i
-overflow_add-i c = record { fits = omega (arith, c.loop-i-test.true, c.struct_known-1, c.ranges) }
-
-pub loop-i-smaller : goal.loop-i-smaller
-loop-i-smaller c = omega (arith, c.loop-i-test.true)
-
 pub loop-i-preserved : goal.loop-i-preserved
 loop-i-preserved c = let a = c.args in let o = c.requires.1 in let h : length a.findings.now ≤ wide = omega (arith, (goal.at.loop-i-preserved c).Start) in rw c.more-entries-in-loop-i.ensures (fill_next _ _ o a.k a.r.0 a.state c.element_at-e.result _ h c.loop-i-test.true c.loop-i.invariant (read_step _ _ o _ _ c.loop-i.invariant.along c.loop-i-test.true _ c.element_at-e.ensures) c.note_element-found.ensures (c.entries_of.ensures _ a.s _ refl))
 

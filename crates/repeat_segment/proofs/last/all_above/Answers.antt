@@ -12,9 +12,6 @@ element_at-e-requires c = place_small _ _ c.requires _ _ c.loop-i.invariant.alon
 pub returns-then-e-eq0 : goal.returns-then-e-eq0
 returns-then-e-eq0 c = above_not _ _ c.requires c.element_at-e.result c.loop-i-test.true (read_step _ _ c.requires _ _ c.loop-i.invariant.along c.loop-i-test.true _ c.element_at-e.ensures) c.if-e-eq0.true
 
-pub loop-i-smaller : goal.loop-i-smaller
-loop-i-smaller c = omega (arith, c.loop-i-test.true)
-
 pub loop-i-preserved : goal.loop-i-preserved
 loop-i-preserved c = above_next _ _ c.requires c.element_at-e.result c.loop-i-test.true c.loop-i.invariant (read_step _ _ c.requires _ _ c.loop-i.invariant.along c.loop-i-test.true _ c.element_at-e.ensures) c.if-e-eq0.false
 

@@ -12,14 +12,8 @@ element_at-e-requires c = place_small _ _ c.requires.1 _ _ c.loop-i.invariant.al
 pub highest_of-requires : goal.highest_of-requires
 highest_of-requires c = let p = c.requires in (p.0, p.1, (read_step _ _ p.1 _ _ c.loop-i.invariant.along c.loop-i-test.true _ c.element_at-e.ensures).low, p.2, p.3)
 
-pub overflow_add-i : goal.overflow_add-i
-overflow_add-i c = record { fits = omega (arith, c.loop-i-test.true, c.struct_known-1, c.ranges) }
-
-pub loop-i-smaller : goal.loop-i-smaller
-loop-i-smaller c = omega (arith, c.loop-i-test.true)
-
 pub loop-i-preserved : goal.loop-i-preserved
-loop-i-preserved c = let o = c.requires.1 in rw c.higher-best.ensures (high_next _ _ o _ _ _ c.element_at-e.result _ c.loop-i-test.true c.loop-i.invariant (read_step _ _ o _ _ c.loop-i.invariant.along c.loop-i-test.true _ c.element_at-e.ensures) c.highest_of.ensures)
+loop-i-preserved c = let o = c.requires.1 in rw c.max-best.ensures (high_next _ _ o _ _ _ c.element_at-e.result _ c.loop-i-test.true c.loop-i.invariant (read_step _ _ o _ _ c.loop-i.invariant.along c.loop-i-test.true _ c.element_at-e.ensures) c.highest_of.ensures)
 
 pub returns : goal.returns
 returns c = high_end _ _ c.requires.1 _ _ _ c.loop-i-test.false c.loop-i.invariant

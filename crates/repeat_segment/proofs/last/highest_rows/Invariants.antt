@@ -1,6 +1,5 @@
 use Rattle.repeat_segment.specs.Places.{number_by, parts_from}
 use Rattle.plan.specs.Answers.{element_of}
-use Rattle.spec.specs.Answers.{number_of}
 use Rattle.segment.specs.Parts.{highest}
 use mathlib.Core.List.{[], ◌∷◌}
 use mathlib.Core.Path.{◌≡◌}
@@ -8,7 +7,4 @@ use Prim.Native.Nat.{◌-◌, ◌≤◌}
 use Rattle.repeat_segment.proofs.last.highest_rows.Given as goal
 
 abbrev pub invariant-loop-k : goal.invariant-loop-k
-invariant-loop-k l = (l.from ≤ l.k) × (l.k ≤ l.to) × (l.best ≡ highest (number_by (number_of l.q)) (parts_from l.job l.s l.rows l.from (l.k - l.from) (element_of l.job l.e ∷ [])))
-
-abbrev pub decreases-loop-k : goal.decreases-loop-k
-decreases-loop-k l = l.to - l.k
+invariant-loop-k l = (l.from ≤ l.k) × (l.k ≤ l.to) × (l.best ≡ highest (number_by l.q) (parts_from l.job l.s l.rows l.from (l.k - l.from) (element_of l.job l.e ∷ [])))

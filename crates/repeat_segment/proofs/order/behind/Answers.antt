@@ -1,11 +1,10 @@
 use Rattle.repeat_segment.proofs.OrderLaws.{rises_nowhere, rises_there}
 use Rattle.plan.specs.Answers.{element_of}
-use Rattle.spec.specs.Answers.{number_of}
 use mathlib.Core.Path.{sym, ap, ◌∙◌}
 use Rattle.repeat_segment.proofs.order.behind.Goals as goal
 
 pub returns-then-last-m : goal.returns-then-last-m
-returns-then-last-m c = λ b row. let a = c.args in rises_there b a.s a.k row (element_of b a.e) a.last _ (sym (c.place_of-place.ensures b) ∙ ap number_of c.in-Is-place.is) c.if-last-m.true (ap number_of c.in-None.is)
+returns-then-last-m c = λ b row. let a = c.args in rises_there b a.s a.k row (element_of b a.e) a.last _ (sym (c.place_of-place.ensures b) ∙ c.in-Some-place.is) c.if-last-m.true c.in-None.is
 
 pub returns-in-None-place : goal.returns-in-None-place
-returns-in-None-place c = λ b row. let a = c.args in rises_nowhere b a.s a.k row (element_of b a.e) a.last (sym (c.place_of-place.ensures b) ∙ ap number_of c.in-None-place.is)
+returns-in-None-place c = λ b row. let a = c.args in rises_nowhere b a.s a.k row (element_of b a.e) a.last (sym (c.place_of-place.ensures b) ∙ c.in-None-place.is)

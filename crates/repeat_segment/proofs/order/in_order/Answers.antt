@@ -12,14 +12,8 @@ row_behind-n-requires c = (c.requires.0, omega (arith, c.loop-k-test.true, c.req
 pub returns-in-None : goal.returns-in-None
 returns-in-None c = λ h. absurd (false≢true h)
 
-pub overflow_add-k : goal.overflow_add-k
-overflow_add-k c = record { fits = omega (arith, c.loop-k-test.true, c.requires.1) }
-
-pub loop-k-smaller : goal.loop-k-smaller
-loop-k-smaller c = omega (arith, c.loop-k-test.true)
-
 pub loop-k-preserved : goal.loop-k-preserved
-loop-k-preserved c = ordered_next _ _ _ c.row_behind-n.result c.in-Is.is c.loop-k-test.true c.loop-k.invariant c.row_behind-n.ensures
+loop-k-preserved c = ordered_next _ _ _ c.row_behind-n.result c.in-Some.is c.loop-k-test.true c.loop-k.invariant c.row_behind-n.ensures
 
 pub returns : goal.returns
 returns c = λ _ rows. ordered_end _ _ _ c.loop-k-test.false c.loop-k.invariant rows

@@ -1,9 +1,5 @@
 use Rattle.repeat_segment.proofs.OrderLaws.{OrderedSoFar}
-use Prim.Native.Nat.{◌-◌}
 use Rattle.repeat_segment.proofs.order.in_order.Given as goal
 
 abbrev pub invariant-loop-k : goal.invariant-loop-k
 invariant-loop-k l = OrderedSoFar l.job l.s l.count l.last l.k
-
-abbrev pub decreases-loop-k : goal.decreases-loop-k
-decreases-loop-k l = l.count - l.k

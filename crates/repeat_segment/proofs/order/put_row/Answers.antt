@@ -12,12 +12,6 @@ element_at-e-requires c = place_small _ _ c.requires.1 _ _ c.loop-i.invariant.al
 pub put_element-t-requires : goal.put_element-t-requires
 put_element-t-requires c = let p = c.requires in (p.0, p.1, (read_step _ _ p.1 _ _ c.loop-i.invariant.along c.loop-i-test.true _ c.element_at-e.ensures).low, p.2)
 
-pub overflow_add-i : goal.overflow_add-i
-overflow_add-i c = record { fits = omega (arith, c.loop-i-test.true, c.struct_known-1, c.ranges) }
-
-pub loop-i-smaller : goal.loop-i-smaller
-loop-i-smaller c = omega (arith, c.loop-i-test.true)
-
 pub loop-i-preserved : goal.loop-i-preserved
 loop-i-preserved c = let o = c.requires.1 in fed_next _ _ o _ _ c.element_at-e.result c.loop-i-test.true c.loop-i.invariant (read_step _ _ o _ _ c.loop-i.invariant.along c.loop-i-test.true _ c.element_at-e.ensures) c.put_element-t.ensures
 

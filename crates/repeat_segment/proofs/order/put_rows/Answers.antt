@@ -10,12 +10,6 @@ loop-k-init c = rows_start _ _ _ _
 pub put_row-t-requires : goal.put_row-t-requires
 put_row-t-requires c = let p = c.requires in (p.0, p.1, omega (arith, c.loop-k-test.true, p.2))
 
-pub overflow_add-k : goal.overflow_add-k
-overflow_add-k c = record { fits = omega (arith, c.loop-k-test.true, c.requires.2) }
-
-pub loop-k-smaller : goal.loop-k-smaller
-loop-k-smaller c = omega (arith, c.loop-k-test.true)
-
 pub loop-k-preserved : goal.loop-k-preserved
 loop-k-preserved c = let a = c.args in let l = c.loop-k in rows_next a.job.now a.s a.rows.now a.count (get_or a.rows.now l.k 0) c.loop-k-test.true refl l.invariant c.put_row-t.ensures
 

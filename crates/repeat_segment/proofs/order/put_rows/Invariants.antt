@@ -1,9 +1,5 @@
 use Rattle.repeat_segment.proofs.OrderLaws.{RowsSoFar}
-use Prim.Native.Nat.{◌-◌}
 use Rattle.repeat_segment.proofs.order.put_rows.Given as goal
 
 abbrev pub invariant-loop-k : goal.invariant-loop-k
 invariant-loop-k l = RowsSoFar l.job l.s l.rows l.count l.sep l.initial.t l.initial.doc l.t l.doc l.k
-
-abbrev pub decreases-loop-k : goal.decreases-loop-k
-decreases-loop-k l = l.count - l.k

@@ -15,14 +15,8 @@ behind-n-requires c = let p = c.requires in ((read_step _ _ p.0 _ _ c.loop-i.inv
 pub returns-in-None : goal.returns-in-None
 returns-in-None c = λ row. tt
 
-pub overflow_add-i : goal.overflow_add-i
-overflow_add-i c = record { fits = omega (arith, c.loop-i-test.true, c.struct_known-1, c.ranges) }
-
-pub loop-i-smaller : goal.loop-i-smaller
-loop-i-smaller c = omega (arith, c.loop-i-test.true)
-
 pub loop-i-preserved : goal.loop-i-preserved
-loop-i-preserved c = let o = c.requires.0 in rises_next _ _ o _ c.element_at-e.result c.behind-n.result c.in-Is.is c.loop-i-test.true c.loop-i.invariant (read_step _ _ o _ _ c.loop-i.invariant.along c.loop-i-test.true _ c.element_at-e.ensures) (λ row. c.behind-n.ensures _ row)
+loop-i-preserved c = let o = c.requires.0 in rises_next _ _ o _ c.element_at-e.result c.behind-n.result c.in-Some.is c.loop-i-test.true c.loop-i.invariant (read_step _ _ o _ _ c.loop-i.invariant.along c.loop-i-test.true _ c.element_at-e.ensures) (λ row. c.behind-n.ensures _ row)
 
 pub returns : goal.returns
 returns c = rises_end _ _ c.requires.0 _ c.loop-i-test.false c.loop-i.invariant

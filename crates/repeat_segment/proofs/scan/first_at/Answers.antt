@@ -9,12 +9,6 @@ loop-i-init c = let a = c.args in first_start _ _ c.requires.0 a.count a.p a.ran
 pub element_at-e-requires : goal.element_at-e-requires
 element_at-e-requires c = place_small _ _ c.requires.0 _ _ c.loop-i.invariant.along c.loop-i-test.true
 
-pub overflow_add-i : goal.overflow_add-i
-overflow_add-i c = record { fits = omega (arith, c.loop-i-test.true, c.struct_known-1, c.ranges) }
-
-pub loop-i-smaller : goal.loop-i-smaller
-loop-i-smaller c = omega (arith, c.loop-i-test.true)
-
 pub loop-i-preserved : goal.loop-i-preserved
 loop-i-preserved c = let a = c.args in first_next _ _ c.requires.0 a.count a.p a.rank c.requires.1 c.element_at-e.result c.loop-i-test.true c.loop-i.invariant (read_step _ _ c.requires.0 _ _ c.loop-i.invariant.along c.loop-i-test.true _ c.element_at-e.ensures) (c.earlier-f.ensures _)
 

@@ -1,9 +1,5 @@
 use Rattle.repeat_segment.proofs.FirstLaws.{FirstSoFar}
-use Prim.Native.Nat.{◌-◌}
 use Rattle.repeat_segment.proofs.scan.first_at.Given as goal
 
 abbrev pub invariant-loop-i : goal.invariant-loop-i
-invariant-loop-i l = FirstSoFar l.job l.s l.count l.p l.rank l.f l.at l.i
-
-abbrev pub decreases-loop-i : goal.decreases-loop-i
-decreases-loop-i l = l.s.count - l.i
+invariant-loop-i l = FirstSoFar l.job l.s l.count l.p l.rank l.f l.at l._i

@@ -6,13 +6,13 @@ use Rattle.row_segment.proofs.NoteLaws.{cell_entry}
 use Rattle.row_segment.proofs.FeedLaws.{stood_silent, held_part, held_silent}
 use Rattle.row_segment.proofs.feed.put_cell.Goals as goal
 
-pub returns-then-h : goal.returns-then-h
-returns-then-h c = let a = c.args in
+pub returns : goal.returns
+returns c = let a = c.args in
     let q = c.requires in
     let b = a.job.now in
-    let h = c.held_in-h.result in
+    let h = c.in-Some.h in
     let g = c.cell-cell.ensures in
-    let e = c.held_in-h.ensures.0 b _ c.if-h.true in
+    let e = c.held_in.ensures.0 b _ h c.in-Some.is in
     stood_silent b a.x a.p (stretch b h.start h.len)
     (held_part b _ a.x a.p q.0 a.column _ g q.3 h.start h.len e)
     (held_silent b _ a.x a.p q.0 a.column _ g q.3 h.start h.len e (tried a.d) q.1.tried
@@ -20,4 +20,4 @@ returns-then-h c = let a = c.args in
     (ap (λ n. a.entries + n) (cell_entry b a.x a.p q.3)) c.component_of-c.ensures c.put_stretch.ensures
 
 pub put_own-requires : goal.put_own-requires
-put_own-requires c = let q = c.requires in (q.0, q.2, q.3, c.cell-cell.ensures, c.held_in-h.ensures.1 c.if-h.false)
+put_own-requires c = let q = c.requires in (q.0, q.2, q.3, c.cell-cell.ensures, c.held_in.ensures.1 c.in_default.is)

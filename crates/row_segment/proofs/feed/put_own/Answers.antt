@@ -12,6 +12,6 @@ pub returns : goal.returns
 returns c = let a = c.args in
     let q = c.requires in
     let b = a.job.now in
-    stood_own b _ a.x a.p q.0 a.column a.cell q.3 q.2 c.own_text-w.result q.4
+    stood_own b _ a.x a.p q.0 a.column a.cell q.3 q.2 c.own_text-w.result _ _ c.text_in-text.ensures c.err.ensures.value q.4
     (said_part b _ a.x a.p q.0 a.column a.cell q.3 q.2 (c.own_text-w.ensures b q.4))
     c.component_of-c.ensures c.part-q.ensures c.note_refused-f.ensures refl

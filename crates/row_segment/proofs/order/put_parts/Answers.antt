@@ -4,6 +4,7 @@ use lib.ListN.{length}
 use Rattle.lent.specs.Fit.{wide}
 use Rattle.row_segment.proofs.OrderLaws.{feeding_start, feeding_few, feeding_part, feeding_none, feeding_end, place_low, stands_next, puts_some, puts_none}
 use Rattle.row_segment.proofs.order.put_parts.Goals as goal
+use Rattle.row_segment.proofs.order.put_parts.Goals.{in-Some, in_default}
 use Rattle.row_segment.proofs.order.put_parts.Goals.{Start}
 
 pub loop-k-init : goal.loop-k-init
@@ -15,32 +16,21 @@ element_at-e-requires c = place_low _ _ _ c.requires.0 _ _ c.loop-k.invariant.st
 pub put_part-g-requires : goal.put_part-g-requires
 put_part-g-requires c = (c.requires.0, c.requires.1, feeding_few c.loop-k.invariant _ c.requires.0 (omega (arith, (goal.at.put_part-g-requires c).Start)))
 
-pub loop-k-smaller-then-a : goal.loop-k-smaller-then-a
-loop-k-smaller-then-a c = omega (arith, c.seen-a.ensures.0)
-
-pub loop-k-preserved-then-a : goal.loop-k-preserved-then-a
-loop-k-preserved-then-a c = let w = c.requires.0 in
-    let i = c.loop-k.invariant in
-    let h = c.loop-k-test.true in
-    let e = c.element_at-e.result in
-    let f = c.element_at-e.ensures in
-    let r = c.seen-a.result in
-    let s = c.seen-a.ensures in
-    let z : length c.args.findings.now ≤ wide = omega (arith, (goal.at.loop-k-preserved-then-a c).Start) in
-    feeding_part i r c.put_part-g.result (stands_next _ _ _ w _ _ i.stands h e f r s) z (puts_some _ _ _ w _ _ i.stands h e f r s c.if-a.true) c.put_part-g.ensures
-
-pub loop-k-smaller : goal.loop-k-smaller
-loop-k-smaller c = omega (arith, c.seen-a.ensures.0)
-
 pub loop-k-preserved : goal.loop-k-preserved
 loop-k-preserved c = let w = c.requires.0 in
     let i = c.loop-k.invariant in
     let h = c.loop-k-test.true in
     let e = c.element_at-e.result in
     let f = c.element_at-e.ensures in
-    let r = c.seen-a.result in
-    let s = c.seen-a.ensures in
-    feeding_none i r (stands_next _ _ _ w _ _ i.stands h e f r s) (puts_none _ _ _ w _ _ i.stands h e f r s c.if-a.false)
+    let s = c.seen.ensures in
+    let n = stands_next _ _ _ w _ _ i.stands h e f _ s in
+    let z : length c.args.findings.now ≤ wide = omega (arith, (goal.at.loop-k-preserved c).Start) in
+    elim c.match-seen.branch [
+      | in-Some v ↦ rw (v.doc-is, v.findings-is, v.at-is, v.elements-is, v.components-is, v.f-is, v.n-is)
+          (feeding_part i _ v.put_part-g.result n z (puts_some _ _ _ w _ _ i.stands h e f _ s v.in-Some.is) v.put_part-g.ensures)
+      | in_default v ↦ rw (v.doc-is, v.findings-is, v.at-is, v.elements-is, v.components-is, v.f-is, v.n-is)
+          (feeding_none i n (puts_none _ _ _ w _ _ i.stands h e f _ s v.in_default.is))
+    ]
 
 pub shape_of-doc : goal.shape_of-doc
 shape_of-doc c = c.loop-k.invariant.doc_long

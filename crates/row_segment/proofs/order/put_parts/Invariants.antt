@@ -1,9 +1,5 @@
-use Prim.Native.Nat.{◌-◌}
 use Rattle.row_segment.proofs.OrderLaws.{Feeding}
 use Rattle.row_segment.proofs.order.put_parts.Given as goal
 
 abbrev pub invariant-loop-k : goal.invariant-loop-k
-invariant-loop-k l = Feeding l.s l.job l.x (record { at = l.initial.at; elements = l.initial.elements; components = l.initial.components }) l.initial.f l.initial.doc l.initial.findings l.k l.p (record { at = l.at; elements = l.elements; components = l.components }) l.f l.n l.doc l.findings
-
-abbrev pub decreases-loop-k : goal.decreases-loop-k
-decreases-loop-k l = l.x.count - l.k
+invariant-loop-k l = Feeding l.s l.job l.x (record { at = l.initial.at; elements = l.initial.elements; components = l.initial.components }) l.initial.f l.initial.doc l.initial.findings l._k l.p (record { at = l.at; elements = l.elements; components = l.components }) l.f l.n l.doc l.findings

@@ -1,9 +1,5 @@
-use Prim.Native.Nat.{◌-◌}
 use Rattle.row_segment.proofs.StreamLaws.{Through}
 use Rattle.row_segment.proofs.parts.next_part.Given as goal
 
 abbrev pub invariant-loop-i : goal.invariant-loop-i
 invariant-loop-i l = Through l.job l.x l.k l.i l.p
-
-abbrev pub decreases-loop-i : goal.decreases-loop-i
-decreases-loop-i l = l.x.count - l.i

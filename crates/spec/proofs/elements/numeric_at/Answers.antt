@@ -1,11 +1,18 @@
-use Rattle.spec.specs.Cursor.{numeric_low, numeric_is, numeric_high}
+use Rattle.std.proofs.Common.{ℕ, List, Bool, true, false, ◌≡◌, refl, arith, eqb-true, ltb-true, ltb-false}
+use Rattle.std.proofs.lemmas.Bool.{eqb-false}
+use Rattle.std.specs.Prelude.{eqb, ltb, get_or}
+use Rattle.codec.specs.Skip.{Is}
+use Rattle.format.specs.Spec.{Kind, kind_c}
+use Rattle.spec.specs.Cursor.{is_numeric, numeric_low, numeric_is, numeric_high}
 use Rattle.spec.proofs.elements.numeric_at.Goals as goal
 
-pub returns-then-t-lt2 : goal.returns-then-t-lt2
-returns-then-t-lt2 c = numeric_low _ _ (rw c.byte_at-t.ensures.0 at c.if-t-lt2.true)
-
-pub returns-then-t-lt3 : goal.returns-then-t-lt3
-returns-then-t-lt3 c = numeric_is _ _ (rw c.byte_at-t.ensures.0 at c.if-t-lt2.false) (rw c.byte_at-t.ensures.0 at c.if-t-lt3.true)
+numeric : (b : List ℕ) (at t : ℕ) → t ≡ get_or b at 0 → (e : ℕ) (v : Kind) → Is kind_c b e at v → (u : Bool) → eqb t 2 ≡ u → u ≡ is_numeric v
+numeric b at t h e v i true q = numeric_is b at (omega (arith, eqb-true t 2 q)) (omega (arith, eqb-true t 2 q)) e v i
+numeric b at t h e v i false q = go (ltb t 2) refl
+  where
+    go : (u : Bool) → ltb t 2 ≡ u → false ≡ is_numeric v
+    go true r = numeric_low b at (omega (arith, ltb-true t 2 r)) e v i
+    go false r = let n : t ≡ 2 → ⊥ = eqb-false t 2 q in numeric_high b at (omega (arith, ltb-false t 2 r)) e v i
 
 pub returns : goal.returns
-returns c = numeric_high _ _ (rw c.byte_at-t.ensures.0 at c.if-t-lt3.false)
+returns c = λ e v i. numeric _ _ _ c.byte_at.ensures.0 e v i _ refl

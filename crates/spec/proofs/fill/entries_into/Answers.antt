@@ -1,3 +1,4 @@
+use Rattle.std.specs.Prelude.{◌≡◌, ◌+◌, ◌-◌, ◌*◌}
 use Rattle.spec.specs.Kept.{stored_one}
 use Rattle.codec.specs.Skip.{skip_pair, list_start, list_again, list_done}
 use Rattle.codec.specs.Forms.{bytes_c}
@@ -8,15 +9,20 @@ use native.Mathlib.Omega.{arith}
 use mathlib.Core.Path.{refl}
 use Rattle.spec.proofs.fill.entries_into.Goals as goal
 
-pub loop-left-init : goal.loop-left-init
+pub loop-i-init : goal.loop-i-init
 unfolding entry_rows
-loop-left-init c = (cc, omega arith, list_start _ _ _ _ _ _ c.count_at-left.ensures.0 c.le_at-p.ensures)
+loop-i-init c =
+    let z : c.count_at-n.result - 0 ≡ c.count_at-n.result = omega arith in
+    (rw z (cc), omega (arith, c.requires, c.count_at-n.ensures.0), rw z (list_start _ _ _ _ _ _ c.count_at-n.ensures.0 c.le_at-p.ensures))
 
-pub loop-left-preserved : goal.loop-left-preserved
-loop-left-preserved c = (rows_next _ _ _ _ _ _ _ _ _ _ _ _ c.loop-left.invariant.0 c.loop-left-test.true refl (cc (skip_pair bytes_c segment_c _ _ _)) (stored_one _ _ _ _ c.put.ensures), omega arith, list_again _ _ _ _ _ _ _ c.loop-left.invariant.2 c.loop-left-test.true (cc (skip_pair bytes_c segment_c _ _ _)))
+pub loop-i-preserved : goal.loop-i-preserved
+loop-i-preserved c =
+    let z : c.count_at-n.result - (c.loop-i.i + 1) ≡ c.count_at-n.result - c.loop-i.i - 1 = omega arith in
+    let y : 4097 + (c.loop-i.i + 1) ≡ 4097 + c.loop-i.i + 1 = omega arith in
+    (rw (z, y) (rows_next _ _ _ _ _ _ _ _ _ _ _ _ c.loop-i.invariant.0 (omega arith) refl (cc (skip_pair bytes_c segment_c _ _ _)) (stored_one _ _ _ _ c.put.ensures)), c.loop-i.invariant.1, rw z (list_again _ _ _ _ _ _ _ c.loop-i.invariant.2 (omega arith) (cc (skip_pair bytes_c segment_c _ _ _))))
 
 pub shape_of-index : goal.shape_of-index
-shape_of-index c = rows_long _ _ _ _ _ _ _ _ _ _ _ c.loop-left.invariant.0
+shape_of-index c = rows_long _ _ _ _ _ _ _ _ _ _ _ c.loop-i.invariant.0
 
 pub returns : goal.returns
-returns c = (list_done _ _ _ _ _ _ c.loop-left.invariant.2 c.loop-left-test.false, rows_done _ _ _ _ _ _ _ _ _ c.loop-left.invariant.0 c.loop-left-test.false)
+returns c = (list_done _ _ _ _ _ _ c.loop-i.invariant.2 (omega arith), rows_done _ _ _ _ _ _ _ _ _ c.loop-i.invariant.0 (omega arith))

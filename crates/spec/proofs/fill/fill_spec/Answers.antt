@@ -4,16 +4,13 @@ use native.Mathlib.Omega.{arith}
 use Rattle.spec.proofs.fill.fill_spec.Goals as goal
 
 pub loops_into-roots-requires : goal.loops_into-roots-requires
-loops_into-roots-requires c = (rw c.spec_end-end.ensures (few_loops _ c.requires), omega (arith, c.requires.sound))
-
-pub les_at-segments-requires : goal.les_at-segments-requires
-les_at-segments-requires c = omega (arith, c.requires.sound)
+loops_into-roots-requires c = rw c.spec_end.ensures (few_loops _ c.requires)
 
 pub fill_segments-tables-requires : goal.fill_segments-tables-requires
-fill_segments-tables-requires c = (c.requires, c.spec_end-end.ensures, cc, omega (arith, c.requires.sound))
+fill_segments-tables-requires c = (c.requires, c.spec_end.ensures, cc, omega (arith, c.requires.sound))
 
 pub tables_into-version-requires : goal.tables_into-version-requires
-tables_into-version-requires c = (few_at _ c.requires _ _ c.spec_end-end.ensures c.fill_segments-tables.ensures.0, omega (arith, c.requires.sound))
+tables_into-version-requires c = few_at _ c.requires _ _ c.spec_end.ensures c.fill_segments-tables.ensures.0
 
 pub returns : goal.returns
-returns c = spec_filled _ _ _ _ _ (fill_done _ c.requires _ _ _ _ c.spec_end-end.ensures c.loops_into-roots.ensures.0 c.fill_segments-tables.ensures.0 c.tables_into-version.ensures.0 _ _ _ _ _ c.loops_into-roots.ensures.1 c.fill_segments-tables.ensures.2 c.tables_into-version.ensures.1 c.heads_into.ensures) (c.fill_segments-tables.ensures.1, c.fill_segments-tables.ensures.2)
+returns c = spec_filled _ _ _ _ _ (fill_done _ c.requires _ _ _ _ c.spec_end.ensures c.loops_into-roots.ensures.0 c.fill_segments-tables.ensures.0 c.tables_into-version.ensures.0 _ _ _ _ _ c.loops_into-roots.ensures.1 c.fill_segments-tables.ensures.2 c.tables_into-version.ensures.1 c.heads_into.ensures) (c.fill_segments-tables.ensures.1, c.fill_segments-tables.ensures.2)

@@ -1,8 +1,6 @@
-use mathlib.Core.Path.{refl, sym, ◌∙◌}
+use Rattle.std.proofs.Common.{sym, ◌∙◌}
+use borrow.Author.Tests.{eq-eqb, ne_eqb}
 use Rattle.spec.proofs.read.flag_at.Goals as goal
 
-pub returns-then-t-eq0 : goal.returns-then-t-eq0
-returns-then-t-eq0 c = record { unset = λ h. refl; set = λ h. absurd (h (sym c.byte_at-t.ensures.0 ∙ c.if-t-eq0.true)) }
-
 pub returns : goal.returns
-returns c = record { unset = λ h. absurd (c.if-t-eq0.false (c.byte_at-t.ensures.0 ∙ h)); set = λ h. refl }
+returns c = record { unset = λ h. rw (eq-eqb _ _ (c.byte_at.ensures.0 ∙ h)); set = λ h. rw (ne_eqb _ _ (λ q. h (sym c.byte_at.ensures.0 ∙ q))) }

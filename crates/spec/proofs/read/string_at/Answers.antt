@@ -1,12 +1,16 @@
+use Rattle.std.specs.Prelude.{◌≡◌, ◌+◌, ◌-◌}
+use native.Mathlib.Omega.{arith}
 use Rattle.codec.specs.Skip.{list_again, list_done}
 use mathlib.Core.Path.{refl}
 use Rattle.spec.proofs.read.string_at.Goals as goal
 
-pub loop-left-init : goal.loop-left-init
-loop-left-init c = refl
+pub loop-i-init : goal.loop-i-init
+loop-i-init c = let z : c.args.k - 0 ≡ c.args.k = omega arith in rw z refl
 
-pub loop-left-preserved : goal.loop-left-preserved
-loop-left-preserved c = list_again _ _ _ _ _ _ _ c.loop-left.invariant c.loop-left-test.true c.bytes_at-p.ensures
+pub loop-i-preserved : goal.loop-i-preserved
+loop-i-preserved c =
+    let z : c.args.k - (c.loop-i._i + 1) ≡ c.args.k - c.loop-i._i - 1 = omega arith in
+    rw z (list_again _ _ _ _ _ _ _ c.loop-i.invariant (omega arith) c.bytes_at-p.ensures)
 
 pub returns : goal.returns
-returns c = list_done _ _ _ _ _ _ c.loop-left.invariant c.loop-left-test.false
+returns c = list_done _ _ _ _ _ _ c.loop-i.invariant (omega arith)

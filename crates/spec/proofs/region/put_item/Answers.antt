@@ -5,5 +5,5 @@ use Rattle.spec.proofs.region.put_item.Goals as goal
 pub returns-then-i-lt32 : goal.returns-then-i-lt32
 returns-then-i-lt32 c = c.put.ensures ∙ sym (put_item_in _ _ _ _ c.if-i-lt32.true)
 
-pub returns : goal.returns
-returns c = sym (put_item_out _ _ _ _ c.if-i-lt32.false)
+pub returns-else-i-lt32 : goal.returns-else-i-lt32
+returns-else-i-lt32 c = sym (put_item_out _ _ _ _ c.if-i-lt32.false)

@@ -1,10 +1,6 @@
 use Rattle.spec.specs.Found.{OtherNames}
 use Rattle.spec.specs.Answers.{stretch_of}
-use Prim.Native.Nat.{◌-◌}
 use Rattle.spec.proofs.segments.elements_of.Given as goal
 
 abbrev pub invariant-loop-k : goal.invariant-loop-k
 invariant-loop-k l = OtherNames l.job (stretch_of l.job l.identifier) l.k
-
-abbrev pub decreases-loop-k : goal.decreases-loop-k
-decreases-loop-k l = l.n - l.k

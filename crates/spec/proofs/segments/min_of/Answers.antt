@@ -1,8 +1,8 @@
 use Rattle.spec.specs.Found.{min_nowhere, min_there, place_nowhere, place_at}
 use Rattle.spec.proofs.segments.min_of.Goals as goal
 
-pub returns-in-Nowhere : goal.returns-in-Nowhere
-returns-in-Nowhere c = min_nowhere _ _ _ (place_nowhere _ _ _ _ _ c.element_of-at.ensures c.in-Nowhere.is)
+pub returns-in_err-at : goal.returns-in_err-at
+returns-in_err-at c = rw c.from_residual.ensures (min_nowhere _ _ _ (place_nowhere _ _ _ _ _ c.element_of.ensures c.in_err-at.was))
 
-pub returns-in-At : goal.returns-in-At
-returns-in-At c = min_there _ _ _ _ _ _ _ _ c.spec_end-end.ensures (place_at _ _ _ _ _ c.element_of-at.ensures _ c.in-At.is) c.element_min.ensures
+pub returns : goal.returns
+returns c = min_there _ _ _ _ _ _ _ _ c.spec_end.ensures (place_at _ _ _ _ _ c.element_of.ensures _ c.in_ok-at.was) c.element_min.ensures

@@ -1,9 +1,6 @@
-use Prim.Native.Nat.{◌-◌, ◌≤◌}
+use Prim.Native.Nat.{◌≤◌}
 use Rattle.tables.specs.Index.{DataLists}
 use Rattle.tables.proofs.fill.tables_into.Given as goal
 
 abbrev pub invariant-loop-t : goal.invariant-loop-t
-invariant-loop-t l = DataLists l.job l.end l.initial.p l.t l.p l.initial.index l.index × (l.t ≤ l.n)
-
-abbrev pub decreases-loop-t : goal.decreases-loop-t
-decreases-loop-t l = l.n - l.t
+invariant-loop-t l = DataLists l.s.bytes.now l.s.end l.initial.p l.t l.p l.initial.index l.index × (l.t ≤ l.n)

@@ -6,10 +6,10 @@ pub returns-in_default : goal.returns-in_default
 returns-in_default c = λ text l. pad_free _ _ _ text c.in_default.is
 
 pub returns-then-numeric : goal.returns-then-numeric
-returns-then-numeric c = λ text l. pad_number _ _ _ _ _ _ text c.if-numeric.true c.in-At.is c.missing-short.ensures l
+returns-then-numeric c = λ text l. pad_number _ _ _ _ _ _ text c.if-numeric.true c.in-Some.is c.missing-short.ensures l
 
 pub returns-then-max_is : goal.returns-then-max_is
-returns-then-max_is c = λ text l. pad_fixed _ _ _ _ _ _ text c.if-numeric.false c.in-At.is (sym c.max_is.ensures ∙ c.if-max_is.true) c.missing-short.ensures l
+returns-then-max_is c = λ text l. pad_fixed _ _ _ _ _ _ text c.if-numeric.false c.in-Some.is (sym c.max_is.ensures ∙ c.if-max_is.true) c.missing-short.ensures l
 
 pub returns : goal.returns
-returns c = λ text l. pad_loose _ _ _ _ text c.if-numeric.false c.in-At.is (sym c.max_is.ensures ∙ c.if-max_is.false)
+returns c = λ text l. pad_loose _ _ _ _ text c.if-numeric.false c.in-Some.is (sym c.max_is.ensures ∙ c.if-max_is.false)

@@ -5,6 +5,3 @@ use Rattle.texts.proofs.number.with_places.Given as goal
 
 abbrev pub invariant-loop-i : goal.invariant-loop-i
 invariant-loop-i l = (l.low ≤ l.i) × ((l.i ≤ l.top) × ((l.len + (l.i - l.low) ≡ l.initial.len + (l.top - l.low)) × (sets l.initial.bytes l.initial.len (down l.places l.low (l.top - l.low)) ≡ sets l.bytes l.len (down l.places l.low (l.i - l.low)))))
-
-abbrev pub decreases-loop-i : goal.decreases-loop-i
-decreases-loop-i l = l.i - l.low

@@ -1,17 +1,13 @@
--- the year is one of those that the digits are read as
-use Rattle.std.proofs.Common.{sym, ◌∙◌}
-use Rattle.texts.proofs.Ranges.{Inside, ranged_is, ranged_out}
-use Rattle.texts.proofs.Rendered.{spelt_says, says_as, short_is, short_out}
+use Rattle.std.proofs.Common.{sym, ◌∙◌, rules}
+use Rattle.texts.proofs.Ranges.{ranged_is, ranged_out}
+use Rattle.texts.proofs.Rendered.{text_says, none_says, short_is, short_out}
 use Rattle.texts.proofs.render.short_date.Goals as goal
-use Rattle.texts.proofs.render.short_date.Goals.{In-Is}
 
-year : (c : In-Is) → let a = c.args in Inside a.low a.high a.year c.in-Is.y
-year c = ranged_is _ _ _ c.ranges.year _ (sym c.in_range.ensures ∙ c.in-Is.is)
+pub returns-in_err-y : goal.returns-in_err-y
+returns-in_err-y c =
+    let none = c.in_err-y.ensures.ok_part in
+    none_says _ c.from_residual.ensures.1 c.in_err-y.ensures.value none (short_out _ _ _ _ (ranged_out _ _ c.args.d.year (record { sfits = search rules }) (sym c.in_range.ensures ∙ none)))
 
-pub returns-in-Is : goal.returns-in-Is
-returns-in-Is c = spelt_says _ _ _ _ c.spelt.ensures c.six.ensures (short_is _ _ _ _ _ _ _ (year (goal.at.returns-in-Is c).In-Is))
-
-pub returns-in-Out : goal.returns-in-Out
-returns-in-Out c =
-    says_as _ _ _ c.refusal.ensures
-    (short_out _ _ _ _ (ranged_out _ _ _ c.ranges.year (sym c.in_range.ensures ∙ c.in-Out.is)))
+-- the year is one of those that the digits are read as
+pub returns : goal.returns
+returns c = text_says _ _ _ c.six.ensures (short_is _ _ _ _ _ _ _ (ranged_is _ _ c.args.d.year (record { sfits = search rules }) _ (sym c.in_range.ensures ∙ c.in_ok-y.ensures.ok_part)))

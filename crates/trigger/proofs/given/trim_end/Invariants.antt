@@ -7,6 +7,3 @@ use Rattle.trigger.proofs.given.trim_end.Given as goal
 
 abbrev pub invariant-loop-n : goal.invariant-loop-n
 invariant-loop-n l = (l.start + l.n ≤ length l.job) × (trim_end (stretch l.job l.start l.initial.n) ≡ trim_end (stretch l.job l.start l.n))
-
-abbrev pub decreases-loop-n : goal.decreases-loop-n
-decreases-loop-n l = l.n

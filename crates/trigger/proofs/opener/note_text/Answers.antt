@@ -1,8 +1,8 @@
 use Rattle.emit.proofs.FindingLaws.{none_stored}
 use Rattle.trigger.proofs.opener.note_text.Goals as goal
 
-pub returns-in-Nothing : goal.returns-in-Nothing
-returns-in-Nothing c = λ j trigger e q. rw c.in-Nothing.is (none_stored c.more.ensures)
+pub returns-in-None : goal.returns-in-None
+returns-in-None c = λ j trigger e q. rw c.in-None.is (none_stored c.more.ensures)
 
-pub returns-in-Field : goal.returns-in-Field
-returns-in-Field c = λ j trigger e q. rw c.in-Field.is (c.note_field.ensures j trigger e q)
+pub returns-in-Some : goal.returns-in-Some
+returns-in-Some c = λ j trigger e q. rw c.in-Some.is (c.note_field.ensures j trigger e q)

@@ -1,0 +1,5 @@
+use Rattle.codec.specs.Ways.{skip_flag}
+use Rattle.codec.proofs.forms.FlagForm.ends_at.Goals as goal
+
+pub returns : goal.returns
+returns c = cc (skip_flag _ _ _)

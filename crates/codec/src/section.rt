@@ -1,0 +1,127 @@
+// A stretch of a job's bytes, and its readers: each answers the place behind what it reads, or one past the end.
+ghost use Rattle.std.specs.Prelude.{◌≤◌, length};
+
+// The bytes up to `end`, which is within them.
+#[derive(Clone, Copy)]
+pub struct Section<'a> {
+    pub bytes: &'a [u8],
+    pub end: u32,
+    pub ghost within: { end ≤ length bytes.now },
+}
+
+impl<'a> Section<'a> {
+    ghost use Rattle.std.specs.Prelude.{◌≡◌, ◌+◌, ◌<◌};
+    ghost use Rattle.codec.specs.Codec.{le_c, list_c};
+    ghost use Rattle.codec.specs.Skip.{count_at, tag_at, case_end};
+    ghost use Rattle.codec.specs.Forms.{num_c, bytes_c, opt_c};
+    ghost use Rattle.codec.specs.Ways.{opt_end};
+    ghost use Rattle.codec.specs.Within.{ends};
+
+    // One past the end: where nothing was read.
+    pub fn past(self) -> usize
+        ensures { result ≡ self.entry.end + 1 }
+    {
+        self.end as usize + 1
+    }
+
+    // A number of w bytes.
+    pub fn le_at(self, w: u8, at: usize) -> usize
+        ensures { result ≡ ends (le_c w) self.entry at }
+    {
+        let e = self.end as usize;
+        if e < at {
+            return e + 1;
+        }
+        if e - at < w as usize {
+            return e + 1;
+        }
+        at + w as usize
+    }
+
+    // The count in front of a list, 0 where there is none.
+    pub fn count_at(self, at: usize) -> usize
+        ensures { (result ≡ count_at self.entry.bytes.now at self.entry.end) × (result < 4294967296) }
+    {
+        let e = self.end as usize;
+        if e < at {
+            return 0;
+        }
+        if e - at < 4 {
+            return 0;
+        }
+        crate::num_in(self.bytes, at)
+    }
+
+    // A list of numbers of w bytes.
+    pub fn les_at(self, w: u8, at: usize) -> usize
+        ensures { result ≡ ends (list_c (le_c w)) self.entry at }
+    {
+        let n = self.count_at(at);
+        let p = self.le_at(4, at);
+        let e = self.end as usize;
+        if e < p {
+            return e + 1;
+        }
+        if e - p < n * w as usize {
+            return e + 1;
+        }
+        p + n * w as usize
+    }
+
+    // The byte of a case at a place, 256 where there is none.
+    pub fn tag_at(self, at: usize) -> usize
+        ensures { result ≡ tag_at self.entry.bytes.now at self.entry.end }
+    {
+        if self.end as usize <= at {
+            return 256;
+        }
+        crate::byte_in(self.bytes, at)
+    }
+
+    // The end of an option whose value, if it has one, ends at p.
+    pub fn opt_end(self, at: usize, p: usize) -> usize
+        ensures { result ≡ opt_end self.entry.bytes.now at self.entry.end p }
+    {
+        let t = self.tag_at(at);
+        if t == 0 {
+            return at + 1;
+        }
+        if t == 1 {
+            return p;
+        }
+        self.end as usize + 1
+    }
+
+    // An enum of n cases that hold nothing.
+    pub fn case_at(self, n: u8, at: usize) -> usize
+        ensures { result ≡ case_end self.entry.bytes.now at self.entry.end n }
+    {
+        let t = self.tag_at(at);
+        if t < n as usize {
+            return at + 1;
+        }
+        self.end as usize + 1
+    }
+
+    pub fn bytes_at(self, at: usize) -> usize
+        ensures { result ≡ ends bytes_c self.entry at }
+    {
+        self.les_at(1, at)
+    }
+
+    pub fn opt_num_at(self, at: usize) -> usize
+        ensures { result ≡ ends (opt_c num_c) self.entry at }
+    {
+        let t = self.le_at(1, at);
+        let p = self.le_at(4, t);
+        self.opt_end(at, p)
+    }
+
+    pub fn opt_bytes_at(self, at: usize) -> usize
+        ensures { result ≡ ends (opt_c bytes_c) self.entry at }
+    {
+        let t = self.le_at(1, at);
+        let p = self.bytes_at(t);
+        self.opt_end(at, p)
+    }
+}

@@ -1,6 +1,0 @@
--- `days::all` ends, since each turn leaves one row less.
-use Rattle.std.proofs.Common.{◌-◌}
-use Rattle.edges.proofs.days.all.Given as goal
-
-abbrev pub decreases-loop-i : goal.decreases-loop-i
-decreases-loop-i g l = 46 - l.i

@@ -1,5 +1,0 @@
-use Rattle.codec.specs.Ways.{skip_flag}
-use Rattle.format.proofs.flag_at.Goals as goal
-
-pub returns : goal.returns
-returns c = cc (skip_flag _ _ _)

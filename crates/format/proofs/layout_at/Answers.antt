@@ -1,7 +1,0 @@
-use Rattle.format.specs.Layout.{layout_c}
-use Rattle.codec.specs.Skip.{skip_map, skip_pair}
-use Rattle.format.proofs.layout_at.Goals as goal
-
-pub returns : goal.returns
-unfolding layout_c
-returns c = simp (skip_map, skip_pair) (cc)

@@ -1,8 +1,0 @@
-use Rattle.format.specs.Spec.{loop_c}
-use Rattle.codec.specs.Skip.{skip_map, skip_pair}
-use Rattle.format.specs.Ends.{skip_usage}
-use Rattle.format.proofs.loop_at.Goals as goal
-
-pub returns : goal.returns
-unfolding loop_c
-returns c = simp (skip_map, skip_pair, skip_usage) (cc)

@@ -1,7 +1,0 @@
-use Rattle.format.specs.Data.{table_data_c}
-use Rattle.codec.specs.Skip.{skip_map, skip_pair}
-use Rattle.format.proofs.table_data_at.Goals as goal
-
-pub returns : goal.returns
-unfolding table_data_c
-returns c = simp (skip_map, skip_pair) (cc)

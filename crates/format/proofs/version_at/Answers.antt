@@ -1,7 +1,0 @@
-use Rattle.format.specs.Spec.{version_c}
-use Rattle.codec.specs.Skip.{skip_map, skip_pair}
-use Rattle.format.proofs.version_at.Goals as goal
-
-pub returns : goal.returns
-unfolding version_c
-returns c = simp (skip_map, skip_pair) (cc)

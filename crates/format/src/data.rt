@@ -1,0 +1,64 @@
+// The data: the columns of each table.
+ghost use Rattle.format.specs.Data.{column_c, table_data_c, values_c, Column as AColumn, TableData as ATableData, Values as AValues};
+
+use codec::forms::{Items, Le, Opt};
+use codec::{Form, Section};
+
+pub struct Cells;
+
+impl Form for Cells {
+    ghost Value = { AValues };
+
+    ghost codec = { values_c };
+
+    fn ends_at(s: Section, at: usize) -> usize {
+        let t = s.tag_at(at);
+        let p = s.le_at(1, at);
+        if t < 1 {
+            let values = s.les_at(4, p);
+            return s.bytes_at(values);
+        }
+        if t < 2 {
+            let values = s.les_at(8, p);
+            return s.le_at(1, values);
+        }
+        if t < 3 {
+            let values = s.les_at(16, p);
+            return s.le_at(1, values);
+        }
+        if t < 5 {
+            return s.les_at(4, p);
+        }
+        s.past()
+    }
+}
+
+pub struct Column;
+
+impl Form for Column {
+    ghost Value = { AColumn };
+
+    ghost codec = { column_c };
+
+    fn ends_at(s: Section, at: usize) -> usize {
+        let values = Cells::ends_at(s, at);
+        let validity = s.bytes_at(values);
+        s.le_at(4, validity)
+    }
+}
+
+pub struct TableData;
+
+impl Form for TableData {
+    ghost Value = { ATableData };
+
+    ghost codec = { table_data_c };
+
+    fn ends_at(s: Section, at: usize) -> usize {
+        let rows = s.le_at(4, at);
+        let row = Opt::<Column>::ends_at(s, rows);
+        let segment = Opt::<Column>::ends_at(s, row);
+        let refs = Items::<(Le<4>, Opt<Column>)>::ends_at(s, segment);
+        Items::<Opt<Column>>::ends_at(s, refs)
+    }
+}

@@ -1,6 +1,0 @@
--- `lines::findings` ends, since each turn leaves one finding less to print.
-use Rattle.std.proofs.Common.{◌-◌}
-use Rattle.listing.proofs.lines.findings.Given as goal
-
-abbrev pub decreases-loop-i : goal.decreases-loop-i
-decreases-loop-i g l = l.n - l.i

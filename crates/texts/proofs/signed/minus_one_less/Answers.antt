@@ -1,9 +1,0 @@
-use Rattle.std.proofs.Common.{w32}
-use Rattle.texts.proofs.Integers.{less_fits, less_is}
-use Rattle.texts.proofs.signed.minus_one_less.Goals as goal
-
-pub overflow_sub-result : goal.overflow_sub-result
-overflow_sub-result c = less_fits w32 _ c.requires
-
-pub returns : goal.returns
-returns c = less_is w32 _ c.requires

@@ -1,0 +1,110 @@
+// The loops of a spec, each by its number.
+ghost use Rattle.std.specs.Prelude.{◌≡◌, List, ℕ, ◌<◌, eqb};
+ghost use Rattle.codec.specs.Codec.{le_c, list_c};
+ghost use Rattle.codec.specs.Forms.{num_c, opt_c};
+ghost use Rattle.codec.specs.Skip.{count_at, skip, steps};
+ghost use Rattle.format.specs.Words.{if_some, member_of};
+ghost use Rattle.format.specs.Spec.{loop_c};
+ghost use Rattle.format.specs.Fields.{loop_children};
+ghost use Rattle.format.specs.Refusal.{loop_at};
+ghost use Rattle.says.specs.Says.{Says};
+ghost use Rattle.tree.specs.Parts.{Placed, held};
+
+use codec::forms::Le;
+use codec::{Form, Section};
+
+// Loops that stand at a place, and where the first of them and their children do.
+#[derive(Clone, Copy)]
+pub struct Loops<'a, 'p> {
+    pub section: Section<'a>,
+    pub at: usize,
+    pub places: &'p [usize],
+    pub ghost placed: { Placed section.bytes.now section.end at places.now },
+}
+
+impl<'a, 'p> Loops<'a, 'p> {
+    // Where loop i stands.
+    pub fn place_of(self, i: usize) -> usize
+        ensures { i < count_at self.entry.section.bytes.now self.entry.at self.entry.section.end → result ≡ steps loop_c self.entry.section.bytes.now self.entry.section.end i (skip (le_c 4) self.entry.section.bytes.now self.entry.at self.entry.section.end) }
+    {
+        if i < 32 {
+            if i + i + 1 < self.places.len() {
+                return self.places[i + i];
+            }
+        }
+        loop_place(self.section, self.at, i)
+    }
+
+    // Where the children of loop i stand.
+    pub fn below(self, i: usize) -> usize
+        ensures { i < count_at self.entry.section.bytes.now self.entry.at self.entry.section.end → result ≡ loop_children self.entry.section.bytes.now self.entry.section.end (steps loop_c self.entry.section.bytes.now self.entry.section.end i (skip (le_c 4) self.entry.section.bytes.now self.entry.at self.entry.section.end)) }
+    {
+        if i < 32 {
+            if i + i + 1 < self.places.len() {
+                return self.places[i + i + 1];
+            }
+        }
+        let p = loop_place(self.section, self.at, i);
+        crate::children_at(self.section, p)
+    }
+
+    // The parent of loop c.
+    pub fn parent(self, c: usize) -> Option<usize>
+        ensures { Says (list_c loop_c) self.entry.section.bytes.now self.entry.section.end self.entry.at (λ ls. held (loop_at ls c).parent) result }
+    {
+        let s = self.section;
+        if s.count_at(self.at) <= c {
+            return None;
+        }
+        let p = self.place_of(c);
+        if s.tag_at(p) == 1 {
+            let q = s.le_at(1, p);
+            return Some(s.count_at(q));
+        }
+        None
+    }
+
+    // Whether the parent of loop c is i.
+    pub fn parent_is(self, i: usize, c: usize) -> bool
+        ensures { Says (list_c loop_c) self.entry.section.bytes.now self.entry.section.end self.entry.at (λ ls. if_some (eqb i) (loop_at ls c).parent) result }
+    {
+        if self.section.count_at(self.at) <= c {
+            return false;
+        }
+        let p = self.place_of(c);
+        opt_same_at(self.section, p, i)
+    }
+
+    // Whether i is a child of loop c.
+    pub fn is_child(self, i: usize, c: usize) -> bool
+        ensures { Says (list_c loop_c) self.entry.section.bytes.now self.entry.section.end self.entry.at (λ ls. member_of i (loop_at ls c).children) result }
+    {
+        if self.section.count_at(self.at) <= c {
+            return false;
+        }
+        let children = self.below(c);
+        member_at(self.section, children, i)
+    }
+}
+
+fn loop_place(s: Section, at: usize, i: usize) -> usize
+    ensures { result ≡ steps loop_c s.entry.bytes.now s.entry.end i (skip (le_c 4) s.entry.bytes.now at s.entry.end) }
+{
+    let mut p = s.le_at(4, at);
+    for _k in 0..i {
+        p = format::Loop::ends_at(s, p);
+    }
+    p
+}
+
+fn opt_same_at(s: Section, at: usize, i: usize) -> bool
+    ensures { Says (opt_c num_c) s.entry.bytes.now s.entry.end at (if_some (eqb i)) result }
+{
+    says::lists::opt_at::<Le<4>, _>(s, at, |p| crate::same_at(s, p, i))
+}
+
+fn member_at(s: Section, at: usize, i: usize) -> bool
+    ensures { Says (list_c num_c) s.entry.bytes.now s.entry.end at (member_of i) result }
+{
+    says::lists::any_at::<Le<4>, _>(s, at, |p| crate::same_at(s, p, i))
+}

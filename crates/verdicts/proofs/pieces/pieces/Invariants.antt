@@ -1,5 +1,0 @@
--- `pieces::pieces` ends, since each turn takes one of the turns, as many as the input has bytes.
-use Rattle.verdicts.proofs.pieces.pieces.Given as goal
-
-abbrev pub decreases-loop-turns : goal.decreases-loop-turns
-decreases-loop-turns l = l.turns

@@ -1,8 +1,0 @@
-use Prim.Native.Nat.{ℕ}
-use native.Mathlib.Omega.{arith}
-use lib.ListN.{length-replicate}
-use Rattle.writer.proofs.NestedLaws.{nested_hung}
-use Rattle.writer.proofs.few_rows.Goals as goal
-
-pub nested-requires : goal.nested-requires
-nested-requires c = nested_hung _ _ c.requires.0 (omega (arith, c.requires.1, length-replicate {A = ℕ} 736 0)) c.hang_rows.ensures
