@@ -222,6 +222,14 @@ def drop_unused(words, lines, ghost=False):
         words.need[module] = [n for n in names if used(n, body, ghost)]
 
 
+def respelled(words, m, form):
+    """An import, matched with its module and names, as it reads now: a line, or none where no name is left."""
+    names = read_use(words, m.group(1), split_names(m.group(2)))
+    if names is None:
+        return []
+    return [m.group(0) if names == "same" else form % (m.group(1), names)]
+
+
 # ---- specs and proofs
 
 def convert_antt(text, path, renamed):
@@ -235,10 +243,7 @@ def convert_antt(text, path, renamed):
         a = re.match(r"^use ([\w.\-]+) as (\S+)$", line)
         b = re.match(r"^use ([\w.\-]+)$", line)
         if m:
-            r = read_use(words, m.group(1), split_names(m.group(2)))
-            if r is None:
-                continue
-            out.append(line if r == "same" else "use %s.%s" % (m.group(1), r))
+            out += respelled(words, m, "use %s.%s")
         elif a:
             if read_alias(words, a.group(1), a.group(2)) is not None:
                 out.append(line)
@@ -255,7 +260,7 @@ def convert_antt(text, path, renamed):
     if words.option_module:
         words.wants("Rattle.std.specs.Option", "option_map")
     for alias, variants in words.aliases:
-        for v in set(variants.values()):
+        for v in sorted(set(variants.values())):
             words.wants(PRELUDE, v.split(" ")[0])
     if not (words.tokens or words.types or words.identity or words.need or renamed):
         return text
@@ -361,13 +366,7 @@ def convert_rt(text, path):
     beside = set()
     for line in lines:
         m = re.match(r"^ghost use ([\w.\-]+)\.\{(.*)\};$", line)
-        if m:
-            r = read_use(words, m.group(1), split_names(m.group(2)))
-            if r is None:
-                continue
-            out.append(line if r == "same" else "ghost use %s.%s;" % (m.group(1), r))
-            continue
-        out.append(line)
+        out += respelled(words, m, "ghost use %s.%s;") if m else [line]
     # imports of code
     text = "\n".join(out)
 
