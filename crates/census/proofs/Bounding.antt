@@ -1,13 +1,10 @@
 -- A bound on the count of instances: what one context has at most, multiplied down the loops.
 use Prim.Native.Nat.{ℕ, suc, ◌+◌, ◌-◌, ◌*◌, ◌≤◌, ◌<◌, min}
-use mathlib.Core.Path.{◌≡◌, sym, ap}
-use mathlib.Core.Bool.{true, false}
+use mathlib.Core.Path.{◌≡◌, ap}
 use mathlib.Core.List.{List, [], ◌∷◌}
-use native.Mathlib.Nat.{add-mul, mul-le-mul, mul-le-mul_right}
+use native.Mathlib.Nat.{add-mul, mul-le-mul_right}
 use native.Mathlib.Omega.{arith}
 use lib.ListN.{length, get_or}
-use lib.Dec.{ltb}
-use borrow.Author.Tests.{lt-ltb, le-ltb}
 use Rattle.format.specs.Job.{Job}
 use Rattle.format.specs.Ask as A
 use Rattle.plan.specs.Answers.{no_item, item_of}
@@ -64,9 +61,6 @@ module _ (j : Job) (h l i s : ℕ) (m : Most (outline_of j) h l i s) (count : �
       let q : below_from (outline_of j) h l c i ≡ 0 = ap (sum (entered_by (outline_of j) h c)) (loops_end j l i count e z) in
       omega (arith, m.most c, q, m.few)
 
-pub product_small : (w s : ℕ) → w ≤ 4096 → s ≤ too_many → w * s ≤ 268439552
-product_small w s h k = mul-le-mul h k
-
 pub most_end : (j : Job) (h l i s : ℕ) → Most (outline_of j) (h - 1) l i s → (count : ℕ) → count ≡ length (A.order_of j l) → (w r : ℕ) → count ≤ i → (h ≡ 0 → ⊥)
     → Width (outline_of j) l w → r ≡ min (w * s) too_many → AtMost (outline_of j) h l r
 most_end j h l i s m count e w r z d g f = record {
@@ -95,14 +89,3 @@ module _ (j : Job) (i n : ℕ) (s : RootsMost j i n) (count : ℕ) (e : count �
 
   pub roots_most_end : count ≤ i → min (census (outline_of j)) too_many ≤ n
   roots_most_end z = let q = roots_end j i count e z in omega (arith, q, s.most, s.few)
-
--- ---- the answer
-
-pub crowded_not : (n m : ℕ) → min n too_many ≤ m → m < too_many → false ≡ ltb 65536 n
-crowded_not n m f h = sym (le-ltb 65536 n (omega (arith, f)))
-
-pub counted_not : (n m : ℕ) → m ≡ min n too_many → m < too_many → false ≡ ltb 65536 n
-counted_not n m f h = crowded_not n m (omega (arith, f)) h
-
-pub crowded_so : (n m : ℕ) → m ≡ min n too_many → too_many ≤ m → true ≡ ltb 65536 n
-crowded_so n m f h = sym (lt-ltb 65536 n (omega (arith, f)))

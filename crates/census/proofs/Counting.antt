@@ -142,9 +142,6 @@ module _ (o : Outline) (nest : List ℕ) (h l n : ℕ) (from : Cursor) (m : ℕ)
         let none_below : entered_below o (h - 1) l (context_by (context_in cur r)) ≡ 0 = ap (sum (entered_by o (h - 1) (context_by (context_in cur r)))) (s.alone y) in
         entered_next (context_in cur r) w w leaf refl e (omega (arith, none_below, e), s.alone)
 
-    pub entered_less : length (coming o nest (behind cur r)) < length (coming o nest cur)
-    entered_less = let q : length (coming o nest cur) ≡ suc (length (coming o nest (behind cur r))) = ap length (came.given r z).came in omega (arith, q)
-
 -- ---- the roots, from place i on
 
 unfoldable pub roots_from : Outline → ℕ → ℕ

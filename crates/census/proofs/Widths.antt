@@ -103,9 +103,6 @@ module _ (n : List ℕ) (base many k last run best : ℕ) (s : Longest n base ma
       go p (yes y) = omega (arith, first p y, f)
       go p (no q) = omega (arith, no_more n base k p q, s.long p, f)
 
-  pub longest_all : many ≤ k → k ≤ many → (best ≤ many) × ((p : ℕ) → held_before n base many p ≤ best)
-  longest_all h m = let z : k ≡ many = omega arith in (omega (arith, s.small), λ p. rw (← z) (s.long p))
-
 -- ---- the rows of a table in a context
 
 cut_few : (t : ℕ) (run : Option Run) (xs : List ℕ) → length (cut_to t run xs) ≤ length xs

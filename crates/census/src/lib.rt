@@ -5,19 +5,19 @@
 ghost use Rattle.std.specs.Prelude.{◌≡◌, true, [], ℕ, ◌+◌, ◌*◌, ◌≤◌, ◌<◌, min, length, ltb};
 ghost use Rattle.nest.specs.Rising.{Climbs};
 ghost use Rattle.nest.specs.Outline.{item_loops, order_of};
-ghost use Rattle.nest.specs.Ready.{outline_at};
-ghost use Rattle.walk.specs.Nested.{Nested, Sound};
+ghost use Rattle.walk.specs.Nested.{Sound};
 ghost use Rattle.walk.specs.Contexts.{context_by};
 ghost use Rattle.walk.specs.Tour.{enters_in, visits, census};
 ghost use Rattle.walk.specs.Census.{too_many};
 ghost use Rattle.census.specs.Entered.{entered_below};
 ghost use Rattle.census.specs.Bounds.{held_before, Fan, Width, AtMost};
+ghost use Rattle.nest.specs.Job.{outline_by};
 
 use instances::Cursor;
 use nest::order::rises;
 use plan::answers::{Instances, Item};
 use spec::ids::{LoopId, TableId};
-use walk::Context;
+use walk::{Context, Nest};
 
 // A count, and whether the loop is a leaf: its order names no loop.
 #[derive(Clone, Copy)]
@@ -28,26 +28,18 @@ struct Count {
 
 // The count n, and the instances that are entered below an instance of loop l in context c, `height` levels deep.
 #[cycle(below_entered)]
-fn below(
-    job: &[u8],
-    index: &[u16],
-    nest: &[u32],
-    l: LoopId,
-    c: Context,
-    height: u32,
-    n: u32,
-) -> Count
-    requires { Nested job.now index.now nest.now × Sound (outline_at job.now) (context_by c) × (l.0 < 32) × (n ≤ too_many) }
-    ensures { (result.n ≡ min (n + entered_below (outline_at job.now) height l.0 (context_by c)) too_many) × (result.leaf ≡ true → item_loops (order_of (outline_at job.now) l.0) ≡ []) }
+fn below(nest: Nest, l: LoopId, c: Context, height: u32, n: u32) -> Count
+    requires { Sound (outline_by nest.job) (context_by c) × (l.0 < 32) × (n ≤ too_many) }
+    ensures { (result.n ≡ min (n + entered_below (outline_by nest.entry.job) height l.0 (context_by c)) too_many) × (result.leaf ≡ true → item_loops (order_of (outline_by nest.entry.job) l.0) ≡ []) }
 {
-    let count = plan::layout::order_count(job, index, l);
+    let count = plan::layout::order_count(nest.job.at, l);
     let mut m = n;
     let mut leaf = true;
     for i in 0..count {
-        match plan::layout::item(job, index, l, i) {
+        match plan::layout::item(nest.job.at, l, i) {
             Item::Segment(_) => {}
             Item::Loop(k) => {
-                m = entered(job, index, nest, k, c, height, m);
+                m = entered(nest, k, c, height, m);
                 leaf = false;
             }
         }
@@ -58,27 +50,19 @@ fn below(
 // The count n, and the instances that are entered by loop l in context c, `height` levels deep. Past the limit it looks no further. Below a leaf nothing is entered,
 // which its first instance shows.
 #[cycle(below_entered)]
-fn entered(
-    job: &[u8],
-    index: &[u16],
-    nest: &[u32],
-    l: LoopId,
-    c: Context,
-    height: u32,
-    n: u32,
-) -> u32
-    requires { Nested job.now index.now nest.now × Sound (outline_at job.now) (context_by c) × (l.0 < 32) × (n ≤ too_many) }
-    ensures { result ≡ min (n + enters_in (visits (outline_at job.now) height l.0 (context_by c))) too_many }
+fn entered(nest: Nest, l: LoopId, c: Context, height: u32, n: u32) -> u32
+    requires { Sound (outline_by nest.job) (context_by c) × (l.0 < 32) × (n ≤ too_many) }
+    ensures { result ≡ min (n + enters_in (visits (outline_by nest.entry.job) height l.0 (context_by c))) too_many }
 {
     if height == 0 {
         return n;
     }
     let mut m = n;
     let mut leaf = false;
-    let mut cur = instances::instances(job, index, nest, l, c, height);
+    let mut cur = instances::instances(nest, l, c, height);
     // No `for`: the count ends at the limit, wherever the instances stand.
     while m < 65537 {
-        let Some(next) = instances::next_instance(job, index, nest, cur) else {
+        let Some(next) = instances::next_instance(nest, cur) else {
             return m;
         };
         let with = walk::one_more(m);
@@ -86,7 +70,7 @@ fn entered(
             m = with;
         } else {
             let inner = instances::context_in(cur, next);
-            let b = below(job, index, nest, l, inner, height - 1, with);
+            let b = below(nest, l, inner, height - 1, with);
             m = b.n;
             leaf = b.leaf;
         }
@@ -98,17 +82,16 @@ fn entered(
 }
 
 // The number of instances that the walk enters, or 65,537 where there are more than 65,536.
-fn census(job: &[u8], index: &[u16], nest: &[u32]) -> u32
-    requires { Nested job.now index.now nest.now }
-    ensures { result ≡ min (census (outline_at job.now)) too_many }
+fn census(nest: Nest) -> u32
+    ensures { result ≡ min (census (outline_by nest.entry.job)) too_many }
 {
-    let count = spec::loops::root_count(job, index);
-    let height = spec::loops::loop_count(job, index);
+    let count = spec::loops::root_count(nest.job.at);
+    let height = spec::loops::loop_count(nest.job.at);
     let c = walk::outside();
     let mut n: u32 = 0;
     for i in 0..count {
-        let l = spec::loops::root(job, index, i);
-        n = entered(job, index, nest, l, c, height, n);
+        let l = spec::loops::root(nest.job.at, i);
+        n = entered(nest, l, c, height, n);
     }
     n
 }
@@ -138,17 +121,16 @@ fn longest(nest: &[u32], base: usize, rows: usize) -> u32
 }
 
 // No context has more rows of table t.
-fn fan(job: &[u8], index: &[u16], nest: &[u32], t: TableId) -> u32
-    requires { Nested job.now index.now nest.now }
-    ensures { Fan (outline_at job.now) t.0 result }
+fn fan(nest: Nest, t: TableId) -> u32
+    ensures { Fan (outline_by nest.entry.job) t.0 result }
 {
-    let rows = tables::data::row_count(job, index, t);
-    let parent = spec::tables::table_parent(job, index, t);
+    let rows = tables::data::row_count(nest.job.at, t);
+    let parent = spec::tables::table_parent(nest.job.at, t);
     match parent {
         Some(_) => {
-            if rises(nest, t) {
-                let base = tables::data::first_row(job, index, t) as usize;
-                return longest(nest, base, rows as usize);
+            if rises(nest.array, t) {
+                let base = tables::data::first_row(nest.job.at, t) as usize;
+                return longest(nest.array, base, rows as usize);
             }
             return rows;
         }
@@ -159,37 +141,37 @@ fn fan(job: &[u8], index: &[u16], nest: &[u32], t: TableId) -> u32
 }
 
 // No context has more instances of loop l.
-fn width(job: &[u8], index: &[u16], nest: &[u32], l: LoopId) -> u32
-    requires { Nested job.now index.now nest.now × (l.0 < 32) }
-    ensures { Width (outline_at job.now) l.0 result }
+fn width(nest: Nest, l: LoopId) -> u32
+    requires { l.0 < 32 }
+    ensures { Width (outline_by nest.entry.job) l.0 result }
 {
-    let kind = plan::planned::instances(job, index, l);
+    let kind = plan::planned::instances(nest.job.at, l);
     match kind {
         Instances::Absent => 0,
         Instances::Envelope => 1,
-        Instances::Rows(t) => fan(job, index, nest, t),
+        Instances::Rows(t) => fan(nest, t),
         Instances::Inside(_) => 1,
-        Instances::Groups(t) => fan(job, index, nest, t),
+        Instances::Groups(t) => fan(nest, t),
         Instances::Implied => 1,
     }
 }
 
 // In no context are more instances entered by loop l, `height` levels deep, as far as the limit.
-fn most(job: &[u8], index: &[u16], nest: &[u32], l: LoopId, height: u32) -> u32
-    requires { Nested job.now index.now nest.now × (l.0 < 32) }
-    ensures { AtMost (outline_at job.now) height l.0 result }
+fn most(nest: Nest, l: LoopId, height: u32) -> u32
+    requires { l.0 < 32 }
+    ensures { AtMost (outline_by nest.entry.job) height l.0 result }
 {
     if height == 0 {
         return 0;
     }
-    let w = width(job, index, nest, l);
-    let count = plan::layout::order_count(job, index, l);
+    let w = width(nest, l);
+    let count = plan::layout::order_count(nest.job.at, l);
     let mut s: u32 = 1;
     for i in 0..count {
-        match plan::layout::item(job, index, l, i) {
+        match plan::layout::item(nest.job.at, l, i) {
             Item::Segment(_) => {}
             Item::Loop(k) => {
-                let m = most(job, index, nest, k, height - 1);
+                let m = most(nest, k, height - 1);
                 s = (s + m).min(TOO_MANY);
             }
         }
@@ -198,31 +180,29 @@ fn most(job: &[u8], index: &[u16], nest: &[u32], l: LoopId, height: u32) -> u32
 }
 
 // The same of the whole walk.
-fn bound(job: &[u8], index: &[u16], nest: &[u32]) -> u32
-    requires { Nested job.now index.now nest.now }
-    ensures { min (census (outline_at job.now)) too_many ≤ result }
+fn bound(nest: Nest) -> u32
+    ensures { min (census (outline_by nest.entry.job)) too_many ≤ result }
 {
-    let count = spec::loops::root_count(job, index);
-    let height = spec::loops::loop_count(job, index);
+    let count = spec::loops::root_count(nest.job.at);
+    let height = spec::loops::loop_count(nest.job.at);
     let mut n: u32 = 0;
     for i in 0..count {
-        let l = spec::loops::root(job, index, i);
-        let m = most(job, index, nest, l, height);
+        let l = spec::loops::root(nest.job.at, i);
+        let m = most(nest, l, height);
         n = (n + m).min(TOO_MANY);
     }
     n
 }
 
 // Whether the walk enters more than 65,536 instances. They are counted only where the bound leaves it open.
-pub fn crowded(job: &[u8], index: &[u16], nest: &[u32]) -> bool
-    requires { Nested job.now index.now nest.now }
-    ensures { result ≡ ltb 65536 (census (outline_at job.now)) }
+pub fn crowded(nest: Nest) -> bool
+    ensures { result ≡ ltb 65536 (census (outline_by nest.entry.job)) }
 {
-    let m = bound(job, index, nest);
+    let m = bound(nest);
     if m < 65537 {
         return false;
     }
-    let n = census(job, index, nest);
+    let n = census(nest);
     if n < 65537 {
         return false;
     }

@@ -1,7 +1,7 @@
 -- Where a reading ends, as a number: the place behind the value, or one past the end where there is none. A law for each way to build a codec.
 -- And what stands at a place: `Is C b e at v`.
 use Prim.Native.Nat.{ℕ, zero, suc, ◌+◌, ◌-◌, ◌≤◌, ◌<◌}
-use Rattle.std.specs.Prelude.{◌≡◌, List, ◌∷◌, ◌⊎◌, get_or, leb, ltb}
+use Rattle.std.specs.Prelude.{◌≡◌, List, ◌∷◌, ◌⊎◌, get_or, leb, ltb, Option, None, Some}
 use Rattle.std.proofs.Math.Path.{refl, sym}
 use Rattle.std.proofs.Common.{◌∙◌, inl, inr, le-leb}
 use native.Mathlib.Omega.{arith}
@@ -164,6 +164,10 @@ skip_unit b at e h = simp (le-leb _ _ h)
 -- the byte of a case at a place; 256 where there is none
 unfoldable pub tag_at : List ℕ → ℕ → ℕ → ℕ
 tag_at b at e = pick (leb (at + 1) e) (get_or b at 0) 256
+
+-- the same as an option
+unfoldable pub case_of : List ℕ → ℕ → ℕ → Option ℕ
+case_of b at e = pick (leb (at + 1) e) (Some (tag_at b at e)) None
 
 -- the end of an enum with n cases that hold nothing
 unfoldable pub case_end : List ℕ → ℕ → ℕ → ℕ → ℕ

@@ -1,14 +1,15 @@
 -- The definitions that contracts of the smallest readers cite, and the ways that the code takes.
-use Rattle.std.specs.Prelude.{ℕ, zero, suc, ◌+◌, ◌*◌, ◌^◌, ◌≤◌, ◌<◌, ◌≡◌, List, Bool, ltb, eqb}
+use Rattle.std.specs.Prelude.{ℕ, zero, suc, ◌+◌, ◌*◌, ◌^◌, ◌≤◌, ◌<◌, ◌≡◌, List, Bool, ltb, eqb, Option, None, Some}
+use Rattle.std.specs.Option.{option_eq}
 use Rattle.std.proofs.Math.Path.{refl}
-use Rattle.std.proofs.Common.{sym, ◌∙◌, zero-mul, suc-mul, add-zero, mul-le-mul_left}
-use Rattle.std.proofs.Math.Bool.{true, false}
+use Rattle.std.proofs.Common.{sym, ap, ◌∙◌, eqb-true, zero-mul, suc-mul, add-zero, mul-le-mul_left}
+use Rattle.std.proofs.Math.Bool.{true, false, true≢false}
 use native.Mathlib.Omega.{arith}
 use Rattle.std.proofs.Math.ListN.{get_or}
 use Rattle.std.proofs.Math.Dec.{leb, leb-suc-suc}
-use borrow.Author.Tests.{le-leb, lt-leb, leb-true, leb-false, ne_eqb, lt-ltb, le-ltb}
+use borrow.Author.Tests.{le-leb, lt-leb, leb-true, leb-false, eq-eqb, ne_eqb, lt-ltb, le-ltb}
 use Rattle.codec.specs.Codec.{Codec, Cases, units_c, pick, le_c, le, unit_c, enum_c, ◌⊕◌, end_c, list_c}
-use Rattle.codec.specs.Skip.{skip, steps, skip_le, skip_short, skip_past, skip_list, skip_map, skip_enum, skip_no_case, skip_unit, skip_case_0, skip_case_suc, skip_case_end, skip_case, count_at, tag_at, case_end, value_le, value_short}
+use Rattle.codec.specs.Skip.{skip, steps, skip_le, skip_short, skip_past, skip_list, skip_map, skip_enum, skip_no_case, skip_unit, skip_case_0, skip_case_suc, skip_case_end, skip_case, count_at, tag_at, case_of, case_end, value_le, value_short}
 use Rattle.codec.specs.Forms.{flag_c, opt_c}
 
 -- the end of an option, where its value ends at p if it has one
@@ -71,6 +72,18 @@ steps_short w b e (suc n) p h q = go (leb (p + w) e) refl (steps_short w b e n (
         rw (skip_le w b p e s) (ih s (omega (arith, m)))
     go false r ih = rw (skip_short w b p e (leb-false _ _ r)) (at_end n)
 
+byte_or : Option ℕ → ℕ
+byte_or (Some x) = x
+byte_or None = 0
+
+how_many : Option ℕ → ℕ
+how_many (Some x) = 1
+how_many None = 0
+
+some_not : (x : ℕ) → Some x ≡ None → ⊥
+unfolding how_many
+some_not x h = let z : 1 ≡ 0 = ap how_many h in absurd (omega (arith, z))
+
 module _ (b : List ℕ) (at e : ℕ) where
   pub tag_case : (t : ℕ) → tag_at b at e ≡ t → t < 256 → at < e
   unfolding tag_at
@@ -79,6 +92,44 @@ module _ (b : List ℕ) (at e : ℕ) where
       go : (t : Bool) → leb (at + 1) e ≡ t → pick t (get_or b at 0) 256 < 256 → at < e
       go true q k = let r : at + 1 ≤ e = leb-true (at + 1) e q in omega arith
       go false q k = absurd (omega arith)
+
+  -- the byte of a case as an option: r is what was read
+  pub case_here : at < e → case_of b at e ≡ Some (get_or b at 0)
+  unfolding case_of
+  case_here h = let q : at + 1 ≤ e = omega arith in simp (le-leb _ _ q, tag_in b at e h)
+
+  pub case_gone : e ≤ at → case_of b at e ≡ None
+  unfolding case_of
+  case_gone h = let q : e < at + 1 = omega arith in simp (lt-leb _ _ q)
+
+  module _ (r : Option ℕ) (h : r ≡ case_of b at e) where
+    by_end : {G : Type 0} → (at < e → r ≡ Some (tag_at b at e) → G) → (e ≤ at → r ≡ None → G) → G
+    by_end {G} f g = go (leb (at + 1) e) refl
+      where
+        go : (t : Bool) → leb (at + 1) e ≡ t → G
+        go true q =
+            let q' : at + 1 ≤ e = leb-true (at + 1) e q in
+            let l : at < e = omega arith in
+            f l (h ∙ case_here l ∙ rw (tag_in b at e l))
+        go false q =
+            let q' : e < at + 1 = leb-false (at + 1) e q in
+            let l : e ≤ at = omega arith in
+            g l (h ∙ case_gone l)
+
+    pub case_some : (t : ℕ) → r ≡ Some t → t ≡ tag_at b at e
+    unfolding byte_or tag_at
+    case_some t i = by_end (λ l j. ap byte_or (sym i ∙ j)) (λ l j. absurd (some_not _ (sym i ∙ j)))
+
+    pub case_none : r ≡ None → 256 ≡ tag_at b at e
+    case_none i = by_end (λ l j. absurd (some_not _ (sym j ∙ i))) (λ l j. sym (tag_out b at e l))
+
+    -- whether it is t
+    module _ (u : Bool) (t : ℕ) (k : u ≡ option_eq eqb r (Some t)) where
+      pub case_is : u ≡ true → t ≡ tag_at b at e
+      case_is i = by_end (λ l j. sym (eqb-true _ _ (sym (rw j at k) ∙ i))) (λ l j. absurd (true≢false (sym i ∙ rw j at k)))
+
+      pub case_not : u ≡ false → t < 256 → tag_at b at e ≡ t → ⊥
+      case_not i l m = by_end (λ n j. absurd (true≢false (sym (eq-eqb (tag_at b at e) t m) ∙ sym (rw j at k) ∙ i))) (λ n j. omega (arith, tag_out b at e n))
 
   pub count_short : e < at + 4 → count_at b at e ≡ 0
   unfolding count_at

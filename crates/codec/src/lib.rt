@@ -6,7 +6,7 @@ mod section;
 
 ghost use Rattle.std.specs.Prelude.{◌≡◌, ℕ, ◌+◌, ◌≤◌, ◌<◌, ◌^◌, get_or, length, set, [], ◌∷◌, true, IfSome, Option};
 ghost use Rattle.codec.specs.Codec.{le, le_c, list_c, pick};
-ghost use Rattle.codec.specs.Skip.{skip, count_at, tag_at, case_end, Is};
+ghost use Rattle.codec.specs.Skip.{skip, count_at, case_of, case_end};
 ghost use Rattle.codec.specs.Forms.{num_c, bytes_c, opt_c};
 ghost use Rattle.codec.specs.Ways.{opt_end};
 ghost use Rattle.codec.specs.Strings.{less_at, ok_at};
@@ -176,16 +176,4 @@ pub fn either(x: bool, y: bool) -> bool
         return true;
     }
     y
-}
-
-// A number that may be absent.
-pub fn opt_num(b: &[u8], at: usize) -> Option<usize>
-    requires { at < 4294967296 }
-    ensures { (e : ℕ) (v : Option ℕ) → Is (opt_c num_c) b.now e at v → result ≡ v }
-{
-    let t = byte_at(b, at);
-    if t == 0 {
-        return None;
-    }
-    Some(num(b, at + 1))
 }

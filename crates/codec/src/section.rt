@@ -12,7 +12,7 @@ pub struct Section<'a> {
 impl<'a> Section<'a> {
     ghost use Rattle.std.specs.Prelude.{◌≡◌, ◌+◌, ◌<◌};
     ghost use Rattle.codec.specs.Codec.{le_c, list_c};
-    ghost use Rattle.codec.specs.Skip.{count_at, tag_at, case_end};
+    ghost use Rattle.codec.specs.Skip.{count_at, case_of, case_end};
     ghost use Rattle.codec.specs.Forms.{num_c, bytes_c, opt_c};
     ghost use Rattle.codec.specs.Ways.{opt_end};
     ghost use Rattle.codec.specs.Within.{ends};
@@ -68,39 +68,35 @@ impl<'a> Section<'a> {
         p + n * w as usize
     }
 
-    // The byte of a case at a place, 256 where there is none.
-    pub fn tag_at(self, at: usize) -> usize
-        ensures { result ≡ tag_at self.entry.bytes.now at self.entry.end }
+    // The byte of a case at a place, if there is one.
+    pub fn case(self, at: usize) -> Option<u8>
+        ensures { result ≡ case_of self.entry.bytes.now at self.entry.end }
     {
         if self.end as usize <= at {
-            return 256;
+            return None;
         }
-        crate::byte_in(self.bytes, at)
+        Some(self.bytes[at])
     }
 
     // The end of an option whose value, if it has one, ends at p.
     pub fn opt_end(self, at: usize, p: usize) -> usize
         ensures { result ≡ opt_end self.entry.bytes.now at self.entry.end p }
     {
-        let t = self.tag_at(at);
-        if t == 0 {
-            return at + 1;
+        match self.case(at) {
+            Some(0) => at + 1,
+            Some(1) => p,
+            _ => self.past(),
         }
-        if t == 1 {
-            return p;
-        }
-        self.end as usize + 1
     }
 
     // An enum of n cases that hold nothing.
     pub fn case_at(self, n: u8, at: usize) -> usize
         ensures { result ≡ case_end self.entry.bytes.now at self.entry.end n }
     {
-        let t = self.tag_at(at);
-        if t < n as usize {
-            return at + 1;
+        match self.case(at) {
+            Some(t) if t < n => at + 1,
+            _ => self.past(),
         }
-        self.end as usize + 1
     }
 
     pub fn bytes_at(self, at: usize) -> usize

@@ -26,7 +26,7 @@ pub struct Marks {
 fn mark_at(s: Section, at: usize, m: Marks) -> bool
     ensures { Says byte_c s.entry.bytes.now s.entry.end at (mark m) result }
 {
-    let c = s.tag_at(at);
+    let c = codec::byte_at(s.bytes, at);
     let x = m.element;
     let y = m.component;
     let z = m.segment;
@@ -50,7 +50,7 @@ fn texts_marked(s: Section, at: usize, m: Marks) -> bool
 fn value_marked(s: Section, at: usize, m: Marks) -> bool
     ensures { Says value_c s.entry.bytes.now s.entry.end at (marked_value m) result }
 {
-    if s.tag_at(at) == 2 {
+    if s.case(at) == Some(2) {
         let p = s.le_at(1, at);
         return text_marked(s, p, m);
     }

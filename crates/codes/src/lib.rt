@@ -14,13 +14,14 @@ ghost use Rattle.says.specs.Says.{Says};
 ghost use Rattle.codes.specs.Codes.{MarksOf, marked_spec};
 ghost use Rattle.complete.specs.Decides.{Decides};
 ghost use Rattle.complete.specs.Complete.{CodesClear};
-ghost use Rattle.nest.specs.Ready.{Ready};
 ghost use Rattle.codes.specs.Fits.{MapsFit, RulesFit};
+ghost use Rattle.nest.specs.Job.{job_by};
 
 use crate::codes::Marks;
 use codec::forms::{BytesMap, Items, NumMap};
 use codec::{Form, Section};
 use format::{Element, Loop, Table};
+use nest::Job;
 
 // One of the trailer's numbers: k is its place there.
 pub fn start(b: &[u8], k: u8) -> u32
@@ -60,13 +61,12 @@ pub fn maps_fit(job: &[u8]) -> bool
     !maps::segments_low(s, roots)
 }
 
-fn marks(job: &[u8], index: &[u16]) -> Marks
-    requires { Ready job.now index.now }
-    ensures { MarksOf (job_of job.now) result }
+fn marks(job: Job) -> Marks
+    ensures { MarksOf (job_by job.entry) result }
 {
-    let element = spec::envelope::element_separator(job, index);
-    let component = spec::envelope::component_separator(job, index);
-    let segment = spec::envelope::segment_terminator(job, index);
+    let element = spec::envelope::element_separator(job.at);
+    let component = spec::envelope::component_separator(job.at);
+    let segment = spec::envelope::segment_terminator(job.at);
     Marks {
         element: element as usize,
         component: component as usize,
@@ -87,16 +87,15 @@ fn spec_marked(s: Section, m: Marks) -> bool
 }
 
 // Codes in plan and spec, and the version's first value.
-pub fn codes_clear(job: &[u8], index: &[u16]) -> bool
-    requires { Ready job.now index.now }
-    ensures { Decides result (CodesClear (job_of job.now)) }
+pub fn codes_clear(job: Job) -> bool
+    ensures { Decides result (CodesClear (job_by job.entry)) }
 {
-    let m = marks(job, index);
-    let plan = start(job, 4);
-    let layout = start(job, 8);
+    let m = marks(job);
+    let plan = start(job.at.bytes, 4);
+    let layout = start(job.at.bytes, 8);
     let x = codes::plan_marked(
         Section {
-            bytes: job,
+            bytes: job.at.bytes,
             end: layout,
         },
         plan as usize,
@@ -104,7 +103,7 @@ pub fn codes_clear(job: &[u8], index: &[u16]) -> bool
     );
     let y = spec_marked(
         Section {
-            bytes: job,
+            bytes: job.at.bytes,
             end: plan,
         },
         m,

@@ -57,6 +57,9 @@ pub fn bytes_cell(job: &[u8], at: usize, n: usize, row: u32) -> Cell
     }
 }
 
+// The three readers of numbers that follow are no one function of the width: it would take the validity's place and answer a place or a cell,
+// and each kind would match on that again to make its own cell.
+
 // The cell of a row in the column of n numbers of 64 bits that stands at a place.
 pub fn int_cell(job: &[u8], at: usize, n: usize, row: u32) -> Cell
     requires { (at < 2199023255552) × (n < 4294967296) × (get_or job.now at 0 ≡ 1) × (n ≡ le 4 job.now (at + 1)) }

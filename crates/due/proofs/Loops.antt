@@ -158,9 +158,6 @@ module _ (j : Job) (l i n : ℕ) (c : n ≡ length (A.plan_of j l).segments) whe
   pub opener_is : (s : P.Source) (x : Bool) → i < n → s ≡ (A.planned_of j l i).source → x ≡ is_opener (source_in s) → x ≡ ltb i (planned (outline_of j) l) && is_opener (segment_of (outline_of j) l i).source
   opener_is s x h e d = d ∙ ap is_opener (source_is j l i s e) ∙ sym (rw (lt-ltb i (planned (outline_of j) l) (omega (arith, c, h, planned_is j l))))
 
-pub opens_segment : (o : Outline) (l i : ℕ) (item : Item) (x : Bool) → item ≡ Segment i → x ≡ ltb i (planned o l) && is_opener (segment_of o l i).source → x ≡ opens_at o l (item_in (item_of item))
-opens_segment o l i item x e d = rw e d
-
 module _ (j : Job) (l k n : ℕ) (c : n ≡ length (A.order_of j l)) (w : opened (outline_of j) l ≡ T.opens_from (outline_of j) l k) where
   items : length (order_of (outline_of j) l) ≡ n
   items = order_length j l ∙ sym c

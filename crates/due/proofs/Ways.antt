@@ -33,14 +33,6 @@ pub apart : (b : List ℕ) (r s : Read) (x y : Cell) (z : Bool) → Reads b r (S
     → not z ≡ not (same_cell x y)
 apart b r s x y z h i e = ap not (e (Some x) (Some y) h i ∙ answers_cells x y)
 
--- the column that a planned value names
-pub column_value : (q : ℕ → Bool) (b : List ℕ) (v : ValueSource) (n : ℕ) (x : Bool) → v ≡ Column n → x ≡ q n → x ≡ some_of q (column_in (value_of b v))
-column_value q b v n x e h = h ∙ rw e (go (q n))
-  where
-    go : (y : Bool) → y ≡ y || false
-    go true = refl
-    go false = refl
-
 -- ---- a search over lists put together
 
 some_append : {A : Type 0} (q : A → Bool) (xs ys : List A) → some_of q (xs ++ ys) ≡ some_of q xs || some_of q ys
@@ -95,6 +87,10 @@ module _ {b : List ℕ} (q : ℕ → Bool) {vs : List P.ElementPlan} {n p k : �
 pub filled_columns : (j : Job) (l i t r : ℕ) → (outline_of j).filled l i t r ≡ some_of (has_value j t r) (columns_in (A.planned_of j l i))
 unfolding filled_in
 filled_columns j l i t r = filled_is j l i t r
+
+-- the same, by the planned elements
+pub filled_some : (j : Job) (l i t r : ℕ) → (outline_of j).filled l i t r ≡ some_of (names (has_value j t r)) (A.planned_of j l i).elements
+filled_some j l i t r = filled_columns j l i t r ∙ columns_some (has_value j t r) (A.planned_of j l i)
 
 -- ---- the tables of a loop with groups and of a repeat segment; 0 where there is none
 

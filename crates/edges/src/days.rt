@@ -1,9 +1,10 @@
 // Dates of cells and of the envelope, by the days since 1970-01-01.
-use crate::shown::{at_most, said, signed};
+use crate::shown::both;
 use std::io;
+use texts::render::{date_text, envelope_date};
 
 // The day and the element's max, 99 for none.
-const ROWS: [[i32; 2]; 46] = [
+pub(crate) const ROWS: [[i32; 2]; 46] = [
     // document 01
     [0, 8],
     [-719162, 8],
@@ -60,18 +61,6 @@ const ROWS: [[i32; 2]; 46] = [
     [-2147483647, 6],
 ];
 
-fn row(rt: &impl Print, r: [i32; 2]) -> io::Result<()> {
-    let days = r[0];
-    let max = r[1];
-    signed(rt, b"date ", days, max)?;
-    said(rt, texts::render::date_text(days, at_most(max)))?;
-    signed(rt, b"envelope ", days, max)?;
-    said(rt, texts::render::envelope_date(days, at_most(max)))
-}
-
-pub(crate) fn all(rt: &impl Print) -> io::Result<()> {
-    for x in ROWS {
-        row(rt, x)?;
-    }
-    Ok(())
+pub(crate) fn row(rt: &impl Print, r: [i32; 2]) -> io::Result<()> {
+    both(rt, "date", r, date_text, envelope_date)
 }

@@ -1,10 +1,9 @@
 // Decimals.
-use crate::shown::{label, named, show};
 use std::io;
-use texts::number::Wide;
+use texts::number::{Wide, decimal_text};
 
 // The high half, the low half and the scale.
-const ROWS: [[u64; 3]; 42] = [
+pub(crate) const ROWS: [[u64; 3]; 42] = [
     // document 01
     [0xffffffffffffffff, 0xffffffffffffff6a, 2],
     [0x0, 0x5, 2],
@@ -55,23 +54,8 @@ const ROWS: [[u64; 3]; 42] = [
     [0x8000000000000000, 0x0, 255],
 ];
 
-fn row(rt: &impl Print, r: [u64; 3]) -> io::Result<()> {
-    let hi = r[0];
-    let lo = r[1];
-    let scale = r[2];
-    named(rt, b"decimal ")?;
-    label(rt, hi)?;
-    label(rt, lo)?;
-    print!(rt; "{scale}")?;
-    show(
-        rt,
-        texts::number::decimal_text(Wide { lo, hi }, (scale % 256) as u8),
-    )
-}
-
-pub(crate) fn all(rt: &impl Print) -> io::Result<()> {
-    for x in ROWS {
-        row(rt, x)?;
-    }
-    Ok(())
+pub(crate) fn row(rt: &impl Print, r: [u64; 3]) -> io::Result<()> {
+    let [hi, lo, scale] = r;
+    let text = decimal_text(Wide { lo, hi }, (scale % 256) as u8);
+    println!(rt; "decimal {hi:016x} {lo:016x} {scale}: {text}")
 }

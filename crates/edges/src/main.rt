@@ -8,12 +8,13 @@ mod shown;
 mod wholes;
 mod widths;
 
+use shown::each;
 use std::io;
 
 fn main(rt: HostRuntime) -> io::Result<()> {
-    days::all(&rt)?;
-    seconds::all(&rt)?;
-    decimals::all(&rt)?;
-    wholes::all(&rt)?;
-    widths::all(&rt)
+    each(&days::ROWS, |r| days::row(&rt, r))?;
+    each(&seconds::ROWS, |r| seconds::row(&rt, r))?;
+    each(&decimals::ROWS, |r| decimals::row(&rt, r))?;
+    each(&wholes::ROWS, |bits| wholes::row(&rt, bits))?;
+    each(&widths::ROWS, |r| widths::row(&rt, r))
 }

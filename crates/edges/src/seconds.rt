@@ -1,9 +1,10 @@
 // Times of cells and of the envelope, by the seconds since midnight.
-use crate::shown::{at_most, said, signed};
+use crate::shown::both;
 use std::io;
+use texts::render::{envelope_time, time_text};
 
 // The second and the element's max, 99 for none.
-const ROWS: [[i32; 2]; 26] = [
+pub(crate) const ROWS: [[i32; 2]; 26] = [
     // document 01
     [0, 99],
     [3661, 99],
@@ -37,18 +38,6 @@ const ROWS: [[i32; 2]; 26] = [
     [-2147483647, 8],
 ];
 
-fn row(rt: &impl Print, r: [i32; 2]) -> io::Result<()> {
-    let seconds = r[0];
-    let max = r[1];
-    signed(rt, b"time ", seconds, max)?;
-    said(rt, texts::render::time_text(seconds, at_most(max)))?;
-    signed(rt, b"envelope ", seconds, max)?;
-    said(rt, texts::render::envelope_time(seconds, at_most(max)))
-}
-
-pub(crate) fn all(rt: &impl Print) -> io::Result<()> {
-    for x in ROWS {
-        row(rt, x)?;
-    }
-    Ok(())
+pub(crate) fn row(rt: &impl Print, r: [i32; 2]) -> io::Result<()> {
+    both(rt, "time", r, time_text, envelope_time)
 }

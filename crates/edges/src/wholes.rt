@@ -1,8 +1,8 @@
 // Whole numbers of 64 bits, signed and not.
-use crate::shown::{label, named, show};
 use std::io;
+use texts::number::{count_text, from_bits64, int_text};
 
-const VALUES: [u64; 15] = [
+pub(crate) const ROWS: [u64; 15] = [
     0x0,
     0x1,
     0x9,
@@ -20,21 +20,9 @@ const VALUES: [u64; 15] = [
     0xffffffffffffffff,
 ];
 
-fn row(rt: &impl Print, bits: u64) -> io::Result<()> {
-    named(rt, b"signed ")?;
-    label(rt, bits)?;
-    show(
-        rt,
-        texts::number::int_text(texts::number::from_bits64(bits)),
-    )?;
-    named(rt, b"count ")?;
-    label(rt, bits)?;
-    show(rt, texts::number::count_text(bits))
-}
-
-pub(crate) fn all(rt: &impl Print) -> io::Result<()> {
-    for x in VALUES {
-        row(rt, x)?;
-    }
-    Ok(())
+pub(crate) fn row(rt: &impl Print, bits: u64) -> io::Result<()> {
+    let signed = int_text(from_bits64(bits));
+    let count = count_text(bits);
+    println!(rt; "signed {bits:016x} : {signed}")?;
+    println!(rt; "count {bits:016x} : {count}")
 }

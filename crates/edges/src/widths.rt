@@ -1,9 +1,10 @@
 // Padding of envelope values and control numbers; a bar stands behind each text.
-use crate::shown::{head, named, run, spaced};
+use crate::shown::bound;
 use std::io;
+use texts::envelope::{Padding, control_padding, pad};
 
 // The length of the text, whether it is a number, the min and the max; 99 for none.
-const ROWS: [[usize; 4]; 16] = [
+pub(crate) const ROWS: [[usize; 4]; 16] = [
     // elements of the X12 envelope: ISA02, ISA06, ISA08, ISA13, GS02, GS06
     [0, 0, 10, 10],
     [6, 0, 15, 15],
@@ -24,39 +25,12 @@ const ROWS: [[usize; 4]; 16] = [
     [6, 0, 4, 4],
 ];
 
-fn at_width(n: usize) -> Option<usize> {
-    if n == 99 { None } else { Some(n) }
-}
-
-fn value(rt: &impl Print, len: usize, numeric: usize, min: usize, max: usize) -> io::Result<()> {
-    let p = texts::envelope::pad(len, numeric == 1, at_width(min), at_width(max));
-    run(rt, 48, p.zeros)?;
-    head(rt, b"123456789012345", len)?;
-    run(rt, 32, p.spaces)?;
-    named(rt, b"|\n")
-}
-
-fn control(rt: &impl Print, len: usize, min: usize) -> io::Result<()> {
-    named(rt, b"control: ")?;
-    run(rt, 48, texts::envelope::control_padding(len, at_width(min)))?;
-    head(rt, b"123456789012345", len)?;
-    named(rt, b"|\n")
-}
-
-fn row(rt: &impl Print, r: [usize; 4]) -> io::Result<()> {
-    named(rt, b"pad ")?;
-    spaced(rt, r[0])?;
-    spaced(rt, r[1])?;
-    spaced(rt, r[2])?;
-    spaced(rt, r[3])?;
-    named(rt, b": ")?;
-    value(rt, r[0], r[1], r[2], r[3])?;
-    control(rt, r[0], r[2])
-}
-
-pub(crate) fn all(rt: &impl Print) -> io::Result<()> {
-    for x in ROWS {
-        row(rt, x)?;
-    }
-    Ok(())
+pub(crate) fn row(rt: &impl Print, r: [usize; 4]) -> io::Result<()> {
+    let [len, numeric, min, max] = r;
+    let none = "";
+    let text = "123456789012345";
+    let Padding { zeros, spaces } = pad(len, numeric == 1, bound(min), bound(max));
+    println!(rt; "pad {len} {numeric} {min} {max} : {none:0>zeros$}{text:.len$}{none:spaces$}|")?;
+    let front = control_padding(len, bound(min));
+    println!(rt; "control: {none:0>front$}{text:.len$}|")
 }

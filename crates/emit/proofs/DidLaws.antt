@@ -3,18 +3,18 @@ use Prim.Native.Nat.{ℕ, ◌≤◌, ◌<◌}
 use mathlib.Core.Path.{◌≡◌, refl, sym, ap, ◌∙◌}
 use mathlib.Core.List.{List, [], ◌∷◌, ◌++◌, append_assoc}
 use native.Mathlib.Omega.{arith}
+use Rattle.std.specs.Prelude.{None}
 use lib.ListN.{length, get_or, set}
 use lib.Seq.{set-get_or}
 use Rattle.lent.specs.Fit.{cap, more, Stored}
 use Rattle.lent.proofs.Laws.{stored_append, stored_length, stored_small}
 use Rattle.walk.specs.Tour.{Stop}
-use Rattle.emit.specs.declared.state.Mark.{Mark}
 use Rattle.emit.specs.declared.state.Counts.{Counts}
 use Rattle.emit.specs.declared.state.State.{State}
 use Rattle.emit.specs.Fold as F
 use Rattle.emit.specs.Fold.{quiet, and_then}
 use Rattle.emit.specs.Written.{words_of}
-use Rattle.emit.specs.Did.{state_of, state_with, no_mark, traced_word, traced_words, stop_word, stop_words, Did, DidMark, DidNumber, Fit, Small}
+use Rattle.emit.specs.Did.{Mark, state_of, state_with, traced_word, traced_words, stop_word, stop_words, Did, DidMark, DidNumber, Fit, Small}
 use Rattle.emit.proofs.FindingLaws.{stored_findings, none_stored}
 
 traced_append : (a b : List F.Traced) → traced_words (a ++ b) ≡ traced_words a ++ traced_words b
@@ -79,9 +79,9 @@ did_small {o} x = record {
 
 -- ---- what code did that was given a part of the state
 
-pub did_mark : {n : Mark} {c : Counts} {d d₁ g g₁ f f₁ p p₁ : List ℕ} (o : F.State → F.Out) (s : State) (t : ℕ) (m : Mark) → m ≡ get_or s.high t no_mark → t < length s.high
+pub did_mark : {n : Mark} {c : Counts} {d d₁ g g₁ f f₁ p p₁ : List ℕ} (o : F.State → F.Out) (s : State) (t : ℕ) (m : Mark) → m ≡ get_or s.high t None → t < length s.high
     → DidMark t o m n s.counts c d d₁ g g₁ f f₁ p p₁ → Did (o (state_of s)) s (state_with (set s.high t n) s.counter c) d d₁ g g₁ f f₁ p p₁
-did_mark o s t m e h x = rw (e, set-get_or s.high t no_mark) at (x s.high s.counter h)
+did_mark o s t m e h x = rw (e, set-get_or s.high t None) at (x s.high s.counter h)
 
 pub did_number : {b : ℕ} {c : Counts} {d d₁ g g₁ f f₁ p p₁ : List ℕ} (o : F.State → F.Out) (s : State) (l a : ℕ) → a ≡ get_or s.counter l 0 → l < length s.counter
     → DidNumber l o a b s.counts c d d₁ g g₁ f f₁ p p₁ → Did (o (state_of s)) s (state_with s.high (set s.counter l b) c) d d₁ g g₁ f f₁ p p₁

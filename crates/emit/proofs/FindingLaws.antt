@@ -23,7 +23,7 @@ use Rattle.segment.proofs.Texts.{none_of}
 use Rattle.nest.specs.Finding.{Finding, Origin, cell, field, Place, of_text, delimiter, not_writable, record_of}
 use Rattle.emit.specs.declared.findings.Spot.{Spot}
 use Rattle.emit.specs.Puts.{held_in, unwritten}
-use Rattle.emit.specs.Written.{spot_of, spotted, words_of, tried_last, tried, repetition_of}
+use Rattle.emit.specs.Written.{spot_of, spotted, words_of, tried_last, tried}
 
 spot_words : (w : Spot) (o : Origin) (p : Place) (kind a b : ℕ) → w ≡ spot_of o p → spotted kind w a b ≡ of_text kind o p a b
 spot_words w (cell t r c) p kind a b e = rw e
@@ -137,11 +137,11 @@ still_fits {items = items} h s = rw (stored_length items s) h
 
 -- ---- the separators of a job
 
-pub tried_separators : (e : Envelope) (d : Delimiters) → d.element ≡ e.element → d.component ≡ e.component → d.segment ≡ e.segment → repetition_of d.repetition ≡ e.repetition
+pub tried_separators : (e : Envelope) (d : Delimiters) → d.element ≡ e.element → d.component ≡ e.component → d.segment ≡ e.segment → d.repetition ≡ e.repetition
     → tried d ≡ separators e
 unfolding separators
 tried_separators e d a b c r = rw (a, b, c, ← r) (go d.repetition)
   where
-    go : (x : Rust.Option ℕ) → e.element ∷ e.component ∷ e.segment ∷ tried_last x ≡ separators (record { sender_qualifier = e.sender_qualifier; sender_id = e.sender_id; receiver_qualifier = e.receiver_qualifier; receiver_id = e.receiver_id; application_sender = e.application_sender; application_receiver = e.application_receiver; date = e.date; time = e.time; usage_indicator = e.usage_indicator; control_number = e.control_number; element = e.element; component = e.component; segment = e.segment; repetition = repetition_of x; line_break = e.line_break })
+    go : (x : Rust.Option ℕ) → e.element ∷ e.component ∷ e.segment ∷ tried_last x ≡ separators (record { sender_qualifier = e.sender_qualifier; sender_id = e.sender_id; receiver_qualifier = e.receiver_qualifier; receiver_id = e.receiver_id; application_sender = e.application_sender; application_receiver = e.application_receiver; date = e.date; time = e.time; usage_indicator = e.usage_indicator; control_number = e.control_number; element = e.element; component = e.component; segment = e.segment; repetition = x; line_break = e.line_break })
     go None = refl
     go (Some x) = refl

@@ -1,12 +1,12 @@
 -- Letters, digits, spaces, minus signs and points are no separators of a job that passed (refusal 5): the texts of numbers, dates and times have no such finding.
-use Prim.Native.Nat.{ℕ, zero, suc, ◌+◌, ◌/◌, ◌%◌, ◌^◌, ◌≤◌, ◌<◌}
+use Prim.Native.Nat.{ℕ, zero, suc, ◌+◌, ◌/◌, ◌%◌, ◌≤◌, ◌<◌}
 use mathlib.Core.Path.{◌≡◌, refl, sym, ap, ◌∙◌}
 use mathlib.Core.Bool.{Bool, true, false, false≢true}
 use mathlib.Core.List.{List, [], ◌∷◌, ◌++◌}
 use native.Mathlib.Omega.{arith}
 use lib.Dec.{eqb, leb}
 use lib.IntN.{ℤ, pos, negsuc, nat_abs}
-use lib.ListN.{replicate, length-append}
+use lib.ListN.{replicate}
 use borrow.Author.Tests.{eqb-true, leb-true, le-leb}
 use Rattle.codec.specs.Codec.{pick}
 use Rattle.codec.specs.Limits.{any, any_of, none_of}
@@ -19,14 +19,12 @@ use Rattle.column.specs.declared.Cell.TheVariants.{None, Null, Bytes, Int, Wide,
 use Rattle.column.specs.Answers.{cell_at}
 use Rattle.texts.specs.Calendar.{Day, and, leap, civil_of, near}
 use Rattle.texts.specs.Reason.{Width, Outcome, gives, refuses, pick as choose, shorter}
-use Rattle.texts.specs.Number.{figures, count_text, minus, negative, int_text, trimmed, pointed, fixed_text, decimal_text}
+use Rattle.texts.specs.Number.{count_text, int_text, decimal_text}
 use Rattle.texts.specs.DateText.{two, month_day, long_date, short_date, day_text, date_text}
 use Rattle.texts.specs.DateText.{between as within}
 use Rattle.texts.specs.Clock.{within_day, hours_minutes, hours_minutes_seconds, clock, time_text}
 use Rattle.texts.proofs.Dates.{month_long, civil_valid}
-use Rattle.texts.proofs.Sizes.{count_has, count_some, int_has, decimal_has}
-use Rattle.segment.specs.Parts.{is_empty}
-use Rattle.segment.proofs.Texts.{some_there}
+use Rattle.texts.proofs.Sizes.{count_has, int_has, decimal_has}
 use Rattle.nest.specs.Lists.{All}
 use Rattle.nest.proofs.Alls.{all_append}
 use Rattle.nest.specs.Finding.{Origin, Place}
@@ -85,14 +83,6 @@ int_textual z = int_has Textual tt figure_first z minus_first
 
 pub decimal_textual : (z : ℤ) (scale : ℕ) → Textual (decimal_text z scale)
 decimal_textual z scale = decimal_has Textual tt figure_first z scale minus_first point_first
-
-pub int_filled : (z : ℤ) → is_empty (int_text z) ≡ false
-unfolding int_text
-int_filled z = some_there (minus (negative z) ++ count_text (nat_abs z)) (rw (length-append (minus (negative z)) (count_text (nat_abs z))) (omega (arith, count_some (nat_abs z))))
-
-pub decimal_filled : (z : ℤ) (scale : ℕ) → is_empty (decimal_text z scale) ≡ false
-unfolding decimal_text fixed_text
-decimal_filled z scale = some_there (minus (negative z) ++ (count_text (nat_abs z / 10 ^ scale) ++ pointed (trimmed (figures scale (nat_abs z))))) (rw (length-append, length-append) (omega (arith, count_some (nat_abs z / 10 ^ scale))))
 
 -- ---- dates and times
 

@@ -1,6 +1,6 @@
 -- What planned places put, one place after the other: for loops that step through the planned elements.
 use Prim.Native.Nat.{ℕ, zero, suc, ◌+◌, ◌≤◌, ◌<◌, max}
-use mathlib.Core.Path.{◌≡◌, refl, ap, ◌∙◌}
+use mathlib.Core.Path.{◌≡◌, refl}
 use mathlib.Core.List.{List, [], ◌∷◌, ◌++◌}
 use native.Mathlib.Numerals.{add-one}
 use native.Mathlib.Omega.{arith}
@@ -15,9 +15,8 @@ use Rattle.nest.specs.Finding.{cell}
 use Rattle.texts.specs.Reason.{why_in}
 use Rattle.emit.specs.declared.cells.Written.{Written}
 use Rattle.emit.specs.declared.findings.Delimiters.{Delimiters}
-use Rattle.emit.specs.Puts.{Put, nothing, and_put, put_all, cell_outcome, place_of, part_at, held_in, delimited, unwritten, put_cell}
-use Rattle.emit.specs.Written.{Writes, words_of, tried}
-use Rattle.emit.proofs.FindingLaws.{words_append}
+use Rattle.emit.specs.Puts.{Put, nothing, and_put, put_all, cell_outcome, place_of, held_in, delimited, unwritten, put_cell}
+use Rattle.emit.specs.Written.{Writes, tried}
 
 none_left : {A : Type 0} (k : ℕ) (es : List A) → length es ≤ k → drop k es ≡ []
 none_left zero [] h = refl
@@ -33,11 +32,6 @@ module _ {A : Type 0} (f : A → Put) (es : List A) (k : ℕ) where
   pub put_end : length es ≤ k → put_all f (drop k es) ≡ nothing
   put_end h = rw (none_left k es h)
 
-  -- the findings that are still to be stored
-  pub findings_next : (d : A) → k < length es
-      → words_of (put_all f (drop k es)).findings ≡ words_of (f (get_or es k d)).findings ++ words_of (put_all f (drop (k + 1) es)).findings
-  findings_next d h = ap (λ (p : Put). words_of p.findings) (put_next d h) ∙ words_append (f (get_or es k d)).findings (put_all f (drop (k + 1) es)).findings
-
 -- the highest number of a filled part, part by part
 pub highest_append : (g : Part → ℕ) (a b : List Part) → highest g (a ++ b) ≡ max (highest g a) (highest g b)
 unfolding highest
@@ -46,15 +40,7 @@ highest_append g (x ∷ a) b = rw (highest_append g a b) (omega arith)
 
 -- a cell's text as code has it gives its place's part and findings
 module _ (job : List ℕ) (j : Job) (id : List ℕ) (e : ℕ) (c : Option ℕ) (t column r : ℕ) (x : Written) (w : Writes job x (cell_outcome j id t r e c column)) where
-  pub cell_parts : (put_cell j id e c t column r).parts ≡ part_at e c (value_text job x.value) ∷ []
-  unfolding put_cell
-  cell_parts = rw w.text
-
   pub cell_findings : (d : Delimiters) → tried d ≡ separators j.envelope
       → (put_cell j id e c t column r).findings ≡ unwritten (cell t r column) (place_of id e c) (why_in x.reason) ++ held_in (cell t r column) (place_of id e c) (value_text job x.value) 0 (tried d)
   unfolding put_cell delimited
   cell_findings d q = rw (w.text, w.reason, q)
-
-  pub cell_entries : (put_cell j id e c t column r).entries ≡ 1
-  unfolding put_cell
-  cell_entries = refl

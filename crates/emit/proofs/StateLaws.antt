@@ -1,21 +1,17 @@
 -- The state as code moves it on.
-use Prim.Native.Nat.{ℕ, zero, suc, ◌≤◌, ◌<◌}
+use Prim.Native.Nat.{ℕ, zero, suc, ◌<◌}
 use mathlib.Core.Path.{◌≡◌, refl, sym, ap, ◌∙◌}
-use mathlib.Core.Bool.{true, false}
 use mathlib.Core.List.{List, [], ◌∷◌, map, append-nil}
-use native.Mathlib.Omega.{arith}
-use native.Mathlib.Nat.{max-eq_left, max-eq_right}
-use Rattle.std.specs.Prelude.{Option, None, Some}
+use Rattle.std.specs.Prelude.{Option, None}
 use lib.ListN.{length, get_or, set}
 use lib.Seq.{get_or-set_same, set-set}
-use Rattle.emit.specs.declared.state.Mark.{Mark}
 use Rattle.emit.specs.declared.state.Counts.{Counts}
 use Rattle.emit.specs.Fold as F
-use Rattle.emit.specs.Did.{mark_of, no_mark, state_of, state_with, traced_word, traced_words}
+use Rattle.emit.specs.Did.{Mark, mark_of, state_of, state_with, traced_word, traced_words}
 
 -- ---- the marks
 
-pub mark_at : (l : List Mark) (t : ℕ) → mark_of (get_or l t no_mark) ≡ get_or (map mark_of l) t None
+pub mark_at : (l : List Mark) (t : ℕ) → mark_of (get_or l t None) ≡ get_or (map mark_of l) t None
 mark_at [] t = refl
 mark_at (m ∷ l) zero = refl
 mark_at (m ∷ l) (suc t) = mark_at l t
@@ -27,21 +23,10 @@ mark_put (x ∷ l) (suc t) m = ap (λ (r : List (Option ℕ)). mark_of x ∷ r) 
 
 -- the mark that was put, and one put over it
 pub mark_in : (l : List Mark) (t : ℕ) (m : Mark) → t < length l → get_or (map mark_of (set l t m)) t None ≡ mark_of m
-mark_in l t m h = sym (mark_at (set l t m) t) ∙ ap mark_of (get_or-set_same l t m no_mark h)
+mark_in l t m h = sym (mark_at (set l t m) t) ∙ ap mark_of (get_or-set_same l t m None h)
 
 pub mark_over : (l : List Mark) (t : ℕ) (m n : Mark) → map mark_of (set l t n) ≡ set (map mark_of (set l t m)) t (mark_of n)
 mark_over l t m n = ap (map mark_of) (sym (set-set l t m n)) ∙ mark_put (set l t m) t n
-
--- ---- the highest row
-
-pub raise_same : (m : Mark) (r : ℕ) → m.seen ≡ true → r ≤ m.row → mark_of m ≡ F.higher (mark_of m) r
-raise_same m r e h = rw e (ap Some (sym (max-eq_left h)))
-
-pub raise_up : (m : Mark) (r : ℕ) → m.seen ≡ true → m.row < r → Some r ≡ F.higher (mark_of m) r
-raise_up m r e h = let q : m.row ≤ r = omega arith in rw e (ap Some (sym (max-eq_right q)))
-
-pub raise_first : (m : Mark) (r : ℕ) → m.seen ≡ false → Some r ≡ F.higher (mark_of m) r
-raise_first m r e = rw e
 
 -- ---- control numbers
 

@@ -12,13 +12,12 @@ use Rattle.segment.specs.Parts.{Part, joined}
 use Rattle.nest.specs.Finding.{Finding}
 use Rattle.nest.specs.Outline.{Outline}
 use Rattle.emit.specs.declared.state.Counts.{Counts}
-use Rattle.emit.specs.declared.state.Mark.{Mark}
 use Rattle.emit.specs.declared.state.From.{From}
 use Rattle.emit.specs.declared.state.From.TheVariants.{Envelope}
 use Rattle.emit.specs.Written.{words_of}
 use Rattle.emit.specs.Envelope.{closer_put}
 use Rattle.emit.specs.Fold.{separators_of, segment_out, order_findings, higher, stop_out}
-use Rattle.emit.specs.Did.{mark_of, state_of, stop_words, traced_words, row_in, DidCounts, DidMark, Within, Finished}
+use Rattle.emit.specs.Did.{Mark, mark_of, state_of, stop_words, traced_words, row_in, DidCounts, DidMark, Within, Finished}
 use Rattle.emit.proofs.FindingLaws.{none_stored}
 use Rattle.emit.proofs.StateLaws.{mark_in, mark_over}
 use Rattle.emit.proofs.JoinLaws.{closer_quiet}

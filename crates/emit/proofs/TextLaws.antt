@@ -7,12 +7,14 @@ use native.Mathlib.Omega.{arith}
 use native.Mathlib.Nat.{mul_comm}
 use lib.IntN.{ℤ}
 use lib.ListN.{length, take, replicate, length-append, length-take}
-use lib.Seq.{take-append_seam}
+use lib.Seq.{take-append_seam, take-length}
 use mir.Syntax.{Width}
 use mir.Val.{SFits, to_z, of_z}
 use mir.Facts.{to_z-of_z}
+use Rattle.segment.specs.declared.Pen.{Pen}
+use Rattle.segment.specs.declared.Separators.{Separators}
 use Rattle.segment.specs.declared.Value.{Value}
-use Rattle.segment.specs.Pen.{value_text}
+use Rattle.segment.specs.Pen.{placed, value_text, Penned}
 use Rattle.std.specs.Prelude as Rust
 use Rattle.std.specs.Prelude.{Result, Ok, Err}
 use Rattle.std.specs.Result.{result_err}
@@ -53,6 +55,11 @@ pub held_text : (t : Text) (x : List ℕ) → t ≡ held x → take t.len t.byte
 unfolding held
 held_text t x h = rw h (take-append_seam x (replicate (48 - length x) 0))
 
+-- a text of its own is written as a stretch of its bytes
+pub text_part : {r : Pen} {d d₁ : List ℕ} (s : Separators) (pen : Pen) (p c : ℕ) (t : Text) (x own : List ℕ) → t ≡ held x → own ≡ take t.len t.bytes → Penned (placed s pen p c (take (length own) own)) pen.at r d d₁
+    → Penned (placed s pen p c x) pen.at r d d₁
+text_part s pen p c t x own h e w = rw (take-length, e, held_text t x h) at w
+
 held_length : (t : Text) (x : List ℕ) → t ≡ held x → length x ≡ t.len
 unfolding held
 held_length t x h = rw h
@@ -71,11 +78,3 @@ padded_text job v numeric min max e f p =
     let o = take v.count v.bytes in
     let s = stretch job v.start v.len in
     rw (← append_assoc o s (replicate v.spaces 32)) (p (o ++ s) (length-append o s ∙ rw (← e, ← f) refl))
-
--- lengths of two texts fit together
-pub lengths_fit : (job bytes : List ℕ) (start len count : ℕ) {own held : ℕ} → length job ≤ 65536 → count ≤ 48 → own ≡ length (take count bytes) → held ≡ length (stretch job start len)
-    → own + held ≤ 65584
-lengths_fit job bytes start len count h k e f =
-    let q = length-take count bytes in
-    let r = length_stretch job start len in
-    omega arith

@@ -1,14 +1,12 @@
 -- Steps taken one after the other.
-use Prim.Native.Nat.{ℕ, ◌+◌}
+use Prim.Native.Nat.{ℕ}
 use mathlib.Core.Path.{◌≡◌, refl, sym, ap, ◌∙◌}
 use mathlib.Core.Bool.{Bool}
 use mathlib.Core.List.{List, [], ◌∷◌, ◌++◌, append_assoc, append-nil}
 use Rattle.format.specs.Job.{Job}
 use Rattle.nest.specs.OfJob.{outline_of}
-use Rattle.walk.specs.Tour.{Step, enters, stop, opener, row_segment, fill, chunk, closer, segments_in}
-use Rattle.walk.proofs.Counts.{segments_append}
+use Rattle.walk.specs.Tour.{Step, stop, opener, row_segment, fill, chunk, closer, segments_in}
 use Rattle.emit.specs.declared.state.State.{State}
-use Rattle.emit.specs.declared.state.Taken.{Taken}
 use Rattle.emit.specs.Fold as F
 use Rattle.emit.specs.Fold.{Out, quiet, and_then, stop_out, opener_out, row_out, fill_out, chunk_out, closer_out, step_out, steps_out}
 use Rattle.emit.specs.Did.{state_of, Did, Fit, Small, Took}
@@ -37,10 +35,6 @@ unfolding steps_out
 steps_one j x s = let a = step_out j x s in rw (append-nil a.bytes, append-nil a.segments, append-nil a.findings, append-nil a.stops) refl
 
 -- ---- one step
-
-pub step_enters : (j : Job) (l : ℕ) (s : F.State) → step_out j (enters l) s ≡ quiet s
-unfolding step_out
-step_enters j l s = refl
 
 pub step_stop : (j : Job) (l t r : ℕ) (s : F.State) → step_out j (stop l t r) s ≡ stop_out (outline_of j) l t r s
 unfolding step_out
@@ -83,11 +77,3 @@ took_none j s h = record { did = rw (steps_none j (state_of s)) (did_nothing s h
 pub took_one : {s r : State} {d d₁ g g₁ f f₁ p p₁ : List ℕ} (j : Job) (x : Step) (n : ℕ) → n ≡ segments_in (x ∷ []) → Did (step_out j x (state_of s)) s r d d₁ g g₁ f f₁ p p₁
     → Took j (x ∷ []) s (record { state = r; written = n }) d d₁ g g₁ f f₁ p p₁
 took_one j x n e y = record { did = did_step j x y; written = e }
-
-pub took_then : {s : State} {r t u : Taken} {d d₁ d₂ g g₁ g₂ f f₁ f₂ p p₁ p₂ : List ℕ} (j : Job) (xs ys : List Step) → Fit d g f p
-    → Took j xs s r d d₁ g g₁ f f₁ p p₁ → Took j ys r.state t d₁ d₂ g₁ g₂ f₁ f₂ p₁ p₂ → u.state ≡ t.state → u.written ≡ r.written + t.written
-    → Took j (xs ++ ys) s u d d₂ g g₂ f f₂ p p₂
-took_then j xs ys h x y e w = record {
-  did = rw e (did_steps j xs ys h x.did y.did);
-  written = rw (w, x.written, y.written) (sym (segments_append xs ys));
-}

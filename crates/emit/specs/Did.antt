@@ -1,11 +1,11 @@
 -- What code did that writes an `Out`: the state that it returns, and the four lent lists.
-use Rattle.std.specs.Prelude.{ℕ, suc, ◌≤◌, ◌<◌, ◌≡◌, false, List, [], ◌∷◌, map, length, set, Option, None, Some}
+use Rattle.std.specs.Prelude.{ℕ, suc, ◌≤◌, ◌<◌, ◌≡◌, List, [], ◌∷◌, map, length, set, Option, None, Some}
+use Rattle.std.specs.Option.{option_map}
 use Rattle.lent.specs.Fit.{cap, wide, more, Stored, Noted}
-use Rattle.segment.specs.Parts.{pick}
+use Rattle.spec.specs.declared.ids.RowId.{RowId}
 use Rattle.nest.specs.Lists.{each}
 use Rattle.format.specs.Job.{Job}
 use Rattle.walk.specs.Tour.{Stop, Step, segments_in}
-use Rattle.emit.specs.declared.state.Mark.{Mark}
 use Rattle.emit.specs.declared.state.Counts.{Counts}
 use Rattle.emit.specs.declared.state.State.{State}
 use Rattle.emit.specs.declared.state.Taken.{Taken}
@@ -16,14 +16,15 @@ use Rattle.emit.specs.Fold as F
 
 -- ---- the state
 
+-- a table's highest row entered, if one was
+abbrev pub Mark : Type 0
+Mark = Option RowId
+
 abbrev pub mark_of : Mark → Option ℕ
-mark_of m = pick m.seen (Some m.row) None
+mark_of = option_map (λ (r : RowId). r.0)
 
 unfoldable pub state_of : State → F.State
 state_of s = record { high = map mark_of s.high; counter = s.counter; entries = s.counts.entries; begun = s.counts.begun }
-
-abbrev pub no_mark : Mark
-no_mark = record { seen = false; row = 0 }
 
 abbrev pub state_with : List Mark → List ℕ → Counts → State
 state_with h c s = record { high = h; counter = c; counts = s }

@@ -6,14 +6,14 @@ use Rattle.format.specs.Job.{Job}
 use Rattle.texts.specs.Number.{count_text}
 use Rattle.texts.specs.Pad.{padded, control_text}
 use Rattle.texts.specs.Floor.{signed32}
-use Rattle.texts.specs.Reason.{Width, Outcome}
+use Rattle.texts.specs.Reason.{Outcome}
 use Rattle.texts.specs.DateText.{envelope_date}
 use Rattle.texts.specs.Clock.{envelope_time}
 use Rattle.segment.specs.Parts.{pick}
 use Rattle.nest.specs.Lists.{on, first}
 use Rattle.nest.specs.Finding.{Finding, field}
 use Rattle.format.specs.Ask.{loop_of, segment_def, min_of, depth_of, found, same_bytes}
-use Rattle.emit.specs.Puts.{Put, nothing, put_text, put_all, part_at, place_of, delimited, unwritten, max_in}
+use Rattle.emit.specs.Puts.{Put, nothing, put_text, put_all, part_at, place_of, delimited, unwritten}
 
 -- ---- fields, by their case in the Rust's `Field`
 
@@ -89,8 +89,8 @@ field_given e d f = get_or
     ∷ Some (plainly e.receiver_id)
     ∷ Some (plainly (on e.application_sender (λ x. x) (trim_end e.sender_id)))
     ∷ Some (plainly (on e.application_receiver (λ x. x) (trim_end e.receiver_id)))
-    ∷ Some (outcome (envelope_date (signed32 e.date) (max_in d.max)))
-    ∷ Some (outcome (envelope_time (signed32 e.time) (max_in d.max)))
+    ∷ Some (outcome (envelope_date (signed32 e.date) d.max))
+    ∷ Some (outcome (envelope_time (signed32 e.time) d.max))
     ∷ Some (plainly e.usage_indicator)
     ∷ None
     ∷ repetition_given (first d.codes) e.repetition
@@ -134,13 +134,9 @@ is_numeric (kind_r n) = false
 is_numeric kind_dt = false
 is_numeric kind_tm = false
 
-abbrev pub min_in : Option ℕ → Width
-min_in None = None
-min_in (Some n) = Some n
-
 -- padded to the element's width, but for a text that was refused
 abbrev pub padded_to : ElementDef → ℕ → List ℕ → List ℕ
-padded_to d zero text = padded (is_numeric d.kind) (min_in d.min) (max_in d.max) text
+padded_to d zero text = padded (is_numeric d.kind) d.min d.max text
 padded_to d (suc reason) text = text
 
 abbrev pub field_findings : Job → List ℕ → ℕ → ℕ → Given → List ℕ → List Finding
@@ -162,7 +158,7 @@ put_element j trigger depth opener control x = on (source_at j trigger depth ope
 
 -- a control number in the loop's trigger: zeros in front up to the opener element's min
 unfoldable pub control_in : Job → ℕ → Control → ℕ → List ℕ
-control_in j l c number = control_text number (min_in (min_of j (loop_of j l).trigger c.opener))
+control_in j l c number = control_text number (min_of j (loop_of j l).trigger c.opener)
 
 -- a trigger that the segment map lacks is its identifier alone
 unfoldable pub opener_put : Job → ℕ → Control → ℕ → Put

@@ -1,5 +1,5 @@
 -- What a planned place puts into its segment: a part, the findings on its text, and its trace entry (write/cells.rs, write/trace.rs).
-use Rattle.std.specs.Prelude.{ℕ, zero, suc, ◌+◌, ◌*◌, List, [], ◌∷◌, ◌++◌, eqb, Some, None, Option}
+use Rattle.std.specs.Prelude.{ℕ, zero, suc, ◌+◌, ◌*◌, List, [], ◌∷◌, ◌++◌, eqb, Option}
 use Rattle.format.specs.Words.{member_of}
 use Rattle.format.specs.Plan.{Value, from_column, from_group, from_code, ElementPlan}
 use Rattle.format.specs.Job.{Job}
@@ -17,10 +17,6 @@ use Rattle.format.specs.Ask.{max_of, data_of}
 
 -- ---- texts
 
-abbrev pub max_in : Option ℕ → Width
-max_in None = None
-max_in (Some n) = Some n
-
 -- a cell's text for an element with that max, or the reason why it has none; a null writes an empty place
 unfoldable pub cell_text : Cell → Width → Outcome
 cell_text null max = gives []
@@ -32,7 +28,7 @@ cell_text (time32 x) max = time_text (signed32 x) max
 
 -- row r of table t, at element e and component c of the segment id
 abbrev pub cell_outcome : Job → List ℕ → ℕ → ℕ → ℕ → Option ℕ → ℕ → Outcome
-cell_outcome j id t r e c column = cell_text (cell_of (data_of j t) column r) (max_in (max_of j id e c))
+cell_outcome j id t r e c column = cell_text (cell_of (data_of j t) column r) (max_of j id e c)
 
 -- ---- findings on a text
 

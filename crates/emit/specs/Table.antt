@@ -1,11 +1,5 @@
 -- The layout of the triggers as a table of equal rows, and the search in a row.
-use Rattle.std.specs.Prelude.{ℕ, zero, suc, ◌+◌, ◌*◌, List, [], ◌∷◌, eqb, get_or, cond, Option}
-use Rattle.std.specs.Prelude as Rust
-use Rattle.std.specs.Prelude.{Some, None}
-
-abbrev pub held_field : Rust.Option ℕ → Option ℕ
-held_field None = None
-held_field (Some f) = Some f
+use Rattle.std.specs.Prelude.{ℕ, zero, suc, ◌+◌, ◌*◌, List, [], ◌∷◌, eqb, get_or, cond, Option, Some, None}
 
 abbrev pub table : List (List ℕ)
 table =

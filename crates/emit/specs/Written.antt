@@ -57,8 +57,3 @@ tried_last (Rust.Some b) = b ∷ []
 
 abbrev pub tried : Delimiters → List ℕ
 tried d = d.element ∷ d.component ∷ d.segment ∷ tried_last d.repetition
-
--- the separator of repetitions, if there is one
-abbrev pub repetition_of : Rust.Option ℕ → Option ℕ
-repetition_of Rust.None = None
-repetition_of (Rust.Some b) = Some b

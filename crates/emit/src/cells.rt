@@ -1,6 +1,5 @@
 // The text of a cell.
 ghost use Rattle.std.specs.Prelude.{◌≡◌, true, false, List, [], ℕ, ◌+◌, ◌*◌, ◌≤◌, length};
-ghost use Rattle.format.specs.Sections.{job_of};
 ghost use Rattle.format.specs.Ask.{max_of};
 ghost use Rattle.lent.specs.Fit.{stretch};
 ghost use Rattle.column.specs.Cell.{or_null};
@@ -12,14 +11,16 @@ ghost use Rattle.texts.specs.Floor.{signed32};
 ghost use Rattle.texts.specs.Number.{int_text, decimal_text};
 ghost use Rattle.texts.specs.DateText.{date_text};
 ghost use Rattle.texts.specs.Clock.{time_text};
+ghost use Rattle.segment.specs.Pen.{placed, Penned};
 ghost use Rattle.spec.specs.declared.ids.Stretch as Held;
 ghost use Rattle.spec.specs.Answers.{stretch_of};
-ghost use Rattle.nest.specs.Ready.{Ready};
-ghost use Rattle.emit.specs.Puts.{max_in, cell_text, cell_outcome};
+ghost use Rattle.emit.specs.Puts.{cell_text, cell_outcome};
 ghost use Rattle.emit.specs.Written.{Writes, scale_in, is_own};
+ghost use Rattle.nest.specs.Job.{job_by};
 
 use column::Cell;
-use segment::Value;
+use nest::Job;
+use segment::{Pen, Separators, Value};
 use spec::ids::{RowId, Stretch, TableId};
 use texts::number::Wide;
 use texts::render::Refused;
@@ -35,12 +36,7 @@ pub struct Written {
 pub fn reason_of(why: Refused) -> u64
     ensures { result ≡ reason_of why }
 {
-    match why {
-        Refused::Year => 1,
-        Refused::Window => 2,
-        Refused::Day => 3,
-        Refused::Seconds => 4,
-    }
+    why.number()
 }
 
 // A text, empty where it is refused.
@@ -49,7 +45,7 @@ pub fn text_in(said: Result<Text, Refused>) -> Text
 {
     match said {
         Ok(text) => text,
-        Err(_) => render::empty(),
+        Err(_) => Text::empty(),
     }
 }
 
@@ -103,50 +99,41 @@ fn said_seconds(bits: u32, max: Option<usize>) -> Result<Text, Refused>
 
 // ---- at a place
 
+// A width as a length.
 pub fn max_by(n: Option<u32>) -> Option<usize>
-    ensures { result ≡ max_in n }
+    ensures { result ≡ n }
 {
-    match n {
-        None => None,
-        Some(m) => Some(m as usize),
-    }
+    n.map(|m| m as usize)
 }
 
 // The most that a place takes.
-fn max_at(
-    job: &[u8],
-    index: &[u16],
-    id: Stretch,
-    element: u32,
-    component: Option<u32>,
-) -> Option<usize>
-    requires { Ready job.now index.now × (id.start + id.len ≤ length job.now) }
-    ensures { result ≡ max_in (max_of (job_of job.now) (stretch_of job.now id) element component) }
+fn max_at(job: Job, id: Stretch, element: u32, component: Option<u32>) -> Option<usize>
+    requires { id.start + id.len ≤ length job.at.bytes.now }
+    ensures { result ≡ max_of (job_by job.entry) (stretch_of job.entry.at.bytes.now id) element component }
 {
-    max_by(spec::segments::max_of(job, index, id, element, component))
+    max_by(spec::segments::max_of(job.at, id, element, component))
 }
 
 // The text of a cell that is no stretch of the job, at a place, and the reason why it has none.
 pub fn own_text(
-    job: &[u8],
-    index: &[u16],
+    job: Job,
     id: Stretch,
     element: u32,
     component: Option<u32>,
     cell: Cell,
 ) -> Result<Text, Refused>
-    requires { Ready job.now index.now × (id.start + id.len ≤ length job.now) × (scale_in cell ≤ 38) }
+    requires { (id.start + id.len ≤ length job.at.bytes.now) × (scale_in cell ≤ 38) }
     ensures { (b : List ℕ) → is_own cell ≡ true
-        → Says result (cell_text (or_null (cell_at b cell)) (max_in (max_of (job_of job.now) (stretch_of job.now id) element component))) }
+        → Says result (cell_text (or_null (cell_at b cell)) (max_of (job_by job.entry) (stretch_of job.entry.at.bytes.now id) element component)) }
 {
     match cell {
-        Cell::None => Ok(render::empty()),
-        Cell::Null => Ok(render::empty()),
-        Cell::Bytes(_, _) => Ok(render::empty()),
+        Cell::None => Ok(Text::empty()),
+        Cell::Null => Ok(Text::empty()),
+        Cell::Bytes(_, _) => Ok(Text::empty()),
         Cell::Int(bits) => Ok(int_text(bits)),
         Cell::Wide(lo, hi, scale) => Ok(decimal_text(lo, hi, scale)),
-        Cell::Days(bits) => said_days(bits, max_at(job, index, id, element, component)),
-        Cell::Seconds(bits) => said_seconds(bits, max_at(job, index, id, element, component)),
+        Cell::Days(bits) => said_days(bits, max_at(job, id, element, component)),
+        Cell::Seconds(bits) => said_seconds(bits, max_at(job, id, element, component)),
     }
 }
 
@@ -166,27 +153,19 @@ pub fn held_in(cell: Cell) -> Option<Stretch>
 }
 
 // The text of a cell that is read, at a place of the segment with that identifier, and the reason why it has none.
-pub fn read_text(
-    job: &[u8],
-    index: &[u16],
-    id: Stretch,
-    element: u32,
-    component: Option<u32>,
-    cell: Cell,
-) -> Written
-    requires { Ready job.now index.now × (id.start + id.len ≤ length job.now) × (scale_in cell ≤ 38) }
-    ensures { Writes job.now result (cell_text (or_null (cell_at job.now cell)) (max_in (max_of (job_of job.now) (stretch_of job.now id) element component))) }
+pub fn read_text(job: Job, id: Stretch, element: u32, component: Option<u32>, cell: Cell) -> Written
+    requires { (id.start + id.len ≤ length job.at.bytes.now) × (scale_in cell ≤ 38) }
+    ensures { Writes job.entry.at.bytes.now result (cell_text (or_null (cell_at job.entry.at.bytes.now cell)) (max_of (job_by job.entry) (stretch_of job.entry.at.bytes.now id) element component)) }
 {
     match held_in(cell) {
         Some(s) => of_stretch(s.start, s.len),
-        None => of_said(own_text(job, index, id, element, component, cell)),
+        None => of_said(own_text(job, id, element, component, cell)),
     }
 }
 
 // The same of a row's cell.
 pub fn cell_text(
-    job: &[u8],
-    index: &[u16],
+    job: Job,
     id: Stretch,
     t: TableId,
     r: RowId,
@@ -194,11 +173,11 @@ pub fn cell_text(
     component: Option<u32>,
     column: u32,
 ) -> Written
-    requires { Ready job.now index.now × (id.start + id.len ≤ length job.now) }
-    ensures { Writes job.now result (cell_outcome (job_of job.now) (stretch_of job.now id) t.0 r.0 element component column) }
+    requires { id.start + id.len ≤ length job.at.bytes.now }
+    ensures { Writes job.entry.at.bytes.now result (cell_outcome (job_by job.entry) (stretch_of job.entry.at.bytes.now id) t.0 r.0 element component column) }
 {
-    let cell = tables::data::cell(job, index, t, column, r);
-    read_text(job, index, id, element, component, cell)
+    let cell = tables::data::cell(job.at, t, column, r);
+    read_text(job, id, element, component, cell)
 }
 
 // The text of a code.
@@ -206,4 +185,12 @@ pub fn code_text(s: Stretch) -> Written
     ensures { (job : List ℕ) → Writes job result (gives (stretch_of job s)) }
 {
     of_stretch(s.start, s.len)
+}
+
+// A text of its own, written at component c of element p.
+pub fn put_text(doc: &mut [u8], s: Separators, pen: Pen, p: u32, c: u32, text: Text) -> Pen
+    ensures { (x : List ℕ) → text ≡ held x → Penned (placed s pen p c x) pen.at result doc.old doc.new }
+{
+    let bytes = text.as_bytes();
+    segment::part(doc, bytes, s, pen, p as usize, c as usize, 0, bytes.len())
 }

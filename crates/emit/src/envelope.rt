@@ -5,7 +5,7 @@ ghost use Rattle.segment.specs.Pen.{value_text};
 ghost use Rattle.texts.specs.Number.{count_text};
 ghost use Rattle.texts.specs.Pad.{padded, control_text};
 ghost use Rattle.emit.specs.Envelope.{field_at};
-ghost use Rattle.emit.specs.Table.{table, searched, held_field};
+ghost use Rattle.emit.specs.Table.{table, searched};
 
 use segment::Value;
 use texts::{envelope, number};
@@ -70,17 +70,11 @@ const LAYOUT: [[u8; 18]; 3] = [
     [0, 0, 0, 0, 0, 0, 0, 0, 0, 0, 0, 0, 0, 0, 0, 0, 0, 0],
 ];
 
-fn wide(x: u8) -> u32
-    ensures { result ≡ x }
-{
-    x as u32
-}
-
 fn position_in(depth: usize, i: usize) -> u32
     requires { (depth < 3) × (i < 9) }
     ensures { result ≡ get_or (get_or table depth []) (i * 2) 0 }
 {
-    wide(LAYOUT[depth][i * 2])
+    LAYOUT[depth][i * 2] as u32
 }
 
 fn field_in(depth: usize, i: usize) -> u8
@@ -92,7 +86,7 @@ fn field_in(depth: usize, i: usize) -> u8
 
 fn search(depth: usize, position: u32) -> Option<u8>
     requires { depth < 3 }
-    ensures { held_field result ≡ searched (get_or table depth []) 9 0 position }
+    ensures { result ≡ searched (get_or table depth []) 9 0 position }
 {
     for i in 0..9 {
         if position_in(depth, i) == position {
@@ -104,7 +98,7 @@ fn search(depth: usize, position: u32) -> Option<u8>
 
 // The field that the element at a position of a trigger holds, by its case in the Rust's `Field`.
 pub fn field_at(depth: usize, position: u32) -> Option<u8>
-    ensures { held_field result ≡ field_at depth position }
+    ensures { result ≡ field_at depth position }
 {
     if position == 0 {
         return None;

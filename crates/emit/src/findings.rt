@@ -3,13 +3,14 @@ ghost use Rattle.std.specs.Prelude.{◌≡◌, true, false, List, [], ◌∷◌,
 ghost use Rattle.lent.specs.Fit.{stretch, Noted};
 ghost use Rattle.segment.specs.Pen.{value_text};
 ghost use Rattle.texts.specs.Reason.{why_in};
-ghost use Rattle.nest.specs.Finding.{Origin, Place};
-ghost use Rattle.emit.specs.Puts.{held_in, unwritten};
+ghost use Rattle.nest.specs.Finding.{Origin, Place, cell, number_from};
+ghost use Rattle.emit.specs.Puts.{held_in, place_of, unwritten};
 ghost use Rattle.emit.specs.Written.{spot_of, spotted, words_of, tried, tried_last};
 
-use crate::cells;
 use crate::cells::Written;
-use segment::Value;
+use crate::{cells, signs};
+use segment::{Signs, Value};
+use spec::ids::{RowId, TableId};
 use texts::render::Refused;
 
 // Where a text comes from and where it goes: its origin (0 a cell, 1 a field), table or field, row, column; its segment's identifier
@@ -34,10 +35,27 @@ pub struct Delimiters {
     pub repetition: Option<u8>,
 }
 
-fn widened(b: u8) -> u64
-    ensures { result ≡ b }
+// The spot of a cell's text; `identifier` is its segment's as a number.
+pub fn cell_spot(
+    t: TableId,
+    r: RowId,
+    column: u32,
+    identifier: u64,
+    element: u32,
+    component: Option<u32>,
+) -> Spot
+    ensures { (id : List ℕ) → identifier ≡ number_from 0 id → result ≡ spot_of (cell t.0 r.0 column) (place_of id element component) }
 {
-    b as u64
+    let component = signs::component_word(component);
+    Spot {
+        origin: 0,
+        table: t.0 as u64,
+        row: r.0 as u64,
+        column: column as u64,
+        identifier,
+        element: element as u64,
+        component,
+    }
 }
 
 // A finding of that kind on a text.
@@ -73,7 +91,7 @@ fn try_one(
         → Noted findings.old at (words_of (held_in o p (value_text job.now v) role (b ∷ []))) result findings.new }
 {
     if segment::holds(job, v, b) {
-        return note(findings, at, 4, w, widened(b), role);
+        return note(findings, at, 4, w, b as u64, role);
     }
     lent::more(at, 0)
 }
@@ -119,7 +137,7 @@ fn holds_delimiter(job: &[u8], v: Value, d: Delimiters) -> bool
     ensures { (o : Origin) (p : Place) → result ≡ false → held_in o p (value_text job.now v) 0 (tried d) ≡ [] }
 {
     let last = d.repetition.unwrap_or(d.element);
-    segment::holds_any(job, v, d.element, d.component, d.segment, last)
+    segment::holds_any(job, v, Signs(d.element, d.component, d.segment, last))
 }
 
 // The same of a stretch of the job.
@@ -127,7 +145,12 @@ pub fn stretch_holds(job: &[u8], start: usize, len: usize, d: Delimiters) -> boo
     ensures { (o : Origin) (p : Place) → result ≡ false → held_in o p (stretch job.now start len) 0 (tried d) ≡ [] }
 {
     let last = d.repetition.unwrap_or(d.element);
-    segment::stretch_holds(job, start, len, d.element, d.component, d.segment, last)
+    segment::stretch_holds(
+        job,
+        start,
+        len,
+        Signs(d.element, d.component, d.segment, last),
+    )
 }
 
 // A finding for each separator that a text holds, in the order in which they are tried.

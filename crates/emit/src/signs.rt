@@ -7,22 +7,22 @@ ghost use Rattle.spec.specs.Answers.{stretch_of};
 ghost use Rattle.spec.specs.EnvelopeIndex.{EnvelopeIndexed};
 ghost use Rattle.nest.specs.Finding.{number_from, or_zero};
 ghost use Rattle.emit.specs.Fold.{separators_of};
-ghost use Rattle.emit.specs.Written.{tried, repetition_of};
+ghost use Rattle.emit.specs.Written.{tried};
 
 use crate::findings::Delimiters;
 use segment::Separators;
-use spec::envelope;
 use spec::ids::Stretch;
+use spec::{Indexed, envelope};
 
 // What a segment is joined with.
-pub fn separators_of(job: &[u8], index: &[u16]) -> Separators
-    requires { EnvelopeIndexed job.now index.now }
-    ensures { result ≡ separators_of (job_of job.now) }
+pub fn separators_of(job: Indexed) -> Separators
+    requires { EnvelopeIndexed job.bytes.now job.index.now }
+    ensures { result ≡ separators_of (job_of job.entry.bytes.now) }
 {
-    let element = envelope::element_separator(job, index);
-    let component = envelope::component_separator(job, index);
-    let segment = envelope::segment_terminator(job, index);
-    let line_break = envelope::line_break(job, index);
+    let element = envelope::element_separator(job);
+    let component = envelope::component_separator(job);
+    let segment = envelope::segment_terminator(job);
+    let line_break = envelope::line_break(job);
     Separators {
         element,
         component,
@@ -32,11 +32,11 @@ pub fn separators_of(job: &[u8], index: &[u16]) -> Separators
 }
 
 // The separator of repetitions, if there is one.
-pub fn repetition_of(job: &[u8], index: &[u16]) -> Option<u8>
-    requires { EnvelopeIndexed job.now index.now }
-    ensures { repetition_of result ≡ (job_of job.now).envelope.repetition }
+pub fn repetition_of(job: Indexed) -> Option<u8>
+    requires { EnvelopeIndexed job.bytes.now job.index.now }
+    ensures { result ≡ (job_of job.entry.bytes.now).envelope.repetition }
 {
-    let n = envelope::repetition(job, index);
+    let n = envelope::repetition(job);
     match n {
         None => None,
         Some(b) => Some(b as u8),
@@ -44,14 +44,14 @@ pub fn repetition_of(job: &[u8], index: &[u16]) -> Option<u8>
 }
 
 // What a text is tried for.
-pub fn delimiters_of(job: &[u8], index: &[u16]) -> Delimiters
-    requires { EnvelopeIndexed job.now index.now }
-    ensures { tried result ≡ separators (job_of job.now).envelope }
+pub fn delimiters_of(job: Indexed) -> Delimiters
+    requires { EnvelopeIndexed job.bytes.now job.index.now }
+    ensures { tried result ≡ separators (job_of job.entry.bytes.now).envelope }
 {
-    let element = envelope::element_separator(job, index);
-    let component = envelope::component_separator(job, index);
-    let segment = envelope::segment_terminator(job, index);
-    let repetition = repetition_of(job, index);
+    let element = envelope::element_separator(job);
+    let component = envelope::component_separator(job);
+    let segment = envelope::segment_terminator(job);
+    let repetition = repetition_of(job);
     Delimiters {
         element,
         component,
@@ -86,18 +86,12 @@ pub fn id_number(job: &[u8], id: Stretch) -> u64
 pub fn component_of(n: Option<u32>) -> u32
     ensures { result ≡ or_one n }
 {
-    match n {
-        None => 1,
-        Some(c) => c,
-    }
+    n.unwrap_or(1)
 }
 
 // A component as findings have it: plus one, 0 for a plain part.
 pub fn component_word(n: Option<u32>) -> u64
     ensures { result ≡ or_zero n }
 {
-    match n {
-        None => 0,
-        Some(c) => c as u64 + 1,
-    }
+    n.map_or(0, |c| c as u64 + 1)
 }

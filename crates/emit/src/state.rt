@@ -9,11 +9,7 @@ ghost use Rattle.emit.specs.Did.{mark_of, row_in, traced_word, Finished};
 use spec::ids::{RowId, TableId};
 
 // A table's highest row entered, if one was.
-#[derive(Clone, Copy)]
-pub struct Mark {
-    pub seen: bool,
-    pub row: u32,
-}
+pub type Mark = Option<RowId>;
 
 // The trace entries so far and those before the segment that is not finished yet; then how many bytes of the document and numbers of the
 // other lists there are, stored or not.
@@ -55,14 +51,9 @@ pub enum From {
 pub fn raised(m: Mark, r: RowId) -> Mark
     ensures { mark_of result ≡ higher (mark_of m) r.0 }
 {
-    if m.seen {
-        if r.0 <= m.row {
-            return m;
-        }
-    }
-    Mark {
-        seen: true,
-        row: r.0,
+    match m {
+        Some(high) => Some(RowId(high.0.max(r.0))),
+        None => Some(r),
     }
 }
 

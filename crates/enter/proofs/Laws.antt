@@ -1,37 +1,32 @@
 -- The table above a row, by nest's numbers; the findings on a row's order, one law for each way.
 use Prim.Native.Nat.{ℕ, zero, suc, ◌+◌, ◌*◌, ◌≤◌, ◌<◌}
-use mathlib.Core.Path.{◌≡◌, refl, sym, ap, ◌∙◌}
+use mathlib.Core.Path.{◌≡◌, refl, sym, ◌∙◌}
 use mathlib.Core.Bool.{Bool, true, false}
 use mathlib.Core.List.{List, [], ◌∷◌}
 use native.Mathlib.Omega.{arith}
-use Rattle.std.specs.Prelude.{Option, None, Some}
+use Rattle.std.specs.Prelude.{Option, None, Some, unwrap_or}
 use lib.ListN.{length, get_or}
-use lib.Dec.{ltb}
 use borrow.Author.Tests.{lt-ltb, le-ltb}
 use Rattle.format.specs.Job.{Job}
-use Rattle.format.specs.Refusal.{rows_of_all}
 use Rattle.format.specs.Sections.{job_of}
 use Rattle.format.specs.Ask.{data_of, table_of}
 use Rattle.column.specs.Cell.{reference_of}
-use Rattle.lent.specs.Fit.{more, Stored}
 use Rattle.tables.specs.Parts as T
 use Rattle.nest.specs.Lists.{on}
 use Rattle.nest.specs.Outline.{Outline, row_count, repeated, table_parent}
 use Rattle.nest.specs.Nest.{Hook, hook, hook_record, loose_record, nest_record}
-use Rattle.nest.specs.Finding.{Finding, out_of_order}
+use Rattle.nest.specs.Finding.{out_of_order}
 use Rattle.nest.specs.Found.{nest_at}
-use Rattle.nest.specs.Ready.{Ready, outline_at}
+use Rattle.nest.specs.Ready.{outline_at}
 use Rattle.nest.specs.OfJob.{outline_of}
 use Rattle.nest.proofs.Bridge.{rows_is, reference_is, table_parent_is}
 use Rattle.nest.proofs.Placing.{repeats_is, room_for}
 use Rattle.nest.proofs.Stored.{before_is}
 use Rattle.walk.specs.Nested.{Nested}
 use Rattle.walk.proofs.NestedLaws.{lent_number}
-use Rattle.emit.specs.declared.state.Mark.{Mark}
+use Rattle.spec.specs.declared.ids.RowId.{RowId}
 use Rattle.emit.specs.Fold.{above, order_findings}
-use Rattle.emit.specs.Did.{mark_of}
-use Rattle.emit.specs.Written.{words_of}
-use Rattle.emit.proofs.FindingLaws.{none_stored}
+use Rattle.emit.specs.Did.{Mark, mark_of}
 use Rattle.enter.specs.Placed.{placed, placed_at}
 
 -- ---- the table above
@@ -79,22 +74,18 @@ above_parent j t r again x e f q = q ∙ sym (table_parent_is j t) ∙ above_pla
 
 -- ---- the reference
 
-module _ (j : Job) (t u r : ℕ) (x : Option ℕ) (e : x ≡ reference_of (data_of j t) u r) where
-  pub reference_there : (v : ℕ) → x ≡ Some v → v ≡ on ((outline_of j).reference t u r) (λ w. w) 0
-  reference_there v q = rw (reference_is j t u r, ← e, q)
-
-  pub reference_none : x ≡ None → 0 ≡ on ((outline_of j).reference t u r) (λ w. w) 0
-  reference_none q = rw (reference_is j t u r, ← e, q)
+pub reference_or : (j : Job) (t u r : ℕ) {x : Option ℕ} → x ≡ reference_of (data_of j t) u r → unwrap_or x 0 ≡ on ((outline_of j).reference t u r) (λ v. v) 0
+reference_or j t u r {x} e = rw (reference_is j t u r, ← e) (go x)
+  where
+    go : (y : Option ℕ) → unwrap_or y 0 ≡ on y (λ v. v) 0
+    go None = refl
+    go (Some v) = refl
 
 -- ---- the findings on a row's order
 
 module _ (o : Outline) (t r : ℕ) (m : Mark) where
-  pub order_unseen : m.seen ≡ false → order_findings o t r (mark_of m) ≡ []
+  pub order_unseen : m ≡ None → order_findings o t r (mark_of m) ≡ []
   order_unseen h = rw h
 
-  pub order_not_lower : m.seen ≡ true → m.row ≤ r → order_findings o t r (mark_of m) ≡ []
-  order_not_lower h k = rw (h, le-ltb r m.row k)
-
-  pub order_lower : m.seen ≡ true → r < m.row → (x : Option ℕ) → x ≡ above o t r
-      → order_findings o t r (mark_of m) ≡ on x (λ u. out_of_order t r u (on (o.reference t u r) (λ v. v) 0) m.row ∷ []) []
-  order_lower h k x q = rw (h, lt-ltb r m.row k, q)
+  pub order_not_lower : (highest : RowId) → m ≡ Some highest → highest.0 ≤ r → order_findings o t r (mark_of m) ≡ []
+  order_not_lower highest h k = rw (h, le-ltb r highest.0 k)

@@ -6,16 +6,17 @@ ghost use Rattle.lent.specs.Fit.{Noted};
 ghost use Rattle.nest.specs.Lists.{on};
 ghost use Rattle.nest.specs.Outline.{row_count};
 ghost use Rattle.nest.specs.Finding.{out_of_order};
-ghost use Rattle.nest.specs.Ready.{Ready, outline_at};
-ghost use Rattle.walk.specs.Nested.{Nested};
 ghost use Rattle.emit.specs.Fold.{above, order_findings, stop_out};
 ghost use Rattle.emit.specs.Written.{words_of};
 ghost use Rattle.emit.specs.Did.{mark_of, DidMark, Within};
 ghost use Rattle.enter.specs.Placed.{placed_at};
+ghost use Rattle.nest.specs.Job.{outline_by};
 
 use emit::state;
 use emit::state::{Counts, Mark};
+use nest::Job;
 use spec::ids::{LoopId, RowId, TableId};
+use walk::Nest;
 
 // The table that placed a repeat row.
 fn placed_by(nest: &[u32], base: usize, r: RowId) -> Option<u32>
@@ -31,34 +32,28 @@ fn placed_by(nest: &[u32], base: usize, r: RowId) -> Option<u32>
 }
 
 // The table that a row hangs on.
-fn table_above(job: &[u8], index: &[u16], nest: &[u32], t: TableId, r: RowId) -> Option<u32>
-    requires { Nested job.now index.now nest.now × (r.0 < row_count (outline_at job.now) t.0) }
-    ensures { result ≡ above (outline_at job.now) t.0 r.0 }
+fn table_above(nest: Nest, t: TableId, r: RowId) -> Option<u32>
+    requires { r.0 < row_count (outline_by nest.job) t.0 }
+    ensures { result ≡ above (outline_by nest.entry.job) t.0 r.0 }
 {
-    let again = spec::tables::repeats(job, index, t);
+    let again = spec::tables::repeats(nest.job.at, t);
     if again {
-        let first = tables::data::first_row(job, index, t);
-        return placed_by(nest, first as usize, r);
+        let first = tables::data::first_row(nest.job.at, t);
+        return placed_by(nest.array, first as usize, r);
     }
-    spec::tables::table_parent(job, index, t)
+    spec::tables::table_parent(nest.job.at, t)
 }
 
 // A row's reference to a table above, as a finding has it: 0 where there is none. No Option: the finding is a row of plain numbers.
-fn reference(job: &[u8], index: &[u16], t: TableId, above: u32, r: RowId) -> u64
-    requires { Ready job.now index.now }
-    ensures { result ≡ on ((outline_at job.now).reference t.0 above r.0) (λ v. v) 0 }
+fn reference(job: Job, t: TableId, above: u32, r: RowId) -> u64
+    ensures { result ≡ on ((outline_by job.entry).reference t.0 above r.0) (λ v. v) 0 }
 {
-    let value = tables::data::reference(job, index, t, above, r);
-    match value {
-        Some(v) => v,
-        None => 0,
-    }
+    tables::data::reference(job.at, t, above, r).unwrap_or(0)
 }
 
 // The finding of a row that is lower than the highest; a row of a table with none above has no finding.
 fn note_lower(
-    job: &[u8],
-    index: &[u16],
+    job: Job,
     findings: &mut [u64],
     at: usize,
     t: TableId,
@@ -66,40 +61,26 @@ fn note_lower(
     table: Option<u32>,
     highest: u32,
 ) -> usize
-    requires { Ready job.now index.now }
-    ensures { Noted findings.old at (words_of (on table (λ u. out_of_order t.0 r.0 u (on ((outline_at job.now).reference t.0 u r.0) (λ v. v) 0) highest ∷ []) [])) result findings.new }
+    ensures { Noted findings.old at (words_of (on table (λ u. out_of_order t.0 r.0 u (on ((outline_by job.entry).reference t.0 u r.0) (λ v. v) 0) highest ∷ []) [])) result findings.new }
 {
-    match table {
-        Some(u) => {
-            let value = reference(job, index, t, u, r);
-            return state::note_order(findings, at, t, r, u, value, highest);
-        }
-        None => {
-            return lent::more(at, 0);
-        }
-    }
+    let Some(u) = table else {
+        return lent::more(at, 0);
+    };
+    let value = reference(job, t, u, r);
+    state::note_order(findings, at, t, r, u, value, highest)
 }
 
 // The findings on a row's order, where m is the highest row of its table.
-fn note_order(
-    job: &[u8],
-    index: &[u16],
-    nest: &[u32],
-    findings: &mut [u64],
-    at: usize,
-    m: Mark,
-    t: TableId,
-    r: RowId,
-) -> usize
-    requires { Nested job.now index.now nest.now × (t.0 < 16) × (r.0 < row_count (outline_at job.now) t.0) }
-    ensures { Noted findings.old at (words_of (order_findings (outline_at job.now) t.0 r.0 (mark_of m))) result findings.new }
+fn note_order(nest: Nest, findings: &mut [u64], at: usize, m: Mark, t: TableId, r: RowId) -> usize
+    requires { (t.0 < 16) × (r.0 < row_count (outline_by nest.job) t.0) }
+    ensures { Noted findings.old at (words_of (order_findings (outline_by nest.entry.job) t.0 r.0 (mark_of m))) result findings.new }
 {
-    if m.seen {
-        if r.0 < m.row {
-            let table = table_above(job, index, nest, t, r);
-            return note_lower(job, index, findings, at, t, r, table, m.row);
-        }
+    let Some(highest) = m else {
         return lent::more(at, 0);
+    };
+    if r.0 < highest.0 {
+        let table = table_above(nest, t, r);
+        return note_lower(nest.job, findings, at, t, r, table, highest.0);
     }
     lent::more(at, 0)
 }
@@ -113,9 +94,7 @@ pub struct Entered {
 
 // A row of a table is entered by loop l, where m is the highest row of the table.
 pub fn enter(
-    job: &[u8],
-    index: &[u16],
-    nest: &[u32],
+    nest: Nest,
     findings: &mut [u64],
     stops: &mut [u64],
     m: Mark,
@@ -124,10 +103,10 @@ pub fn enter(
     t: TableId,
     r: RowId,
 ) -> Entered
-    requires { Nested job.now index.now nest.now × Within c × (t.0 < 16) × (r.0 < row_count (outline_at job.now) t.0) }
-    ensures { (d g : List ℕ) → DidMark t.0 (stop_out (outline_at job.now) l.0 t.0 r.0) m result.mark c result.counts d d g g findings.old findings.new stops.old stops.new }
+    requires { Within c × (t.0 < 16) × (r.0 < row_count (outline_by nest.job) t.0) }
+    ensures { (d g : List ℕ) → DidMark t.0 (stop_out (outline_by nest.entry.job) l.0 t.0 r.0) m result.mark c result.counts d d g g findings.old findings.new stops.old stops.new }
 {
-    let noted = note_order(job, index, nest, findings, c.findings, m, t, r);
+    let noted = note_order(nest, findings, c.findings, m, t, r);
     let words = [l.0 as u64, t.0 as u64, r.0 as u64, 0, 0, 0, 0, 0, 0, 0];
     let at = lent::put_words(stops, c.stops, words, 3);
     let mark = state::raised(m, r);

@@ -2,31 +2,31 @@
 ghost use Rattle.std.specs.Prelude.{◌≡◌, ◌≤◌, length};
 ghost use Rattle.std.proofs.lemmas.List.Edits.{sets};
 ghost use Rattle.nest.specs.Nest.{nest_array};
-ghost use Rattle.nest.specs.Ready.{Ready, outline_at};
 ghost use Rattle.format.specs.Refusal.{refusal_of};
 ghost use Rattle.exports.specs.Nesting.{nest_lent};
+ghost use Rattle.nest.specs.Job.{outline_by};
 
 use crate::copy_front;
+use nest::Job;
+use spec::Indexed;
 use spec::ids::TableId;
 
 // How many numbers nest has for a job, three a row.
-fn nest_count(job: &[u8], index: &[u16]) -> usize
-    requires { Ready job.now index.now }
-    ensures { (result ≡ length (nest_array (outline_at job.now))) × (result ≤ 12288) }
+fn nest_count(job: Job) -> usize
+    ensures { (result ≡ length (nest_array (outline_by job.entry))) × (result ≤ 12288) }
 {
-    let tables = tables::data::data_count(job, index);
-    let rows = tables::data::first_row(job, index, TableId(tables));
+    let tables = tables::data::data_count(job.at);
+    let rows = tables::data::first_row(job.at, TableId(tables));
     rows as usize * 3
 }
 
 // Nest with a list of any length.
-fn nested(job: &[u8], index: &[u16], nest: &mut [u32])
-    requires { Ready job.now index.now }
-    ensures { nest.new ≡ sets nest.old 0 (nest_array (outline_at job.now)) }
+fn nested(job: Job, nest: &mut [u32])
+    ensures { nest.new ≡ sets nest.old 0 (nest_array (outline_by job.entry)) }
 {
     let mut all = [0u32; 12288];
-    nest::rows::nest_rows(job, index, &mut all);
-    let count = nest_count(job, index);
+    nest::rows::nest_rows(job, &mut all);
+    let count = nest_count(job);
     copy_front(nest, &all[..count]);
 }
 
@@ -41,6 +41,14 @@ pub extern "C" fn baktuven_nest(job: &[u8], nest: &mut [u32]) -> u32
     }
     let mut index = [0u16; 10752];
     index::fill_index(job, &mut index);
-    nested(job, &index, nest);
+    nested(
+        Job {
+            at: Indexed {
+                bytes: job,
+                index: &index,
+            },
+        },
+        nest,
+    );
     0
 }

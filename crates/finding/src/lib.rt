@@ -5,6 +5,8 @@ ghost use Rattle.std.specs.Prelude.{◌≡◌, ◌+◌, ◌*◌, ◌<◌, get_or
 ghost use Rattle.std.proofs.lemmas.List.Edits.{sets};
 ghost use Rattle.finding.specs.Findings.{finding_at, findings_in};
 
+mod line;
+
 // The kind, then the values of the listing's line; a signed value stands as its 64 bits.
 #[repr(C)]
 #[derive(Clone, Copy)]

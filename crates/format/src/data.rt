@@ -12,24 +12,14 @@ impl Form for Cells {
     ghost codec = { values_c };
 
     fn ends_at(s: Section, at: usize) -> usize {
-        let t = s.tag_at(at);
         let p = s.le_at(1, at);
-        if t < 1 {
-            let values = s.les_at(4, p);
-            return s.bytes_at(values);
+        match s.case(at) {
+            Some(0) => s.bytes_at(s.les_at(4, p)),
+            Some(1) => s.le_at(1, s.les_at(8, p)),
+            Some(2) => s.le_at(1, s.les_at(16, p)),
+            Some(t) if t < 5 => s.les_at(4, p),
+            _ => s.past(),
         }
-        if t < 2 {
-            let values = s.les_at(8, p);
-            return s.le_at(1, values);
-        }
-        if t < 3 {
-            let values = s.les_at(16, p);
-            return s.le_at(1, values);
-        }
-        if t < 5 {
-            return s.les_at(4, p);
-        }
-        s.past()
     }
 }
 

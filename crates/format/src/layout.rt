@@ -12,12 +12,11 @@ impl Form for Item {
     ghost codec = { item_c };
 
     fn ends_at(s: Section, at: usize) -> usize {
-        let t = s.tag_at(at);
         let p = s.le_at(1, at);
-        if t < 2 {
-            return s.le_at(4, p);
+        match s.case(at) {
+            Some(t) if t < 2 => s.le_at(4, p),
+            _ => s.past(),
         }
-        s.past()
     }
 }
 

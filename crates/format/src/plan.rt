@@ -12,18 +12,13 @@ impl Form for Instances {
     ghost codec = { instances_c };
 
     fn ends_at(s: Section, at: usize) -> usize {
-        let t = s.tag_at(at);
         let p = s.le_at(1, at);
-        if t < 2 {
-            return p;
+        match s.case(at) {
+            Some(t) if t < 2 => p,
+            Some(t) if t < 5 => s.le_at(4, p),
+            Some(t) if t < 6 => p,
+            _ => s.past(),
         }
-        if t < 5 {
-            return s.le_at(4, p);
-        }
-        if t < 6 {
-            return p;
-        }
-        s.past()
     }
 }
 
@@ -35,15 +30,12 @@ impl Form for Source {
     ghost codec = { source_c };
 
     fn ends_at(s: Section, at: usize) -> usize {
-        let t = s.tag_at(at);
         let p = s.le_at(1, at);
-        if t < 1 {
-            return p;
+        match s.case(at) {
+            Some(t) if t < 1 => p,
+            Some(t) if t < 3 => s.le_at(4, p),
+            _ => s.past(),
         }
-        if t < 3 {
-            return s.le_at(4, p);
-        }
-        s.past()
     }
 }
 
@@ -55,15 +47,12 @@ impl Form for Filler {
     ghost codec = { value_c };
 
     fn ends_at(s: Section, at: usize) -> usize {
-        let t = s.tag_at(at);
         let p = s.le_at(1, at);
-        if t < 2 {
-            return s.le_at(4, p);
+        match s.case(at) {
+            Some(t) if t < 2 => s.le_at(4, p),
+            Some(t) if t < 3 => s.bytes_at(p),
+            _ => s.past(),
         }
-        if t < 3 {
-            return s.bytes_at(p);
-        }
-        s.past()
     }
 }
 

@@ -45,18 +45,13 @@ impl Form for Kind {
     ghost codec = { kind_c };
 
     fn ends_at(s: Section, at: usize) -> usize {
-        let t = s.tag_at(at);
         let p = s.le_at(1, at);
-        if t < 2 {
-            return p;
+        match s.case(at) {
+            Some(t) if t < 2 => p,
+            Some(t) if t < 4 => s.le_at(1, p),
+            Some(t) if t < 6 => p,
+            _ => s.past(),
         }
-        if t < 4 {
-            return s.le_at(1, p);
-        }
-        if t < 6 {
-            return p;
-        }
-        s.past()
     }
 }
 

@@ -1,13 +1,14 @@
 -- What a cursor has still to give, one law for each way that code takes.
 use Prim.Native.Nat.{ℕ, ◌+◌, ◌-◌, ◌≤◌, ◌<◌}
 use mathlib.Core.Path.{◌≡◌, refl, sym, ap, ap₂, ◌∙◌, subst}
+use mathlib.Core.Logic.{◌⊎◌, inl, inr}
 use mathlib.Core.Bool.{Bool, true, false}
 use mathlib.Core.List.{List, [], ◌∷◌, map}
 use native.Mathlib.Omega.{arith}
 use Rattle.std.proofs.lemmas.Option.{same_Some, none-some}
 use lib.ListN.{length}
 use lib.Dec.{eqb}
-use borrow.Author.Tests.{eq-eqb, ne_eqb, eqb-true}
+use borrow.Author.Tests.{eq-eqb, eqb-true}
 use Rattle.nest.specs.Lists.{keep, up_to}
 use Rattle.nest.specs.Outline.{Outline, table_parent, row_count}
 use Rattle.nest.proofs.Scan.{keep_alike}
@@ -19,32 +20,33 @@ use Rattle.walk.specs.Nested.{Sound}
 use Rattle.walk.proofs.ContextLaws.{stands_start, stands_in_row, stands_in_piece}
 use Rattle.walk.proofs.RowLaws.{held_apart}
 use Rattle.instances.specs.declared.Cursor.{Cursor}
+use Rattle.instances.specs.declared.Left.{Left}
+use Rattle.instances.specs.declared.Left.TheVariants.{Nothing, Itself, Rows, Runs}
 use Rattle.instances.specs.declared.Next.{Next}
 use Rattle.std.specs.Prelude.{Option, Some, None}
 use Rattle.instances.specs.declared.rows.RowAhead.{RowAhead}
 use Rattle.instances.specs.declared.pieces.RunEnd.{RunEnd}
 use Rattle.instances.proofs.Options.{of_some, not_none, not_some}
-use Rattle.instances.specs.Cursor.{passes, start_of, left, pieces_at, runs, coming, Inside, Going, moved, rowless, Here, RunEnds, context_in, behind, Given, Came}
+use Rattle.instances.specs.Cursor.{passes, start_of, left, pieces_at, runs, coming_by, coming, Inside, Going, moved, rowless, Here, RunEnds, context_of, context_in, behind, Given, Came}
 use Rattle.instances.proofs.Runs.{left_moved}
 
 -- ---- by kind
 
-pub coming_none : (o : Outline) (n : List ℕ) (cur : Cursor) → cur.kind ≡ 0 → coming o n cur ≡ []
+pub coming_none : (o : Outline) (n : List ℕ) (cur : Cursor) → cur.kind ≡ Nothing → coming o n cur ≡ []
 unfolding coming
-coming_none o n cur e = rw (eq-eqb cur.kind 0 e)
+coming_none o n cur e = ap (coming_by o n cur) e
 
-pub coming_one : (o : Outline) (n : List ℕ) (cur : Cursor) → cur.kind ≡ 1 → coming o n cur ≡ context_by cur.context ∷ []
+pub coming_one : (o : Outline) (n : List ℕ) (cur : Cursor) → cur.kind ≡ Itself → coming o n cur ≡ context_by cur.context ∷ []
 unfolding coming
-coming_one o n cur e = rw (ne_eqb cur.kind 0 (λ z. absurd (omega (arith, e, z))), eq-eqb cur.kind 1 e)
+coming_one o n cur e = ap (coming_by o n cur) e
 
-pub coming_rows : (o : Outline) (n : List ℕ) (cur : Cursor) → cur.kind ≡ 2 → coming o n cur ≡ map (in_row cur.table.0 (context_by cur.context)) (left n cur)
+pub coming_rows : (o : Outline) (n : List ℕ) (cur : Cursor) → cur.kind ≡ Rows → coming o n cur ≡ map (in_row cur.table.0 (context_by cur.context)) (left n cur)
 unfolding coming
-coming_rows o n cur e = rw (ne_eqb cur.kind 0 (λ z. absurd (omega (arith, e, z))), ne_eqb cur.kind 1 (λ z. absurd (omega (arith, e, z))), eq-eqb cur.kind 2 e)
+coming_rows o n cur e = ap (coming_by o n cur) e
 
-pub coming_runs : (o : Outline) (n : List ℕ) (cur : Cursor) → 3 ≤ cur.kind → coming o n cur ≡ map (in_piece cur.table.0 (context_by cur.context)) (runs o n cur)
+pub coming_runs : (o : Outline) (n : List ℕ) (cur : Cursor) → cur.kind ≡ Runs → coming o n cur ≡ map (in_piece cur.table.0 (context_by cur.context)) (runs o n cur)
 unfolding coming
-coming_runs o n cur h =
-    rw (ne_eqb cur.kind 0 (λ z. absurd (omega (arith, h, z))), ne_eqb cur.kind 1 (λ z. absurd (omega (arith, h, z))), ne_eqb cur.kind 2 (λ z. absurd (omega (arith, h, z))))
+coming_runs o n cur e = ap (coming_by o n cur) e
 
 -- ---- the rows of an inner context are there
 
@@ -81,24 +83,25 @@ module _ (o : Outline) (c : Context) (t r : ℕ) (s : Sound o c) (h : r < row_co
 -- ---- the context that code makes for an instance
 
 module _ (cur : Cursor) (r : Next) where
-  pub made_one : cur.kind ≡ 1 → context_in cur r ≡ cur.context
+  pub made_one : cur.kind ≡ Itself → context_in cur r ≡ cur.context
   unfolding context_in
-  made_one e = rw (eq-eqb cur.kind 1 e)
+  made_one e = ap (context_of cur r) e
 
-  pub made_row : cur.kind ≡ 2 → context_in cur r ≡ kept_row cur.context cur.table.0 r.row.0
+  pub made_row : cur.kind ≡ Rows → context_in cur r ≡ kept_row cur.context cur.table.0 r.row.0
   unfolding context_in
-  made_row e = rw (ne_eqb cur.kind 1 (λ z. absurd (omega (arith, e, z))), eq-eqb cur.kind 2 e)
+  made_row e = ap (context_of cur r) e
 
-  pub made_run : (cur.kind ≡ 1 → ⊥) → (cur.kind ≡ 2 → ⊥) → context_in cur r ≡ kept_piece cur.context cur.table.0 r.row.0 r.start r.seen
+  pub made_run : (cur.kind ≡ Nothing) ⊎ (cur.kind ≡ Runs) → context_in cur r ≡ kept_piece cur.context cur.table.0 r.row.0 r.start r.seen
   unfolding context_in
-  made_run d e = rw (ne_eqb cur.kind 1 d, ne_eqb cur.kind 2 e)
+  made_run (inl e) = ap (context_of cur r) e
+  made_run (inr e) = ap (context_of cur r) e
 
-  row_stands : cur.kind ≡ 2 → cur.table.0 < length cur.context.rows → context_by (context_in cur r) ≡ in_row cur.table.0 (context_by cur.context) r.row.0
+  row_stands : cur.kind ≡ Rows → cur.table.0 < length cur.context.rows → context_by (context_in cur r) ≡ in_row cur.table.0 (context_by cur.context) r.row.0
   row_stands e w = ap context_by (made_row e) ∙ stands_in_row cur.context cur.table.0 r.row.0 w
 
-  run_stands : 3 ≤ cur.kind → cur.table.0 < length cur.context.rows → (p : Piece) → p.head ≡ r.row.0 → r.start ≡ start_of cur + p.start → r.seen ≡ start_of cur + p.end
+  run_stands : cur.kind ≡ Runs → cur.table.0 < length cur.context.rows → (p : Piece) → p.head ≡ r.row.0 → r.start ≡ start_of cur + p.start → r.seen ≡ start_of cur + p.end
       → context_by (context_in cur r) ≡ in_piece cur.table.0 (context_by cur.context) p
-  run_stands k w p e f g = ap context_by (made_run (λ z. absurd (omega (arith, k, z))) (λ z. absurd (omega (arith, k, z))) ∙ rw (← e, f, g)) ∙ stands_in_piece cur.context cur.table.0 p w
+  run_stands k w p e f g = ap context_by (made_run (inr k) ∙ rw (← e, f, g)) ∙ stands_in_piece cur.context cur.table.0 p w
 
 -- ---- the next instance
 
@@ -109,7 +112,7 @@ one : (o : Outline) (n : List ℕ) (cur : Cursor) (r : Next) → Given o n cur r
 one o n cur r g = record { ended = λ z. absurd (not_none r z); given = of_some (Given o n cur) r g }
 
 module _ (o : Outline) (n : List ℕ) where
-  pub going_rowless : (kind : ℕ) (l : LoopId) (c : Kept) → l.0 < 32 → Sound o (context_by c) → Going o n (rowless kind l c)
+  pub going_rowless : (kind : Left) (l : LoopId) (c : Kept) → l.0 < 32 → Sound o (context_by c) → Going o n (rowless kind l c)
   going_rowless kind l c h s = record {
     inner = record { room = omega arith; few = omega arith; small = omega arith; counted = refl; behind = omega arith; within = omega arith };
     a_table = omega arith;
@@ -126,12 +129,12 @@ module _ (o : Outline) (n : List ℕ) where
   further cur seen k d e g i = subst (λ (x : Cursor). Inside n x × (x.l.0 < 32)) (sym e) (i, g.a_loop)
 
   module _ (cur : Cursor) where
-    pub came_none : cur.kind ≡ 0 → Came o n cur None
+    pub came_none : cur.kind ≡ Nothing → Came o n cur None
     came_none e = over o n cur (coming_none o n cur e)
 
-    pub came_one : cur.kind ≡ 1 → Going o n cur → Came o n cur (Some (record { kind = 0; row = record { 0 = 0 }; start = 0; seen = 0; next = 0 }))
+    pub came_one : cur.kind ≡ Itself → Going o n cur → Came o n cur (Some (record { kind = Nothing; row = record { 0 = 0 }; start = 0; seen = 0; next = 0 }))
     came_one e g =
-        let r : Next = record { kind = 0; row = record { 0 = 0 }; start = 0; seen = 0; next = 0 } in
+        let r : Next = record { kind = Nothing; row = record { 0 = 0 }; start = 0; seen = 0; next = 0 } in
         one o n cur r (record {
           came = coming_one o n cur e ∙ ap₂ (λ x xs. x ∷ xs) (ap context_by (sym (made_one cur r e))) (sym (coming_none o n (behind cur r) refl));
           sound = subst (λ d. Sound o (context_by d)) (sym (made_one cur r e)) g.sound;
@@ -147,10 +150,10 @@ module _ (o : Outline) (n : List ℕ) where
         })
 
     -- a `Rows` loop
-    pub rows_over : cur.kind ≡ 2 → left n cur ≡ [] → Came o n cur None
+    pub rows_over : cur.kind ≡ Rows → left n cur ≡ [] → Came o n cur None
     rows_over e h = over o n cur (coming_rows o n cur e ∙ ap (map (in_row cur.table.0 (context_by cur.context))) h)
 
-    pub came_rows : (a : RowAhead) → cur.kind ≡ 2 → cur.table.0 < length cur.context.rows → Going o n cur → Here n cur a
+    pub came_rows : (a : RowAhead) → cur.kind ≡ Rows → cur.table.0 < length cur.context.rows → Going o n cur → Here n cur a
         → Came o n cur (Some (record { kind = cur.kind; row = a.row; start = 0; seen = a.seen; next = a.next }))
     came_rows a e w g ahead =
         let t : ℕ = cur.table.0 in
@@ -166,10 +169,10 @@ module _ (o : Outline) (n : List ℕ) where
         })
 
     -- a `Groups` loop
-    pub runs_over : 3 ≤ cur.kind → left n cur ≡ [] → Came o n cur None
+    pub runs_over : cur.kind ≡ Runs → left n cur ≡ [] → Came o n cur None
     runs_over e h = over o n cur (coming_runs o n cur e ∙ ap (λ xs. map (in_piece cur.table.0 (context_by cur.context)) (pieces_at (o.same_group cur.l.0) (cur.seen - start_of cur) xs)) h)
 
-    pub came_run : (a : RowAhead) (e : RunEnd) (first : Cursor) → 3 ≤ cur.kind → cur.table.0 < length cur.context.rows → Going o n cur → Here n cur a → first ≡ moved cur a.seen a.next → RunEnds o n first a.row.0 e
+    pub came_run : (a : RowAhead) (e : RunEnd) (first : Cursor) → cur.kind ≡ Runs → cur.table.0 < length cur.context.rows → Going o n cur → Here n cur a → first ≡ moved cur a.seen a.next → RunEnds o n first a.row.0 e
         → Came o n cur (Some (record { kind = cur.kind; row = a.row; start = a.seen - 1; seen = e.seen; next = e.next }))
     came_run a e first k w g h f run₀ =
         let t : ℕ = cur.table.0 in

@@ -2,7 +2,7 @@
 use Prim.Native.Nat.{ℕ, zero, suc, ◌+◌, ◌-◌, ◌≤◌, ◌<◌, max}
 use mathlib.Core.Path.{◌≡◌, refl, sym, ap, ap₂, ◌∙◌}
 use mathlib.Core.Bool.{Bool, true, false, false≢true, cond, ◌||◌}
-use mathlib.Core.List.{List, [], ◌∷◌, ◌++◌}
+use mathlib.Core.List.{List, [], ◌∷◌, ◌++◌, map}
 use native.Mathlib.Omega.{arith}
 use lib.ListN.{length, take, drop}
 use lib.Dec.{eqb}
@@ -18,11 +18,13 @@ use Rattle.nest.specs.OfJob.{outline_of}
 use Rattle.nest.proofs.Bridge.{table_parent_is}
 use Rattle.nest.proofs.Reports.{found_row, found_none}
 use Rattle.nest.proofs.Scan.{window, keep_alike, keep_length}
-use Rattle.walk.specs.Instances.{Context, Run, held_by, offset}
+use Rattle.walk.specs.Instances.{Context, Run, held_by, offset, in_row, in_piece}
 use Rattle.walk.specs.Contexts.{context_by}
 use Rattle.walk.proofs.ContextLaws.{stands_start}
 use Rattle.instances.specs.declared.Cursor.{Cursor}
-use Rattle.instances.specs.Cursor.{passes, start_of, end_of, left_at, left, coming, Going, moved, from_run}
+use Rattle.instances.specs.declared.Left.{Left}
+use Rattle.instances.specs.declared.Left.TheVariants.{Nothing, Itself, Rows, Runs}
+use Rattle.instances.specs.Cursor.{passes, start_of, end_of, left_at, left, pieces_at, coming_by, coming, Going, moved, from_run}
 use Rattle.instances.proofs.Cursors.{going_moved}
 
 -- ---- whether a table is its own parent
@@ -112,8 +114,14 @@ window_from_lem p n a b k h e =
 -- ---- what is still to come
 
 coming_moved : (o : Outline) (n : List ℕ) (cur : Cursor) (seen k : ℕ) → left_at n cur seen k ≡ left n cur → seen - start_of cur ≡ cur.seen - start_of cur → coming o n (moved cur seen k) ≡ coming o n cur
-unfolding coming
-coming_moved o n cur seen k e q = rw (e, q)
+unfolding coming left_at
+coming_moved o n cur seen k e q = go cur.kind
+  where
+    go : (x : Left) → coming_by o n (moved cur seen k) x ≡ coming_by o n cur x
+    go Nothing = refl
+    go Itself = refl
+    go Rows = ap (map (in_row cur.table.0 (context_by cur.context))) e
+    go Runs = ap₂ (λ at rows. map (in_piece cur.table.0 (context_by cur.context)) (pieces_at (o.same_group cur.l.0) at rows)) q e
 
 module _ (o : Outline) (n : List ℕ) (cur : Cursor) (g : Going o n cur) (from_zero : (cur.seen ≡ 0) × (cur.next ≡ 0)) (all_rows : row_count o cur.table.0 ≤ cur.rows) where
   abbrev t : ℕ

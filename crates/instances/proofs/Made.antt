@@ -1,7 +1,7 @@
 -- The cursors that are made: what each has to give.
 use Prim.Native.Nat.{ℕ, zero, suc, ◌+◌, ◌-◌, ◌≤◌, ◌<◌, max}
 use mathlib.Core.Path.{◌≡◌, refl, sym, ap, ap₂, ◌∙◌, subst}
-use mathlib.Core.Bool.{Bool, true, false, false≢true}
+use mathlib.Core.Bool.{Bool, true, false}
 use mathlib.Core.List.{List, [], ◌∷◌, map}
 use native.Mathlib.Numerals.{add-one}
 use native.Mathlib.Omega.{arith}
@@ -22,10 +22,10 @@ use Rattle.spec.specs.declared.ids.TableId.{TableId}
 use Rattle.spec.specs.declared.ids.RowId.{RowId}
 use Rattle.plan.specs.Answers.{instances_of}
 use Rattle.plan.specs.declared.answers.Instances.{Instances}
-use Rattle.nest.specs.Lists.{once, on, is, keep, up_to}
+use Rattle.nest.specs.Lists.{on, is, keep, up_to}
 use Rattle.std.specs.Prelude.{Option, Some, None}
 use Rattle.nest.specs.Found.{found_by, row_place, held_at}
-use Rattle.nest.specs.Outline.{Outline, Table, absent, envelope, implied, rows, inside, groups, kind_of, table_of, table_parent, row_count, plain}
+use Rattle.nest.specs.Outline.{Outline, Table, absent, envelope, rows, inside, groups, kind_of, table_of, table_parent, row_count, plain}
 use Rattle.nest.specs.Nest.{referred}
 use Rattle.nest.specs.OfJob.{outline_of, kind_in}
 use Rattle.nest.specs.Ready.{outline_at}
@@ -45,7 +45,9 @@ use Rattle.walk.proofs.RowLaws.{held_top, held_outside, rows_window, rows_none}
 use Rattle.walk.proofs.NestedLaws.{lent_held}
 use Rattle.walk.proofs.TourLaws.{inst_absent, inst_envelope, inst_rows, inst_groups, inst_rowless, inst_shown, inst_hidden}
 use Rattle.instances.specs.declared.Cursor.{Cursor}
-use Rattle.instances.specs.Cursor.{passes, left_at, left, pieces_at, runs, coming, Going, rowless, rows_from, from_run, above_in, is_implied, shown_in, Lists, OfLoop}
+use Rattle.instances.specs.declared.Left.{Left}
+use Rattle.instances.specs.declared.Left.TheVariants.{Nothing, Itself, Rows, Runs}
+use Rattle.instances.specs.Cursor.{passes, left_at, left, pieces_at, runs, coming, Going, rowless, rows_from, from_run, above_in, is_implied, shown_in, itself_if, Lists, OfLoop}
 use Rattle.instances.proofs.RowsLeft.{passes_all, passes_held}
 use Rattle.instances.proofs.Cursors.{coming_none, coming_one, coming_rows, coming_runs, going_rowless}
 use Rattle.instances.specs.Stretch.{Same}
@@ -115,7 +117,7 @@ base_is j (suc t) =
     let e : T.rows_before j.tables (t + 1) ≡ rows_before (outline_of j) (t + 1) = omega (arith, a, b, c, d, i) in
     rw (← add-one) e
 
-pub rows_made : (j : Job) (kind : ℕ) (l : LoopId) (t : TableId) (c : Kept) (base count above : ℕ) → base ≡ T.rows_before j.tables t.0 → count ≡ (A.data_of j t.0).rows
+pub rows_made : (j : Job) (kind : Left) (l : LoopId) (t : TableId) (c : Kept) (base count above : ℕ) → base ≡ T.rows_before j.tables t.0 → count ≡ (A.data_of j t.0).rows
     → rows_from kind l t c base count above ≡ rows_from kind l t c (T.rows_before j.tables t.0) (row_count (outline_of j) t.0) above
 rows_made j kind l t c base count above e q = ap₂ (λ x y. rows_from kind l t c x y above) e (q ∙ sym (rows_is j t.0))
 
@@ -148,7 +150,7 @@ rows_lost o t c f e = rows_window o t c f ∙ rw none_kept (simp (drop-nil, take
     none_kept : keep (held_by o t c.row) (up_to 0 (row_count o t)) ≡ []
     none_kept = keep_alike (held_by o t c.row) (λ r. false) 0 (row_count o t) (λ r h. held_never o t c r e) ∙ keep_none (row_count o t - 0) 0
 
-module _ {b idx n : List ℕ} (N : Nested b idx n) (kind : ℕ) (l : LoopId) (t : TableId) (c : Kept) where
+module _ {b idx n : List ℕ} (N : Nested b idx n) (kind : Left) (l : LoopId) (t : TableId) (c : Kept) where
   abbrev o : Outline
   o = outline_at b
 
@@ -221,7 +223,7 @@ module _ {b idx n : List ℕ} (N : Nested b idx n) (kind : ℕ) (l : LoopId) (t 
         let same = from_run_same o n (it above) (going_rows s h) (refl, refl) (omega arith) in
         record {
           each_row = λ z. ap (coming o n) q ∙ same.0 ∙ coming_rows o n (it above) z ∙ ap (map (in_row t.0 (context_by c))) all_left;
-          each_run = λ z. ap (coming o n) q ∙ same.0 ∙ coming_runs o n (it above) (omega (arith, z)) ∙ ap (map (in_piece t.0 (context_by c))) runs_are;
+          each_run = λ z. ap (coming o n) q ∙ same.0 ∙ coming_runs o n (it above) z ∙ ap (map (in_piece t.0 (context_by c))) runs_are;
           going = subst (Going o n) (sym q) same.1;
         }
       where
@@ -245,19 +247,19 @@ module _ {b idx n : List ℕ} (N : Nested b idx n) (kind : ℕ) (l : LoopId) (t 
       starts : Cursor → Type 0
       starts d = d.base ≡ T.rows_before (job_of b).tables d.table.0
 
-  lists_empty : (r : Cursor) → Sound o (context_by c) → l.0 < 32 → r ≡ rowless 0 l c → rows_in o t.0 (context_by c) ≡ [] → Lists o n kind l.0 t.0 (context_by c) r
+  lists_empty : (r : Cursor) → Sound o (context_by c) → l.0 < 32 → r ≡ rowless Nothing l c → rows_in o t.0 (context_by c) ≡ [] → Lists o n kind l.0 t.0 (context_by c) r
   lists_empty r s h q e =
-      let z : coming o n r ≡ [] = ap (coming o n) q ∙ coming_none o n (rowless 0 l c) refl in
+      let z : coming o n r ≡ [] = ap (coming o n) q ∙ coming_none o n (rowless Nothing l c) refl in
       record {
         each_row = λ k. z ∙ ap (map (in_row t.0 (context_by c))) (sym e);
         each_run = λ k. z ∙ ap (λ xs. map (in_piece t.0 (context_by c)) (pieces_of (o.same_group l.0) xs)) (sym e);
-        going = subst (Going o n) (sym q) (going_rowless o n 0 l c h s);
+        going = subst (Going o n) (sym q) (going_rowless o n Nothing l c h s);
       }
 
-  pub lists_none : (r : Cursor) → Sound o (context_by c) → l.0 < 32 → r ≡ rowless 0 l c → plain o t.0 ≡ false → Lists o n kind l.0 t.0 (context_by c) r
+  pub lists_none : (r : Cursor) → Sound o (context_by c) → l.0 < 32 → r ≡ rowless Nothing l c → plain o t.0 ≡ false → Lists o n kind l.0 t.0 (context_by c) r
   lists_none r s h q f = lists_empty r s h q (rows_none o t.0 (context_by c) f)
 
-  pub lists_lost : (r : Cursor) → Sound o (context_by c) → l.0 < 32 → r ≡ rowless 0 l c → plain o t.0 ≡ true → None ≡ above_in o t.0 (context_by c) → Lists o n kind l.0 t.0 (context_by c) r
+  pub lists_lost : (r : Cursor) → Sound o (context_by c) → l.0 < 32 → r ≡ rowless Nothing l c → plain o t.0 ≡ true → None ≡ above_in o t.0 (context_by c) → Lists o n kind l.0 t.0 (context_by c) r
   lists_lost r s h q f e = lists_empty r s h q (rows_lost o t.0 (context_by c) f e)
 
 -- ---- an `Inside` loop
@@ -271,8 +273,8 @@ module _ (o : Outline) (l t : ℕ) (c : Context) where
   unfolding shown_in
   shown_none f h z = rw (found_none (c.row t) f h z)
 
-pub inside_is : (r : Cursor) (b x : Bool) (l : LoopId) (c : Kept) → r ≡ rowless (once b) l c → x ≡ b → r ≡ rowless (once x) l c
-inside_is r b x l c e q = e ∙ ap (λ v. rowless (once v) l c) (sym q)
+pub inside_is : (r : Cursor) (b x : Bool) (l : LoopId) (c : Kept) → r ≡ rowless (itself_if b) l c → x ≡ b → r ≡ rowless (itself_if x) l c
+inside_is r b x l c e q = e ∙ ap (λ v. rowless (itself_if v) l c) (sym q)
 
 -- ---- by the kind of the loop
 
@@ -283,29 +285,26 @@ pub implied_of : (j : Job) (l : ℕ) (k : Instances) (x : Bool) → instances_of
 implied_of j l k x e q = q ∙ ap is_implied (sym (kind_of_lem j l k e))
 
 module _ (o : Outline) (n : List ℕ) (l : LoopId) (c : Kept) (s : Sound o (context_by c)) (small : l.0 < 32) (r : Cursor) where
-  pub of_absent : kind_of o l.0 ≡ absent → r ≡ rowless 0 l c → OfLoop o n l.0 (context_by c) r
-  of_absent k q = record { all = λ h. ap (coming o n) q ∙ coming_none o n (rowless 0 l c) refl ∙ sym (inst_absent o h l.0 (context_by c) k); going = subst (Going o n) (sym q) (going_rowless o n 0 l c small s) }
+  pub of_absent : kind_of o l.0 ≡ absent → r ≡ rowless Nothing l c → OfLoop o n l.0 (context_by c) r
+  of_absent k q = record { all = λ h. ap (coming o n) q ∙ coming_none o n (rowless Nothing l c) refl ∙ sym (inst_absent o h l.0 (context_by c) k); going = subst (Going o n) (sym q) (going_rowless o n Nothing l c small s) }
 
-  pub of_envelope_lem : kind_of o l.0 ≡ envelope → r ≡ rowless 1 l c → OfLoop o n l.0 (context_by c) r
-  of_envelope_lem k q = record { all = λ h. ap (coming o n) q ∙ coming_one o n (rowless 1 l c) refl ∙ sym (inst_envelope o h l.0 (context_by c) k); going = subst (Going o n) (sym q) (going_rowless o n 1 l c small s) }
+  pub of_envelope_lem : kind_of o l.0 ≡ envelope → r ≡ rowless Itself l c → OfLoop o n l.0 (context_by c) r
+  of_envelope_lem k q = record { all = λ h. ap (coming o n) q ∙ coming_one o n (rowless Itself l c) refl ∙ sym (inst_envelope o h l.0 (context_by c) k); going = subst (Going o n) (sym q) (going_rowless o n Itself l c small s) }
 
-  pub of_rows : (t : ℕ) → kind_of o l.0 ≡ rows t → Lists o n 2 l.0 t (context_by c) r → OfLoop o n l.0 (context_by c) r
+  pub of_rows : (t : ℕ) → kind_of o l.0 ≡ rows t → Lists o n Rows l.0 t (context_by c) r → OfLoop o n l.0 (context_by c) r
   of_rows t k q = record { all = λ h. q.each_row refl ∙ sym (inst_rows o h l.0 t (context_by c) k); going = q.going }
 
-  pub of_groups : (t : ℕ) → kind_of o l.0 ≡ groups t → Lists o n 3 l.0 t (context_by c) r → OfLoop o n l.0 (context_by c) r
+  pub of_groups : (t : ℕ) → kind_of o l.0 ≡ groups t → Lists o n Runs l.0 t (context_by c) r → OfLoop o n l.0 (context_by c) r
   of_groups t k q = record { all = λ h. q.each_run refl ∙ sym (inst_groups o h l.0 t (context_by c) k); going = q.going }
 
-  pub of_inside : (t : ℕ) → kind_of o l.0 ≡ inside t → r ≡ rowless (once (shown_in o l.0 t (context_by c))) l c → OfLoop o n l.0 (context_by c) r
+  pub of_inside : (t : ℕ) → kind_of o l.0 ≡ inside t → r ≡ rowless (itself_if (shown_in o l.0 t (context_by c))) l c → OfLoop o n l.0 (context_by c) r
   unfolding shown_in
   of_inside t k q = record { all = λ h. ap (coming o n) q ∙ in_row_lem h ((context_by c).row t) refl; going = subst (Going o n) (sym q) (going_rowless o n _ l c small s) }
     where
-      chosen : (h p : ℕ) → (context_by c).row t ≡ Some p → (b : Bool) → shown o l.0 t p ≡ b → coming o n (rowless (once b) l c) ≡ instances o (suc h) l.0 (context_by c)
-      chosen h p z true y = coming_one o n (rowless 1 l c) refl ∙ sym (inst_shown o h l.0 t p (context_by c) k z y)
-      chosen h p z false y = coming_none o n (rowless 0 l c) refl ∙ sym (inst_hidden o h l.0 t p (context_by c) k z y)
+      chosen : (h p : ℕ) → (context_by c).row t ≡ Some p → (b : Bool) → shown o l.0 t p ≡ b → coming o n (rowless (itself_if b) l c) ≡ instances o (suc h) l.0 (context_by c)
+      chosen h p z true y = coming_one o n (rowless Itself l c) refl ∙ sym (inst_shown o h l.0 t p (context_by c) k z y)
+      chosen h p z false y = coming_none o n (rowless Nothing l c) refl ∙ sym (inst_hidden o h l.0 t p (context_by c) k z y)
 
-      in_row_lem : (h : ℕ) (x : Option ℕ) → (context_by c).row t ≡ x → coming o n (rowless (once (on ((context_by c).row t) (shown o l.0 t) false)) l c) ≡ instances o (suc h) l.0 (context_by c)
-      in_row_lem h None z = rw z (coming_none o n (rowless 0 l c) refl ∙ sym (inst_rowless o h l.0 t (context_by c) k z))
+      in_row_lem : (h : ℕ) (x : Option ℕ) → (context_by c).row t ≡ x → coming o n (rowless (itself_if (on ((context_by c).row t) (shown o l.0 t) false)) l c) ≡ instances o (suc h) l.0 (context_by c)
+      in_row_lem h None z = rw z (coming_none o n (rowless Nothing l c) refl ∙ sym (inst_rowless o h l.0 t (context_by c) k z))
       in_row_lem h (Some p) z = rw z (chosen h p z (shown o l.0 t p) refl)
-
-  pub of_implied : kind_of o l.0 ≡ implied → is_implied (kind_of o l.0) ≡ false → OfLoop o n l.0 (context_by c) r
-  of_implied k f = absurd (false≢true (sym f ∙ ap is_implied k))

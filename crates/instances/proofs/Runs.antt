@@ -26,12 +26,6 @@ pub record Running (o : Outline) (n : List ℕ) (cur : Cursor) (head seen k : �
   pub on : cur.seen ≤ seen
   pub inner : Inside n (moved cur seen k)
 
-pub running : (o : Outline) (n : List ℕ) (cur : Cursor) (head : ℕ) → Inside n cur → Running o n cur head cur.seen cur.next
-running o n cur head i = record { run = λ start. refl; on = omega arith; inner = record { room = i.room; few = i.few; small = i.small; counted = i.counted; behind = i.behind; within = i.within } }
-
-pub run_inside : (o : Outline) (n : List ℕ) (cur : Cursor) (head seen k : ℕ) → Running o n cur head seen k → (at : Cursor) → at ≡ moved cur seen k → Inside n at
-run_inside o n cur head seen k s at e = subst (Inside n) (sym e) s.inner
-
 module _ (o : Outline) (n : List ℕ) (cur : Cursor) (head seen k : ℕ) (s : Running o n cur head seen k) (at : Cursor) (e : at ≡ moved cur seen k) (x : Option RowAhead) (ahead : Ahead n at x) where
   there : Ahead n (moved cur seen k) x
   there = subst (λ (c : Cursor). Ahead n c x) e ahead

@@ -18,6 +18,7 @@ use Rattle.walk.specs.Contexts.{context_by}
 use Rattle.walk.specs.Nested.{Sound}
 use Rattle.walk.proofs.TourLaws.{inst_deep, inst_implied, some_child, child_found, child_next, child_end}
 use Rattle.instances.specs.declared.Cursor.{Cursor}
+use Rattle.instances.specs.declared.Left.TheVariants.{Nothing, Itself}
 use Rattle.instances.specs.declared.Next.{Next}
 use Rattle.std.specs.Prelude.{Option, Some, None, is_some}
 use Rattle.instances.specs.Cursor.{coming, Going, rowless, is_implied, OfLoop, Came}
@@ -93,11 +94,11 @@ module _ (o : Outline) (n : List ℕ) (h l : ℕ) (c : Context) (deep : h ≡ 0 
 
 -- ---- cursors without rows
 module _ (o : Outline) (n : List ℕ) (h : ℕ) (l : LoopId) (c : Kept) (small : l.0 < 32) (s : Sound o (context_by c)) (r : Cursor) where
-  pub gives_none : r ≡ rowless 0 l c → instances o h l.0 (context_by c) ≡ [] → (coming o n r ≡ instances o h l.0 (context_by c)) × Going o n r
-  gives_none q e = (ap (coming o n) q ∙ coming_none o n (rowless 0 l c) refl ∙ sym e, subst (Going o n) (sym q) (going_rowless o n 0 l c small s))
+  pub gives_none : r ≡ rowless Nothing l c → instances o h l.0 (context_by c) ≡ [] → (coming o n r ≡ instances o h l.0 (context_by c)) × Going o n r
+  gives_none q e = (ap (coming o n) q ∙ coming_none o n (rowless Nothing l c) refl ∙ sym e, subst (Going o n) (sym q) (going_rowless o n Nothing l c small s))
 
-  pub gives_one : r ≡ rowless 1 l c → instances o h l.0 (context_by c) ≡ context_by c ∷ [] → (coming o n r ≡ instances o h l.0 (context_by c)) × Going o n r
-  gives_one q e = (ap (coming o n) q ∙ coming_one o n (rowless 1 l c) refl ∙ sym e, subst (Going o n) (sym q) (going_rowless o n 1 l c small s))
+  pub gives_one : r ≡ rowless Itself l c → instances o h l.0 (context_by c) ≡ context_by c ∷ [] → (coming o n r ≡ instances o h l.0 (context_by c)) × Going o n r
+  gives_one q e = (ap (coming o n) q ∙ coming_one o n (rowless Itself l c) refl ∙ sym e, subst (Going o n) (sym q) (going_rowless o n Itself l c small s))
 
 pub deep_none : (o : Outline) (h l : ℕ) (c : Context) → h ≡ 0 → instances o h l c ≡ []
 deep_none o h l c e = rw (e, inst_deep o l c)

@@ -2,9 +2,8 @@
 use Prim.Native.Nat.{ℕ, ◌+◌, ◌-◌, ◌*◌, ◌≤◌, ◌<◌, max}
 use mathlib.Core.Path.{◌≡◌, refl, sym, ap, ap₂, ◌∙◌, subst}
 use mathlib.Core.Bool.{Bool, true, false}
-use mathlib.Core.List.{List}
+use mathlib.Core.List.{List, map}
 use native.Mathlib.Omega.{arith}
-use native.Mathlib.Decide.{dec_lt}
 use lib.ListN.{length, get_or, take, drop}
 use lib.Seq.{take_all}
 use lib.Dec.{eqb}
@@ -21,12 +20,15 @@ use Rattle.nest.proofs.Stored.{before_is}
 use Rattle.walk.specs.declared.Context.{Context as Kept}
 use Rattle.std.specs.Prelude.{Option, Some, None}
 use Rattle.walk.specs.declared.Run.{Run as KeptRun}
-use Rattle.walk.specs.Contexts.{start_by, end_by}
+use Rattle.walk.specs.Instances.{in_row, in_piece}
+use Rattle.walk.specs.Contexts.{context_by, start_by, end_by}
 use Rattle.walk.specs.Nested.{Nested}
 use Rattle.walk.proofs.ContextLaws.{start_other, start_free, end_run, end_other, end_free}
 use Rattle.walk.proofs.NestedLaws.{lent_climbs}
 use Rattle.instances.specs.declared.Cursor.{Cursor}
-use Rattle.instances.specs.Cursor.{passes, left_at, left, coming, Going}
+use Rattle.instances.specs.declared.Left.{Left}
+use Rattle.instances.specs.declared.Left.TheVariants.{Nothing, Itself, Rows, Runs}
+use Rattle.instances.specs.Cursor.{passes, start_of, left_at, left, pieces_at, coming_by, coming, Going}
 use Rattle.instances.specs.Stretch.{Same, Reached}
 
 -- ---- the rows of the context's run are the same where the list is
@@ -61,20 +63,6 @@ module _ (n : List ℕ) (base from rows above : ℕ) where
       let number : get_or n i 0 ≡ nest_at n base at 0 = ap (λ k. get_or n k 0) z in
       record { after = f; within = omega arith; rest = λ r x y. omega (arith, number, u.climb at r x y) }
 
-  pub reached_end : from ≤ rows → Reached n base from rows above rows
-  reached_end f = record { after = f; within = omega arith; rest = λ r x y. absurd (omega arith) }
-
-  module _ (far : ℕ) (w : Reached n base from rows above far) where
-    pub climbs_there : Climbs n base rows → Climbs n base far
-    climbs_there u = record { climb = λ i k x y. u.climb i k x (omega (arith, w.within)) }
-
-    pub parted_there : (k : ℕ) → Parted n base from far above k → Parted n base from rows above k
-    parted_there k p = record { after = p.after; within = omega (arith, p.within, w.within); below = p.below; rest = λ r x y. go r x y (dec_lt r far) }
-      where
-        go : (r : ℕ) → k ≤ r → r < rows → Dec (r < far) → above ≤ nest_at n base r 0
-        go r x y (yes q) = p.rest r x q
-        go r x y (no q) = w.rest r (omega arith) y
-
 -- ---- the stretch
 
 abbrev pub narrow : Cursor → ℕ → ℕ → Cursor
@@ -82,7 +70,13 @@ narrow cur low high = record { kind = cur.kind; l = cur.l; table = cur.table; co
 
 coming_same : (o : Outline) (n : List ℕ) (cur : Cursor) (low high : ℕ) → left n (narrow cur low high) ≡ left n cur → coming o n (narrow cur low high) ≡ coming o n cur
 unfolding coming
-coming_same o n cur low high e = rw e
+coming_same o n cur low high e = go cur.kind
+  where
+    go : (x : Left) → coming_by o n (narrow cur low high) x ≡ coming_by o n cur x
+    go Nothing = refl
+    go Itself = refl
+    go Rows = ap (map (in_row cur.table.0 (context_by cur.context))) e
+    go Runs = ap (λ xs. map (in_piece cur.table.0 (context_by cur.context)) (pieces_at (o.same_group cur.l.0) (cur.seen - start_of cur) xs)) e
 
 module _ (o : Outline) (n : List ℕ) (cur : Cursor) (up : 0 < cur.above) (low high : ℕ) (first : Parted n cur.base cur.next cur.rows cur.above low) (second : Parted n cur.base low cur.rows (cur.above + 1) high) where
   abbrev passing : ℕ → Bool

@@ -10,6 +10,8 @@ use Rattle.walk.specs.Nested.{Sound}
 use Rattle.spec.specs.declared.ids.LoopId.{LoopId}
 use Rattle.spec.specs.declared.ids.TableId.{TableId}
 use Rattle.instances.specs.declared.Cursor.{Cursor}
+use Rattle.instances.specs.declared.Left.{Left}
+use Rattle.instances.specs.declared.Left.TheVariants.{Nothing, Itself, Rows, Runs}
 use Rattle.instances.specs.declared.Next.{Next}
 use Rattle.instances.specs.declared.rows.RowAhead.{RowAhead}
 use Rattle.instances.specs.declared.pieces.RunEnd.{RunEnd}
@@ -45,13 +47,14 @@ pieces_at same at (r ∷ more) = pieces same r at (at + 1) more
 abbrev pub runs : Outline → List ℕ → Cursor → List Piece
 runs o n cur = pieces_at (o.same_group cur.l.0) (cur.seen - start_of cur) (left n cur)
 
+abbrev pub coming_by : Outline → List ℕ → Cursor → Left → List Context
+coming_by o n cur Nothing = []
+coming_by o n cur Itself = context_by cur.context ∷ []
+coming_by o n cur Rows = map (in_row cur.table.0 (context_by cur.context)) (left n cur)
+coming_by o n cur Runs = map (in_piece cur.table.0 (context_by cur.context)) (runs o n cur)
+
 unfoldable pub coming : Outline → List ℕ → Cursor → List Context
-unfolding left_at
-coming o n cur =
-    cond (eqb cur.kind 0) []
-    (cond (eqb cur.kind 1) (context_by cur.context ∷ [])
-    (cond (eqb cur.kind 2) (map (in_row cur.table.0 (context_by cur.context)) (left n cur))
-    (map (in_piece cur.table.0 (context_by cur.context)) (runs o n cur))))
+coming o n cur = coming_by o n cur cur.kind
 
 -- ---- what a cursor needs
 
@@ -88,12 +91,12 @@ moved cur seen next = record {
   next = next;
 }
 
--- of kind 0 or 1
-abbrev pub rowless : ℕ → LoopId → Kept → Cursor
+-- with nothing left, or with the context itself
+abbrev pub rowless : Left → LoopId → Kept → Cursor
 rowless kind l c = record { kind = kind; l = l; table = record { 0 = 0 }; context = c; base = 0; rows = 0; above = 0; seen = 0; next = 0 }
 
--- of kind 2 or 3
-abbrev pub rows_from : ℕ → LoopId → TableId → Kept → ℕ → ℕ → ℕ → Cursor
+-- with rows left, or with their runs
+abbrev pub rows_from : Left → LoopId → TableId → Kept → ℕ → ℕ → ℕ → Cursor
 rows_from kind l t c base count above = record { kind = kind; l = l; table = t; context = c; base = base; rows = count; above = above; seen = 0; next = 0 }
 
 -- the same at the first row of the context's run: the rows before it stand before the run. A table that is its own parent has another list in the run
@@ -118,10 +121,14 @@ is_implied (groups t) = false
 unfoldable pub shown_in : Outline → ℕ → ℕ → Context → Bool
 shown_in o l t c = on (c.row t) (shown o l t) false
 
--- a cursor over the rows of a table (kind 2), or over their runs (kind 3)
-pub record Lists (o : Outline) (n : List ℕ) (kind l t : ℕ) (c : Context) (r : Cursor) : Type 0 where
-  pub each_row : kind ≡ 2 → coming o n r ≡ map (in_row t c) (rows_in o t c)
-  pub each_run : kind ≡ 3 → coming o n r ≡ map (in_piece t c) (pieces_of (o.same_group l) (rows_in o t c))
+abbrev pub itself_if : Bool → Left
+itself_if true = Itself
+itself_if false = Nothing
+
+-- a cursor over the rows of a table, or over their runs
+pub record Lists (o : Outline) (n : List ℕ) (kind : Left) (l t : ℕ) (c : Context) (r : Cursor) : Type 0 where
+  pub each_row : kind ≡ Rows → coming o n r ≡ map (in_row t c) (rows_in o t c)
+  pub each_run : kind ≡ Runs → coming o n r ≡ map (in_piece t c) (pieces_of (o.same_group l) (rows_in o t c))
   pub going : Going o n r
 
 -- a cursor over the instances of a loop, whatever the height
@@ -155,11 +162,14 @@ pub record RunEnds (o : Outline) (n : List ℕ) (cur : Cursor) (head : ℕ) (r :
 -- ---- the next instance
 
 -- the context that code makes for it
+abbrev pub context_of : Cursor → Next → Left → Kept
+context_of cur r Itself = cur.context
+context_of cur r Rows = kept_row cur.context cur.table.0 r.row.0
+context_of cur r Nothing = kept_piece cur.context cur.table.0 r.row.0 r.start r.seen
+context_of cur r Runs = kept_piece cur.context cur.table.0 r.row.0 r.start r.seen
+
 unfoldable pub context_in : Cursor → Next → Kept
-context_in cur r =
-    cond (eqb cur.kind 1) cur.context
-    (cond (eqb cur.kind 2) (kept_row cur.context cur.table.0 r.row.0)
-    (kept_piece cur.context cur.table.0 r.row.0 r.start r.seen))
+context_in cur r = context_of cur r cur.kind
 
 -- the cursor behind it
 abbrev pub behind : Cursor → Next → Cursor

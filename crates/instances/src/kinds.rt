@@ -1,32 +1,33 @@
 // The instances of a loop by its kind: none, the context itself, or a list of rows.
 ghost use Rattle.std.specs.Prelude.{◌≡◌, false, ◌<◌};
-ghost use Rattle.nest.specs.Lists.{once, is};
+ghost use Rattle.nest.specs.Lists.{is};
 ghost use Rattle.plan.specs.Answers.{instances_of};
 ghost use Rattle.nest.specs.Found.{found_by};
 ghost use Rattle.nest.specs.OfJob.{kind_in};
-ghost use Rattle.nest.specs.Ready.{Ready, outline_at};
 ghost use Rattle.nest.specs.Outline.{table_parent, plain, row_count};
-ghost use Rattle.format.specs.Sections.{job_of};
 ghost use Rattle.format.specs.Ask.{plan_of};
 ghost use Rattle.tables.specs.Parts.{rows_before};
-ghost use Rattle.walk.specs.Nested.{Nested, Sound};
+ghost use Rattle.walk.specs.Nested.{Sound};
 ghost use Rattle.walk.specs.Contexts.{context_by};
-ghost use Rattle.instances.specs.Cursor.{rowless, rows_from, from_run, above_in, is_implied, shown_in, Lists, OfLoop};
+ghost use Rattle.instances.specs.declared.Left.TheVariants.{Nothing, Itself};
+ghost use Rattle.instances.specs.Cursor.{rowless, rows_from, from_run, above_in, is_implied, shown_in, itself_if, Lists, OfLoop};
+ghost use Rattle.nest.specs.Job.{outline_by, job_by};
 
-use crate::Cursor;
 use crate::rows::moved;
 use crate::stretch::narrowed;
+use crate::{Cursor, Left};
 use due::shown;
+use nest::Job;
 use plan::answers::Instances;
 use spec::ids::{LoopId, RowId, TableId};
-use walk::Context;
+use walk::{Context, Nest};
 
 // No instance.
 pub fn no_instance(l: LoopId, c: Context) -> Cursor
-    ensures { result ≡ rowless 0 l c }
+    ensures { result ≡ rowless Nothing l c }
 {
     Cursor {
-        kind: 0,
+        kind: Left::Nothing,
         l: l,
         table: TableId(0),
         context: c,
@@ -40,10 +41,10 @@ pub fn no_instance(l: LoopId, c: Context) -> Cursor
 
 // One, in the context itself.
 pub fn context_itself(l: LoopId, c: Context) -> Cursor
-    ensures { result ≡ rowless 1 l c }
+    ensures { result ≡ rowless Itself l c }
 {
     Cursor {
-        kind: 1,
+        kind: Left::Itself,
         l: l,
         table: TableId(0),
         context: c,
@@ -56,13 +57,12 @@ pub fn context_itself(l: LoopId, c: Context) -> Cursor
 }
 
 // Whether the spec has table t, and not as a repeat table.
-fn is_plain(job: &[u8], index: &[u16], t: TableId) -> bool
-    requires { Ready job.now index.now }
-    ensures { result ≡ plain (outline_at job.now) t.0 }
+fn is_plain(job: Job, t: TableId) -> bool
+    ensures { result ≡ plain (outline_by job.entry) t.0 }
 {
-    let count = spec::tables::table_count(job, index);
+    let count = spec::tables::table_count(job.at);
     if t.0 < count {
-        let again = spec::tables::repeats(job, index, t);
+        let again = spec::tables::repeats(job.at, t);
         if again {
             return false;
         }
@@ -82,11 +82,11 @@ fn row_of(c: Context, t: TableId) -> Option<RowId>
 }
 
 // The row that the rows of table t hang on in context c, plus one, as in a cursor; 0 where the table has no parent.
-fn above_in(job: &[u8], index: &[u16], t: TableId, c: Context) -> Option<u32>
-    requires { Ready job.now index.now × Sound (outline_at job.now) (context_by c) }
-    ensures { result ≡ above_in (outline_at job.now) t.0 (context_by c) }
+fn above_in(job: Job, t: TableId, c: Context) -> Option<u32>
+    requires { Sound (outline_by job) (context_by c) }
+    ensures { result ≡ above_in (outline_by job.entry) t.0 (context_by c) }
 {
-    let parent = spec::tables::table_parent(job, index, t);
+    let parent = spec::tables::table_parent(job.at, t);
     match parent {
         Some(u) => {
             let found = row_of(c, TableId(u));
@@ -106,20 +106,11 @@ fn above_in(job: &[u8], index: &[u16], t: TableId, c: Context) -> Option<u32>
 }
 
 // All rows of table t that hang on `above`.
-fn all_rows(
-    job: &[u8],
-    index: &[u16],
-    kind: u32,
-    l: LoopId,
-    t: TableId,
-    c: Context,
-    above: u32,
-) -> Cursor
-    requires { Ready job.now index.now }
-    ensures { result ≡ rows_from kind l t c (rows_before (job_of job.now).tables t.0) (row_count (outline_at job.now) t.0) above }
+fn all_rows(job: Job, kind: Left, l: LoopId, t: TableId, c: Context, above: u32) -> Cursor
+    ensures { result ≡ rows_from kind l t c (rows_before (job_by job.entry).tables t.0) (row_count (outline_by job.entry) t.0) above }
 {
-    let base = tables::data::first_row(job, index, t) as usize;
-    let rows = tables::data::row_count(job, index, t) as usize;
+    let base = tables::data::first_row(job.at, t) as usize;
+    let rows = tables::data::row_count(job.at, t) as usize;
     Cursor {
         kind: kind,
         l: l,
@@ -134,11 +125,10 @@ fn all_rows(
 }
 
 // Whether table t is its own parent.
-fn own_parent(job: &[u8], index: &[u16], t: TableId) -> bool
-    requires { Ready job.now index.now }
-    ensures { result ≡ is (table_parent (outline_at job.now) t.0) t.0 }
+fn own_parent(job: Job, t: TableId) -> bool
+    ensures { result ≡ is (table_parent (outline_by job.entry) t.0) t.0 }
 {
-    let parent = spec::tables::table_parent(job, index, t);
+    let parent = spec::tables::table_parent(job.at, t);
     match parent {
         Some(u) => {
             return t.0 == u;
@@ -150,9 +140,8 @@ fn own_parent(job: &[u8], index: &[u16], t: TableId) -> bool
 }
 
 // The same rows, looked for from the first of the context's run on. A table that is its own parent has another list in the run, and is gone through from its start.
-fn from_run(job: &[u8], index: &[u16], all: Cursor) -> Cursor
-    requires { Ready job.now index.now }
-    ensures { result ≡ from_run (outline_at job.now) all }
+fn from_run(job: Job, all: Cursor) -> Cursor
+    ensures { result ≡ from_run (outline_by job.entry) all }
 {
     let c = all.context;
     let t = all.table;
@@ -160,7 +149,7 @@ fn from_run(job: &[u8], index: &[u16], all: Cursor) -> Cursor
     if start == 0 {
         return all;
     }
-    let own = own_parent(job, index, t);
+    let own = own_parent(job, t);
     if own {
         return all;
     }
@@ -175,27 +164,19 @@ fn from_run(job: &[u8], index: &[u16], all: Cursor) -> Cursor
     }
 }
 
-// The rows of table t in context c: an instance in each (kind 2), or in each run of them (kind 3).
-fn listed(
-    job: &[u8],
-    index: &[u16],
-    nest: &[u32],
-    kind: u32,
-    l: LoopId,
-    t: TableId,
-    c: Context,
-) -> Cursor
-    requires { Nested job.now index.now nest.now × Sound (outline_at job.now) (context_by c) × (l.0 < 32) }
-    ensures { Lists (outline_at job.now) nest.now kind l.0 t.0 (context_by c) result }
+// The rows of table t in context c: an instance in each (`Rows`), or in each run of them (`Runs`).
+fn listed(nest: Nest, kind: Left, l: LoopId, t: TableId, c: Context) -> Cursor
+    requires { Sound (outline_by nest.job) (context_by c) × (l.0 < 32) }
+    ensures { Lists (outline_by nest.entry.job) nest.entry.array.now kind l.0 t.0 (context_by c) result }
 {
-    let plain = is_plain(job, index, t);
+    let plain = is_plain(nest.job, t);
     if plain {
-        let above = above_in(job, index, t, c);
+        let above = above_in(nest.job, t, c);
         match above {
             Some(a) => {
-                let all = all_rows(job, index, kind, l, t, c, a);
-                let run = from_run(job, index, all);
-                return narrowed(job, index, nest, run);
+                let all = all_rows(nest.job, kind, l, t, c, a);
+                let run = from_run(nest.job, all);
+                return narrowed(nest, run);
             }
             None => {
                 return no_instance(l, c);
@@ -206,14 +187,14 @@ fn listed(
 }
 
 // An `Inside` loop: the context itself, where it has a row of table t and the loop is shown there.
-fn inside_itself(job: &[u8], index: &[u16], l: LoopId, t: TableId, c: Context) -> Cursor
-    requires { Ready job.now index.now × (l.0 < 32) }
-    ensures { result ≡ rowless (once (shown_in (outline_at job.now) l.0 t.0 (context_by c))) l c }
+fn inside_itself(job: Job, l: LoopId, t: TableId, c: Context) -> Cursor
+    requires { l.0 < 32 }
+    ensures { result ≡ rowless (itself_if (shown_in (outline_by job.entry) l.0 t.0 (context_by c))) l c }
 {
     let found = row_of(c, t);
     match found {
         Some(r) => {
-            let is = shown(job, index, l, t, r);
+            let is = shown(job, l, t, r);
             if is {
                 return context_itself(l, c);
             }
@@ -240,23 +221,16 @@ pub fn by_children(kind: Instances) -> bool
 }
 
 // The instances of a loop of another kind.
-pub fn by_kind(
-    job: &[u8],
-    index: &[u16],
-    nest: &[u32],
-    kind: Instances,
-    l: LoopId,
-    c: Context,
-) -> Cursor
-    requires { Nested job.now index.now nest.now × Sound (outline_at job.now) (context_by c) × (l.0 < 32) × (instances_of kind ≡ (plan_of (job_of job.now) l.0).instances) × (is_implied (kind_in (instances_of kind)) ≡ false) }
-    ensures { OfLoop (outline_at job.now) nest.now l.0 (context_by c) result }
+pub fn by_kind(nest: Nest, kind: Instances, l: LoopId, c: Context) -> Cursor
+    requires { Sound (outline_by nest.job) (context_by c) × (l.0 < 32) × (instances_of kind ≡ (plan_of (job_by nest.job) l.0).instances) × (is_implied (kind_in (instances_of kind)) ≡ false) }
+    ensures { OfLoop (outline_by nest.entry.job) nest.entry.array.now l.0 (context_by c) result }
 {
     match kind {
         Instances::Absent => no_instance(l, c),
         Instances::Envelope => context_itself(l, c),
-        Instances::Rows(t) => listed(job, index, nest, 2, l, t, c),
-        Instances::Inside(t) => inside_itself(job, index, l, t, c),
-        Instances::Groups(t) => listed(job, index, nest, 3, l, t, c),
+        Instances::Rows(t) => listed(nest, Left::Rows, l, t, c),
+        Instances::Inside(t) => inside_itself(nest.job, l, t, c),
+        Instances::Groups(t) => listed(nest, Left::Runs, l, t, c),
         Instances::Implied => no_instance(l, c),
     }
 }

@@ -1,6 +1,7 @@
 // The rows that a cursor has left, one after the other.
 ghost use Rattle.std.specs.Prelude.{◌≡◌, ◌+◌, ◌*◌, ◌≤◌, ◌<◌, length};
 ghost use Rattle.nest.specs.Outline.{Outline};
+ghost use Rattle.instances.specs.declared.Left.TheVariants.{Rows};
 ghost use Rattle.instances.specs.Cursor.{passes, Ahead, Inside, Came, Going, moved};
 
 use crate::{Cursor, Next};
@@ -65,7 +66,7 @@ pub fn moved(cur: Cursor, seen: usize, next: usize) -> Cursor
 
 // The next instance of a `Rows` loop.
 pub fn next_of_rows(nest: &[u32], cur: Cursor) -> Option<Next>
-    requires { Inside nest.now cur × (cur.table.0 < 16) × (cur.kind ≡ 2) }
+    requires { Inside nest.now cur × (cur.table.0 < 16) × (cur.kind ≡ Rows) }
     ensures { (o : Outline) → Going o nest.now cur → Came o nest.now cur result }
 {
     let a = next_row(nest, cur)?;

@@ -1,16 +1,15 @@
 // Where a table's rows hang on rising rows, those that hang on one row are a stretch, which halving finds.
 ghost use Rattle.std.specs.Prelude.{◌≡◌, ◌+◌, ◌*◌, ◌≤◌, ◌<◌, length};
 ghost use Rattle.nest.specs.Outline.{Outline};
-ghost use Rattle.nest.specs.Ready.{outline_at};
 ghost use Rattle.nest.specs.Rising.{Climbs, Parted};
-ghost use Rattle.format.specs.Sections.{job_of};
 ghost use Rattle.tables.specs.Parts.{rows_before};
-ghost use Rattle.walk.specs.Nested.{Nested};
 ghost use Rattle.instances.specs.Cursor.{Inside, Going};
 ghost use Rattle.instances.specs.Stretch.{Same, Reached};
+ghost use Rattle.nest.specs.Job.{outline_by, job_by};
 
 use crate::Cursor;
 use nest::order::{first_at, rises};
+use walk::Nest;
 
 // Where the rows climb: a place behind `from` from which on none hangs on a row before `above` less one, tried 1, 2, 4 rows on and so forth.
 fn far_enough(nest: &[u32], base: usize, from: usize, rows: usize, above: u32) -> usize
@@ -54,15 +53,15 @@ fn stretch(nest: &[u32], cur: Cursor) -> Cursor
 }
 
 // The same instances still to come, of fewer rows where the table's rows hang on rising rows.
-pub fn narrowed(job: &[u8], index: &[u16], nest: &[u32], cur: Cursor) -> Cursor
-    requires { Nested job.now index.now nest.now × Going (outline_at job.now) nest.now cur × (cur.base ≡ rows_before (job_of job.now).tables cur.table.0) }
-    ensures { Same (outline_at job.now) nest.now cur result }
+pub fn narrowed(nest: Nest, cur: Cursor) -> Cursor
+    requires { Going (outline_by nest.job) nest.array.now cur × (cur.base ≡ rows_before (job_by nest.job).tables cur.table.0) }
+    ensures { Same (outline_by nest.entry.job) nest.entry.array.now cur result }
 {
     if cur.above == 0 {
         return cur;
     }
-    if rises(nest, cur.table) {
-        return stretch(nest, cur);
+    if rises(nest.array, cur.table) {
+        return stretch(nest.array, cur);
     }
     cur
 }

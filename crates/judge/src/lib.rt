@@ -4,15 +4,17 @@
 ghost use Rattle.std.specs.Prelude.{◌≡◌, ◌&&◌};
 ghost use Rattle.format.specs.Refusal.{refusal_of};
 ghost use Rattle.format.specs.Sections.{job_of};
-ghost use Rattle.nest.specs.Ready.{Ready};
 ghost use Rattle.complete.specs.Decides.{Decides};
 ghost use Rattle.complete.specs.Complete.{CompletePlan};
 ghost use Rattle.judge.specs.Judged.{Judged};
+ghost use Rattle.nest.specs.Job.{job_by};
 
 use index::fill_index;
+use nest::Job;
 use paths::{orders_fit, paths_fit, repeats_fit, rows_fit};
 use places::places_fit;
 use refusal::Refusal;
+use spec::Indexed;
 
 // Conditions 1 to 4 together.
 fn all_four(one: bool, two: bool, three: bool, four: bool) -> bool
@@ -22,16 +24,15 @@ fn all_four(one: bool, two: bool, three: bool, four: bool) -> bool
 }
 
 // The five conditions, of a job that passed. The fifth asks for the second's entries.
-fn fits(job: &[u8], index: &[u16]) -> bool
-    requires { Ready job.now index.now }
-    ensures { Decides result (CompletePlan (job_of job.now)) }
+fn fits(job: Job) -> bool
+    ensures { Decides result (CompletePlan (job_by job.entry)) }
 {
-    let one = rows_fit(job, index);
-    let two = orders_fit(job, index);
-    let three = paths_fit(job, index);
-    let four = repeats_fit(job, index);
+    let one = rows_fit(job);
+    let two = orders_fit(job);
+    let three = paths_fit(job);
+    let four = repeats_fit(job);
     let walked = all_four(one, two, three, four);
-    walked && places_fit(job, index)
+    walked && places_fit(job)
 }
 
 // Of a job that no refusal from 1 to 5 applies to.
@@ -41,7 +42,12 @@ fn judged(job: &[u8]) -> bool
 {
     let mut index = [0u16; 10752];
     fill_index(job, &mut index);
-    fits(job, &index)
+    fits(Job {
+        at: Indexed {
+            bytes: job,
+            index: &index,
+        },
+    })
 }
 
 // Whether the plan of a job is complete, for every byte string; or why the job has none to judge.

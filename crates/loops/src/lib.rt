@@ -146,7 +146,7 @@ fn misrooted_at(s: Section, at: usize, roots: usize, i: usize) -> bool
     ensures { (rs : List ℕ) → Is (list_c num_c) s.entry.bytes.now s.entry.end roots rs → Says loop_c s.entry.bytes.now s.entry.end at (misrooted rs i) result }
 {
     let t = times_at(s, roots, i);
-    if s.tag_at(at) == 1 {
+    if s.case(at) == Some(1) {
         return t != 0;
     }
     t != 1
@@ -178,7 +178,7 @@ fn misplaced_at(s: Section, at: usize, loops: Loops, k: usize) -> bool
 fn item_misplaced(s: Section, at: usize, loops: Loops, k: usize) -> bool
     ensures { (ls : List Loop) → Is (list_c loop_c) loops.entry.section.bytes.now loops.entry.section.end loops.entry.at ls → Says item_c s.entry.bytes.now s.entry.end at (misplaced ls k) result }
 {
-    if s.tag_at(at) == 1 {
+    if s.case(at) == Some(1) {
         let p = s.le_at(1, at);
         return misplaced_at(s, p, loops, k);
     }
@@ -194,7 +194,7 @@ fn items_misplaced(s: Section, at: usize, loops: Loops, k: usize) -> bool
 fn item_same_at(s: Section, at: usize, x: usize) -> bool
     ensures { Says item_c s.entry.bytes.now s.entry.end at (on_loop (eqb x)) result }
 {
-    if s.tag_at(at) == 1 {
+    if s.case(at) == Some(1) {
         let p = s.le_at(1, at);
         return tree::same_at(s, p, x);
     }
@@ -218,7 +218,7 @@ fn item_member_behind(s: Section, at: usize, rest: usize, x: usize) -> bool
 fn item_again(s: Section, at: usize, rest: usize, next: usize) -> bool
     ensures { SaysBefore item_c s.entry.bytes.now s.entry.end at rest next again_in result }
 {
-    if s.tag_at(at) == 1 {
+    if s.case(at) == Some(1) {
         let p = s.le_at(1, at);
         let x = s.count_at(p);
         return item_member_behind(s, next, rest, x);
@@ -247,7 +247,7 @@ fn note_name(s: Section, at: usize, names: &mut [usize], k: usize) -> usize
     requires { k < length names.old }
     ensures { (length names.new ≡ length names.old) × ((result ≤ k + 1) × ((y : Item) → Is item_c s.entry.bytes.now s.entry.end at y → take result names.new ≡ take k names.old ++ loops_in (y ∷ []))) }
 {
-    if s.tag_at(at) == 1 {
+    if s.case(at) == Some(1) {
         let p = s.le_at(1, at);
         names[k] = s.count_at(p);
         return k + 1;

@@ -26,7 +26,7 @@ use Rattle.segment.specs.Parts.{Part, pick}
 use Rattle.segment.specs.ReadParts.{RisesFrom, Free}
 use Rattle.nest.specs.Lists.{All, some_of, on, first}
 use Rattle.nest.proofs.Alls.{all_append, all_weaker}
-use Rattle.emit.specs.Puts.{max_in, nothing, part_at, put_all}
+use Rattle.emit.specs.Puts.{nothing, part_at, put_all}
 use Rattle.emit.specs.Envelope.{version, trim_end, outcome, Given, plainly, separator, repetition_given, field_given, field_at, Sourced, version_at, versioned, unsourced, fielded, source_at, padded_to, put_sourced, put_element, control_in, closer_put, control_number}
 use Rattle.emit.specs.Fold.{separators_of}
 use Rattle.emit.proofs.Plain.{Textual, zeros_textual, spaces_textual, count_textual}
@@ -97,8 +97,8 @@ module _ (j : Job) (fit : unfit j ≡ false) where
       ∷ Some (plainly e.receiver_id)
       ∷ Some (plainly (on e.application_sender (λ x. x) (trim_end e.sender_id)))
       ∷ Some (plainly (on e.application_receiver (λ x. x) (trim_end e.receiver_id)))
-      ∷ Some (outcome (envelope_date (signed32 e.date) (max_in d.max)))
-      ∷ Some (outcome (envelope_time (signed32 e.time) (max_in d.max)))
+      ∷ Some (outcome (envelope_date (signed32 e.date) d.max))
+      ∷ Some (outcome (envelope_time (signed32 e.time) d.max))
       ∷ Some (plainly e.usage_indicator)
       ∷ None
       ∷ repetition_given (first d.codes) e.repetition

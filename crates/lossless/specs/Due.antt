@@ -12,7 +12,7 @@ use Rattle.segment.specs.ReadParts.{Due}
 use Rattle.nest.specs.Lists.{on, each}
 use Rattle.nest.specs.OfJob.{outline_of}
 use Rattle.walk.specs.Tour.{Step, enters, stop, opener, row_segment, fill, chunk, closer, tour}
-use Rattle.emit.specs.Puts.{max_in, cell_text, row_put, chunk_puts}
+use Rattle.emit.specs.Puts.{cell_text, row_put, chunk_puts}
 use Rattle.emit.specs.Envelope.{Sourced, source_at, padded_to, opener_put, closer_put, control_in}
 use Rattle.emit.specs.Fold.{first_row, next, count_of}
 
@@ -28,7 +28,7 @@ due_with id parts tried source = record { due = record { id = id; parts = parts 
 
 -- the text of a cell at element e, component c; of an absent column too
 abbrev pub text_of_cell : Job → List ℕ → ℕ → Option ℕ → ℕ → ℕ → ℕ → List ℕ
-text_of_cell j id e c t column r = (cell_text (cell_of (data_of j t) column r) (max_in (max_of j id e c))).text
+text_of_cell j id e c t column r = (cell_text (cell_of (data_of j t) column r) (max_of j id e c)).text
 
 abbrev pub row_cell : Job → List ℕ → ℕ → ℕ → ElementPlan → Value → List (List ℕ)
 row_cell j id t r p (from_column c) = text_of_cell j id p.element p.component t c r ∷ []

@@ -1,13 +1,14 @@
 -- Bytes, identifiers, separators and scales: what their tests are proved by.
-use Prim.Native.Nat.{ℕ, ◌+◌, ◌≤◌, ◌<◌}
+use Prim.Native.Nat.{ℕ, suc, ◌+◌, ◌≤◌, ◌<◌}
 use mathlib.Core.Path.{◌≡◌, refl, sym, ◌∙◌}
 use mathlib.Core.List.{List, [], ◌∷◌}
 use mathlib.Core.Bool.{Bool, true, false, not}
 use native.Mathlib.Omega.{arith}
 use Rattle.std.specs.Prelude.{Option, None, Some}
-use lib.ListN.{length, get_or}
+use lib.ListN.{length, get_or, drop, drop_of_length-le}
+use lib.Seq.{drop-cons}
 use lib.Dec.{ltb, leb, eqb}
-use borrow.Author.Tests.{lt-leb, le-leb}
+use borrow.Author.Tests.{lt-leb, le-leb, eq-eqb, ne_eqb}
 use Rattle.codec.specs.Codec.{pick, le_c, list_c}
 use Rattle.codec.specs.Forms.{opt_c, byte_c, bytes_c, long_c, wide_c}
 use Rattle.codec.specs.Skip.{skip, count_at, tag_at, Is, skip_le}
@@ -56,41 +57,47 @@ module _ (b : List ℕ) (e at n : ℕ) (h : n ≡ count_at b at e) where
       rw y
 
 -- ---- separators
-pub three_is : (x y z : ℕ) → pick (eqb x y) true (pick (eqb x z) true (pick (eqb y z) true (pick (textual x) true (pick (textual y) true (textual z))))) ≡ marked (x ∷ y ∷ z ∷ [])
-unfolding marked repeats member_of any_of any
-three_is x y z = go (eqb x y) (eqb x z) (eqb y z) (textual x) (textual y) (textual z)
-  where
-    go : (a b c d e f : Bool) → pick a true (pick b true (pick c true (pick d true (pick e true f))))
-        ≡ pick (pick (pick a true (pick b true false)) true (pick (pick c true false) true (pick false true false))) true (pick (pick d true (pick e true (pick f true false))) true false)
-    go true b c d e f = refl
-    go false true c d e f = refl
-    go false false true d e f = refl
-    go false false false true e f = refl
-    go false false false false true f = refl
-    go false false false false false true = refl
-    go false false false false false false = refl
+-- c is looked for from j on
+module _ (s : List ℕ) where
+  next : (i : ℕ) → i < length s → drop i s ≡ get_or s i 0 ∷ drop (i + 1) s
+  next i l = let z : i + 1 ≡ suc i = omega arith in rw z (drop-cons s i 0 l)
 
-pub four_is : (x y z w : ℕ)
-    → pick (eqb x y) true (pick (eqb x z) true (pick (eqb x w) true (pick (eqb y z) true (pick (eqb y w) true (pick (eqb z w) true (pick (textual x) true (pick (textual y) true (pick (textual z) true (textual w))))))))) ≡ marked (x ∷ y ∷ z ∷ w ∷ [])
-unfolding marked repeats member_of any_of any
-four_is x y z w = go (eqb x y) (eqb x z) (eqb x w) (eqb y z) (eqb y w) (eqb z w) (textual x) (textual y) (textual z) (textual w)
-  where
-    go : (a b c d e f g h i j : Bool) → pick a true (pick b true (pick c true (pick d true (pick e true (pick f true (pick g true (pick h true (pick i true j))))))))
-        ≡ pick (pick (pick a true (pick b true (pick c true false))) true (pick (pick d true (pick e true false)) true (pick (pick f true false) true (pick false true false)))) true (pick (pick g true (pick h true (pick i true (pick j true false)))) true false)
-    go true b c d e f g h i j = refl
-    go false true c d e f g h i j = refl
-    go false false true d e f g h i j = refl
-    go false false false true e f g h i j = refl
-    go false false false false true f g h i j = refl
-    go false false false false false true g h i j = refl
-    go false false false false false false true h i j = refl
-    go false false false false false false false true i j = refl
-    go false false false false false false false false true j = refl
-    go false false false false false false false false false true = refl
-    go false false false false false false false false false false = refl
+  module _ (a : Bool) (c j : ℕ) (d : a ≡ member_of c (drop j s)) where
+    pub among_hit : j < length s → c ≡ get_or s j 0 → true ≡ a
+    unfolding member_of
+    among_hit l q = sym (d ∙ rw (next j l, eq-eqb c (get_or s j 0) q))
+
+    pub among_miss : j < length s → (c ≡ get_or s j 0 → ⊥) → a ≡ member_of c (drop (j + 1) s)
+    unfolding member_of
+    among_miss l q = d ∙ rw (next j l, ne_eqb c (get_or s j 0) q)
+
+    pub among_done : length s ≤ j → false ≡ a
+    unfolding member_of
+    among_done l = sym (d ∙ rw (drop_of_length-le s {i = j} l))
+
+module _ (s : List ℕ) (i : ℕ) (h : marked s ≡ marked (drop i s)) where
+  pub marked_textual : i < length s → textual (get_or s i 0) ≡ true → true ≡ marked s
+  unfolding marked repeats member_of any_of any
+  marked_textual l t = sym (h ∙ rw (next s i l, t) (go (pick (member_of (get_or s i 0) (drop (i + 1) s)) true (repeats (drop (i + 1) s)))))
+    where
+      go : (u : Bool) → pick u true true ≡ true
+      go true = refl
+      go false = refl
+
+  pub marked_twice : (r : Bool) → i < length s → r ≡ member_of (get_or s i 0) (drop (i + 1) s) → r ≡ true → true ≡ marked s
+  unfolding marked repeats any_of any
+  marked_twice r l m t = let z : member_of (get_or s i 0) (drop (i + 1) s) ≡ true = sym m ∙ t in sym (h ∙ rw (next s i l, z))
+
+  pub marked_next : (r : Bool) → i < length s → textual (get_or s i 0) ≡ false → r ≡ member_of (get_or s i 0) (drop (i + 1) s) → r ≡ false → marked s ≡ marked (drop (i + 1) s)
+  unfolding marked repeats any_of any
+  marked_next r l t m w = let z : member_of (get_or s i 0) (drop (i + 1) s) ≡ false = sym m ∙ w in h ∙ rw (next s i l, z, t)
+
+  pub marked_done : length s ≤ i → false ≡ marked s
+  unfolding marked repeats any_of any
+  marked_done l = sym (h ∙ rw (drop_of_length-le s {i = i} l))
 
 module _ (b : List ℕ) (e x y z k₀ k₁ k₂ k₃ q₁ q₂ q₃ : ℕ) (v : Envelope)
-    (h₀ : x ≡ tag_at b k₀ e) (h₁ : y ≡ tag_at b k₁ e) (h₂ : z ≡ tag_at b k₂ e) (e₁ : k₁ ≡ q₁) (e₂ : k₂ ≡ q₂) (e₃ : k₃ ≡ q₃)
+    (h₀ : x ≡ get_or b k₀ 0) (h₁ : y ≡ get_or b k₁ 0) (h₂ : z ≡ get_or b k₂ 0) (e₁ : k₁ ≡ q₁) (e₂ : k₂ ≡ q₂) (e₃ : k₃ ≡ q₃)
     (i₀ : Is byte_c b e k₀ v.element) (i₁ : Is byte_c b e q₁ v.component) (i₂ : Is byte_c b e q₂ v.segment) (i₃ : Is (opt_c byte_c) b e q₃ v.repetition) where
   pub marks_three : (t : ℕ) (r : Bool) → t ≡ tag_at b k₃ e → (t ≡ 1 → ⊥) → r ≡ marked (x ∷ y ∷ z ∷ []) → r ≡ marked (separators v)
   unfolding separators
@@ -103,7 +110,7 @@ module _ (b : List ℕ) (e x y z k₀ k₁ k₂ k₃ q₁ q₂ q₃ : ℕ) (v : 
           let l : q₃ + 1 ≤ e = is_in byte_c b e (q₃ + 1) w m.1 in
           absurd (n (h ∙ rw e₃ (tag_in b q₃ e (omega arith)) ∙ m.0))
 
-  pub marks_four : (t p w : ℕ) (r : Bool) → t ≡ tag_at b k₃ e → t ≡ 1 → p ≡ skip (le_c 1) b k₃ e → w ≡ tag_at b p e → r ≡ marked (x ∷ y ∷ z ∷ w ∷ []) → r ≡ marked (separators v)
+  pub marks_four : (t p w : ℕ) (r : Bool) → t ≡ tag_at b k₃ e → t ≡ 1 → p ≡ skip (le_c 1) b k₃ e → w ≡ get_or b p 0 → r ≡ marked (x ∷ y ∷ z ∷ w ∷ []) → r ≡ marked (separators v)
   unfolding separators
   marks_four t p w r h n g u s = s ∙ rw (byte_is b e x k₀ k₀ v.element h₀ refl i₀, byte_is b e y k₁ q₁ v.component h₁ e₁ i₁, byte_is b e z k₂ q₂ v.segment h₂ e₂ i₂) (go v.repetition i₃)
     where
@@ -138,7 +145,7 @@ module _ (b : List ℕ) (e at t : ℕ) (h : t ≡ tag_at b at e) where
   marks : at + 1 ≤ e → get_or b at 0 ≡ t
   marks l = sym (h ∙ tag_in b at e (omega arith))
 
-  pub scale_int : (p q n : ℕ) → t ≡ 1 → p ≡ skip (le_c 1) b at e → q ≡ skip (list_c long_c) b p e → n ≡ tag_at b q e → (v : Values) → Is values_c b e at v → ltb 38 n ≡ ltb 38 (scale v)
+  pub scale_int : (p q n : ℕ) → t ≡ 1 → p ≡ skip (le_c 1) b at e → q ≡ skip (list_c long_c) b p e → n ≡ get_or b q 0 → (v : Values) → Is values_c b e at v → ltb 38 n ≡ ltb 38 (scale v)
   unfolding scale
   scale_int p q n i j k m (binary x y) u = absurd (omega (arith, values_tag b e at (binary x y) u, there 1 i (omega arith)))
   scale_int p q n i j k m (int64 x y) u = let z : n ≡ y = byte_is b e n q _ y m (k ∙ rw (behind 1 i (omega arith) p j)) (is_int64 b e at x y u).1 in rw z
@@ -146,7 +153,7 @@ module _ (b : List ℕ) (e at t : ℕ) (h : t ≡ tag_at b at e) where
   scale_int p q n i j k m (date32 x) u = absurd (omega (arith, values_tag b e at (date32 x) u, there 1 i (omega arith)))
   scale_int p q n i j k m (time32 x) u = absurd (omega (arith, values_tag b e at (time32 x) u, there 1 i (omega arith)))
 
-  pub scale_wide : (p q n : ℕ) → t ≡ 2 → p ≡ skip (le_c 1) b at e → q ≡ skip (list_c wide_c) b p e → n ≡ tag_at b q e → (v : Values) → Is values_c b e at v → ltb 38 n ≡ ltb 38 (scale v)
+  pub scale_wide : (p q n : ℕ) → t ≡ 2 → p ≡ skip (le_c 1) b at e → q ≡ skip (list_c wide_c) b p e → n ≡ get_or b q 0 → (v : Values) → Is values_c b e at v → ltb 38 n ≡ ltb 38 (scale v)
   unfolding scale
   scale_wide p q n i j k m (binary x y) u = absurd (omega (arith, values_tag b e at (binary x y) u, there 2 i (omega arith)))
   scale_wide p q n i j k m (int64 x y) u = absurd (omega (arith, values_tag b e at (int64 x y) u, there 2 i (omega arith)))

@@ -1,12 +1,12 @@
 // 5: separators, identifiers, scales and texts. Each function tells whether whatever stands at a place is unfit.
 #![tactic(auto)]
 
-ghost use Rattle.std.specs.Prelude.{◌≡◌, length, ◌≤◌, [], ◌∷◌, false};
+ghost use Rattle.std.specs.Prelude.{◌≡◌, length, ◌≤◌, [], ◌∷◌, drop, false};
 ghost use Rattle.codec.specs.Codec.{◌⊗◌, list_c};
 ghost use Rattle.codec.specs.Forms.{byte_c, bytes_c, num_c, opt_c};
 ghost use Rattle.codec.specs.Skip.{Is, skip};
 ghost use Rattle.codec.specs.Limits.{any_of};
-ghost use Rattle.format.specs.Words.{between, if_some};
+ghost use Rattle.format.specs.Words.{between, if_some, member_of};
 ghost use Rattle.format.specs.Spec.{component_c, element_c, loop_c, segment_c, spec_c, version_c};
 ghost use Rattle.format.specs.Refusal.{foreign, textual, unfit, unfit_column, unfit_component, unfit_element, unfit_envelope, unfit_loop, unfit_reference, unfit_segment, unfit_spec, unfit_table_data, unfit_version, unnamed};
 ghost use Rattle.format.specs.Data.{column_c, table_data_c};
@@ -51,7 +51,7 @@ fn is_textual(c: usize) -> bool
 fn stray_at(s: Section, at: usize) -> bool
     ensures { Says byte_c s.entry.bytes.now s.entry.end at stray result }
 {
-    let c = s.tag_at(at);
+    let c = codec::byte_at(s.bytes, at);
     let x = within(65, 90, c);
     let y = within(48, 57, c);
     !codec::either(x, y)
@@ -89,7 +89,7 @@ fn opt_unnamed_at(s: Section, at: usize) -> bool
 fn high_at(s: Section, at: usize) -> bool
     ensures { Says byte_c s.entry.bytes.now s.entry.end at high result }
 {
-    127 < s.tag_at(at)
+    127 < codec::byte_at(s.bytes, at)
 }
 
 // Not ASCII.
@@ -217,32 +217,32 @@ fn spec_unfit(s: Section, at: usize) -> Option<usize>
 
 // ---- envelope
 
-// Of three separators, two are equal or one is textual.
-fn three_marked(x: usize, y: usize, z: usize) -> bool
-    ensures { result ≡ marked (x ∷ y ∷ z ∷ []) }
+// Whether c is in the list from i on.
+fn among(marks: &[usize], i: usize, c: usize) -> bool
+    ensures { result ≡ member_of c (drop i marks.now) }
 {
-    let s = is_textual(x);
-    let t = is_textual(y);
-    let u = is_textual(z);
-    codec::either(
-        x == y,
-        codec::either(
-            x == z,
-            codec::either(y == z, codec::either(s, codec::either(t, u))),
-        ),
-    )
+    for j in i..marks.len() {
+        if c == marks[j] {
+            return true;
+        }
+    }
+    false
 }
 
-fn four_marked(x: usize, y: usize, z: usize, w: usize) -> bool
-    ensures { result ≡ marked (x ∷ y ∷ z ∷ w ∷ []) }
+// Two separators are equal, or one is textual.
+fn marked(marks: &[usize]) -> bool
+    ensures { result ≡ marked marks.now }
 {
-    let s = is_textual(x);
-    let t = is_textual(y);
-    let u = is_textual(z);
-    let v = is_textual(w);
-    let texts = codec::either(s, codec::either(t, codec::either(u, v)));
-    let third = codec::either(y == z, codec::either(y == w, codec::either(z == w, texts)));
-    codec::either(x == y, codec::either(x == z, codec::either(x == w, third)))
+    for i in 0..marks.len() {
+        let c = marks[i];
+        if is_textual(c) {
+            return true;
+        }
+        if among(marks, i + 1, c) {
+            return true;
+        }
+    }
+    false
 }
 
 // The separators, the element's first.
@@ -257,15 +257,14 @@ fn marks_unfit(s: Section, at: usize) -> bool
     let component = s.le_at(1, at);
     let segment = s.le_at(1, component);
     let repetition = s.le_at(1, segment);
-    let x = s.tag_at(at);
-    let y = s.tag_at(component);
-    let z = s.tag_at(segment);
-    if s.tag_at(repetition) == 1 {
-        let p = s.le_at(1, repetition);
-        let w = s.tag_at(p);
-        return four_marked(x, y, z, w);
+    let x = codec::byte_at(s.bytes, at);
+    let y = codec::byte_at(s.bytes, component);
+    let z = codec::byte_at(s.bytes, segment);
+    if s.case(repetition) == Some(1) {
+        let w = codec::byte_at(s.bytes, s.le_at(1, repetition));
+        return marked(&[x, y, z, w]);
     }
-    three_marked(x, y, z)
+    marked(&[x, y, z])
 }
 
 fn separators_unfit(s: Section, at: usize) -> bool
@@ -326,17 +325,12 @@ fn envelope_unfit(s: Section, at: usize) -> bool
 fn column_unfit(s: Section, at: usize) -> bool
     ensures { Says column_c s.entry.bytes.now s.entry.end at unfit_column result }
 {
-    let t = s.tag_at(at);
     let p = s.le_at(1, at);
-    if t == 1 {
-        let numbers = s.les_at(8, p);
-        return 38 < s.tag_at(numbers);
+    match s.case(at) {
+        Some(1) => 38 < codec::byte_at(s.bytes, s.les_at(8, p)),
+        Some(2) => 38 < codec::byte_at(s.bytes, s.les_at(16, p)),
+        _ => false,
     }
-    if t == 2 {
-        let numbers = s.les_at(16, p);
-        return 38 < s.tag_at(numbers);
-    }
-    false
 }
 
 fn opt_column_unfit(s: Section, at: usize) -> bool

@@ -8,5 +8,6 @@ pub mod Seek
 pub mod OfJob
 pub mod Ready
 pub mod Claims
+pub mod Job
 pub mod Keys
 pub mod Rising

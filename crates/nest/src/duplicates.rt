@@ -6,25 +6,20 @@ ghost use Rattle.nest.specs.Outline.{row_count};
 ghost use Rattle.nest.specs.Nest.{has_keys};
 ghost use Rattle.nest.specs.NestFindings.{duplicate_at, duplicates};
 ghost use Rattle.nest.specs.Keys.{Keyed};
-ghost use Rattle.nest.specs.Ready.{Ready, outline_at, words};
+ghost use Rattle.nest.specs.Ready.{words};
+ghost use Rattle.nest.specs.Job.{outline_by};
 
+use crate::Job;
 use crate::keys::{Keys, first_with, may_repeat};
 use spec::ids::{RowId, TableId};
 
 // The finding of row r of a table with keys, if an earlier row has its key.
-pub fn duplicate_at(
-    job: &[u8],
-    index: &[u16],
-    findings: &mut [u64],
-    at: usize,
-    t: TableId,
-    r: RowId,
-) -> usize
-    requires { Ready job.now index.now × (has_keys (outline_at job.now) t.0 ≡ true) }
-    ensures { Noted findings.old at (words (duplicate_at (outline_at job.now) t.0 r.0)) result findings.new }
+pub fn duplicate_at(job: Job, findings: &mut [u64], at: usize, t: TableId, r: RowId) -> usize
+    requires { has_keys (outline_by job) t.0 ≡ true }
+    ensures { Noted findings.old at (words (duplicate_at (outline_by job.entry) t.0 r.0)) result findings.new }
 {
-    let key = tables::data::key(job, index, t, r);
-    let found = first_with(job, index, t, key);
+    let key = tables::data::key(job.at, t, r);
+    let found = first_with(job, t, key);
     match found {
         Some(f) => {
             if f.0 < r.0 {
@@ -45,22 +40,21 @@ pub fn duplicate_at(
 
 // The duplicate keys of table t.
 pub fn table_duplicates(
-    job: &[u8],
-    index: &[u16],
+    job: Job,
     keys: [Keys; 16],
     findings: &mut [u64],
     at: usize,
     t: TableId,
 ) -> usize
-    requires { Ready job.now index.now × Keyed (outline_at job.now) keys }
-    ensures { Noted findings.old at (words (duplicates (outline_at job.now) t.0)) result findings.new }
+    requires { Keyed (outline_by job) keys }
+    ensures { Noted findings.old at (words (duplicates (outline_by job.entry) t.0)) result findings.new }
 {
     let doubtful = may_repeat(keys, t);
     let mut next = lent::more(at, 0);
     if doubtful {
-        let n = tables::data::row_count(job, index, t);
+        let n = tables::data::row_count(job.at, t);
         for r in 0..n {
-            next = duplicate_at(job, index, findings, next, t, RowId(r));
+            next = duplicate_at(job, findings, next, t, RowId(r));
         }
         return next;
     }
@@ -68,20 +62,14 @@ pub fn table_duplicates(
 }
 
 // The duplicate keys of all tables of data, table by table.
-pub fn all_duplicates(
-    job: &[u8],
-    index: &[u16],
-    keys: [Keys; 16],
-    findings: &mut [u64],
-    at: usize,
-) -> usize
-    requires { Ready job.now index.now × Keyed (outline_at job.now) keys }
-    ensures { Noted findings.old at (words (each (duplicates (outline_at job.now)) (up_to 0 (length (outline_at job.now).row_counts)))) result findings.new }
+pub fn all_duplicates(job: Job, keys: [Keys; 16], findings: &mut [u64], at: usize) -> usize
+    requires { Keyed (outline_by job) keys }
+    ensures { Noted findings.old at (words (each (duplicates (outline_by job.entry)) (up_to 0 (length (outline_by job.entry).row_counts)))) result findings.new }
 {
-    let count = tables::data::data_count(job, index);
+    let count = tables::data::data_count(job.at);
     let mut next = lent::more(at, 0);
     for t in 0..count {
-        next = table_duplicates(job, index, keys, findings, next, TableId(t));
+        next = table_duplicates(job, keys, findings, next, TableId(t));
     }
     next
 }

@@ -7,8 +7,9 @@ ghost use Rattle.nest.specs.NestFindings.{last_table};
 ghost use Rattle.nest.specs.OfJob.{kind_in};
 ghost use Rattle.nest.specs.Claims.{claim_by, anchor_table, Hung};
 ghost use Rattle.nest.specs.Keys.{Keyed, Deep, Within, Lined};
-ghost use Rattle.nest.specs.Ready.{Ready, outline_at};
+ghost use Rattle.nest.specs.Job.{outline_by};
 
+use crate::Job;
 use crate::keys::{Keys, first_row, referred};
 use plan::answers::Instances;
 use spec::ids::{LoopId, RowId, TableId};
@@ -51,14 +52,13 @@ const NOWHERE: Place = Place {
 };
 
 // How many loops stand above l.
-pub fn depth(job: &[u8], index: &[u16], l: LoopId) -> u32
-    requires { Ready job.now index.now }
-    ensures { result ≡ depth_of (outline_at job.now) l.0 }
+pub fn depth(job: Job, l: LoopId) -> u32
+    ensures { result ≡ depth_of (outline_by job.entry) l.0 }
 {
-    let n = spec::loops::loop_count(job, index);
+    let n = spec::loops::loop_count(job.at);
     let mut at = l.0;
     for d in 0..n {
-        match spec::loops::loop_parent(job, index, LoopId(at)) {
+        match spec::loops::loop_parent(job.at, LoopId(at)) {
             Some(p) => {
                 at = p;
             }
@@ -85,13 +85,12 @@ pub fn row_table(kind: Instances) -> Option<u32>
 }
 
 // How many loops stand above each loop.
-pub fn all_depths(job: &[u8], index: &[u16]) -> [u8; 32]
-    requires { Ready job.now index.now }
-    ensures { Deep (outline_at job.now) result }
+pub fn all_depths(job: Job) -> [u8; 32]
+    ensures { Deep (outline_by job.entry) result }
 {
     let mut depths = [0u8; 32];
     for l in 0..32 {
-        let d = depth(job, index, LoopId(l));
+        let d = depth(job, LoopId(l));
         let i = l as usize;
         depths[i] = d as u8;
     }
@@ -109,51 +108,45 @@ pub fn depth_at(depths: [u8; 32], l: LoopId) -> u32
 }
 
 // A depth that no loop of table t is below.
-pub fn deepest(job: &[u8], index: &[u16], depths: [u8; 32], t: TableId) -> u32
-    requires { Ready job.now index.now × Deep (outline_at job.now) depths }
-    ensures of { Within (outline_at job.now) t.0 (length (table_of (outline_at job.now) t.0).loops) result }
+pub fn deepest(job: Job, depths: [u8; 32], t: TableId) -> u32
+    requires { Deep (outline_by job) depths }
+    ensures of { Within (outline_by job.entry) t.0 (length (table_of (outline_by job.entry) t.0).loops) result }
     ensures small { result < 256 }
 {
-    let n = spec::tables::table_loop_count(job, index, t);
+    let n = spec::tables::table_loop_count(job.at, t);
     let mut d: u32 = 0;
     for i in 0..n {
-        let l = spec::tables::table_loop(job, index, t, i);
+        let l = spec::tables::table_loop(job.at, t, i);
         d = d.max(depth_at(depths, l));
     }
     d
 }
 
 // The table whose rows loop l enters, if it stands at depth d.
-pub fn anchor(job: &[u8], index: &[u16], depths: [u8; 32], l: LoopId, d: u32) -> Option<u32>
-    requires { Ready job.now index.now × Deep (outline_at job.now) depths × (l.0 < 32) }
-    ensures { result ≡ anchor_table (outline_at job.now) l.0 d }
+pub fn anchor(job: Job, depths: [u8; 32], l: LoopId, d: u32) -> Option<u32>
+    requires { Deep (outline_by job) depths × (l.0 < 32) }
+    ensures { result ≡ anchor_table (outline_by job.entry) l.0 d }
 {
     let n = depth_at(depths, l);
     if n == d {
-        return row_table(plan::planned::instances(job, index, l));
+        return row_table(plan::planned::instances(job.at, l));
     }
     None
 }
 
 // The first anchor, the deepest first and equal depths in list order, whose reference row r of the repeat table t has.
-pub fn claim(
-    job: &[u8],
-    index: &[u16],
-    depths: [u8; 32],
-    t: TableId,
-    r: RowId,
-) -> Result<Claimed, TableId>
-    requires { Ready job.now index.now × Deep (outline_at job.now) depths }
-    ensures { result ≡ claim_by (claim_in (outline_at job.now) t.0 r.0 (anchors (outline_at job.now) t.0)) (last_table t.0 (anchors (outline_at job.now) t.0)) }
+pub fn claim(job: Job, depths: [u8; 32], t: TableId, r: RowId) -> Result<Claimed, TableId>
+    requires { Deep (outline_by job) depths }
+    ensures { result ≡ claim_by (claim_in (outline_by job.entry) t.0 r.0 (anchors (outline_by job.entry) t.0)) (last_table t.0 (anchors (outline_by job.entry) t.0)) }
 {
-    let n = spec::tables::table_loop_count(job, index, t);
-    let top = deepest(job, index, depths, t);
+    let n = spec::tables::table_loop_count(job.at, t);
+    let top = deepest(job, depths, t);
     let mut last = t;
     for up in 0..top + 1 {
         for i in 0..n {
-            let l = spec::tables::table_loop(job, index, t, i);
-            match anchor(job, index, depths, l, top - up) {
-                Some(u) => match tables::data::reference(job, index, t, u, r) {
+            let l = spec::tables::table_loop(job.at, t, i);
+            match anchor(job, depths, l, top - up) {
+                Some(u) => match tables::data::reference(job.at, t, u, r) {
                     Some(v) => {
                         return Ok(Claimed {
                             l: l,
@@ -173,12 +166,12 @@ pub fn claim(
 }
 
 // The anchors of table t, the deepest first and equal depths in list order; more than eight are left to `claim`.
-pub fn line_up(job: &[u8], index: &[u16], depths: [u8; 32], t: TableId) -> Option<Line>
-    requires { Ready job.now index.now × Deep (outline_at job.now) depths }
-    ensures { IfSome result (Lined (outline_at job.now) t.0) }
+pub fn line_up(job: Job, depths: [u8; 32], t: TableId) -> Option<Line>
+    requires { Deep (outline_by job) depths }
+    ensures { IfSome result (Lined (outline_by job.entry) t.0) }
 {
-    let count = spec::tables::table_loop_count(job, index, t);
-    let top = deepest(job, index, depths, t);
+    let count = spec::tables::table_loop_count(job.at, t);
+    let top = deepest(job, depths, t);
     let mut anchors = [AnchorLoop {
         l: LoopId(0),
         table: TableId(0),
@@ -186,8 +179,8 @@ pub fn line_up(job: &[u8], index: &[u16], depths: [u8; 32], t: TableId) -> Optio
     let mut n: u32 = 0;
     for up in 0..top + 1 {
         for i in 0..count {
-            let l = spec::tables::table_loop(job, index, t, i);
-            match anchor(job, index, depths, l, top - up) {
+            let l = spec::tables::table_loop(job.at, t, i);
+            match anchor(job, depths, l, top - up) {
                 Some(u) => {
                     if n == 8 {
                         return None;
@@ -209,34 +202,28 @@ pub fn line_up(job: &[u8], index: &[u16], depths: [u8; 32], t: TableId) -> Optio
 }
 
 // The anchors that rows of table t are hung by, if it repeats.
-pub fn line_of(job: &[u8], index: &[u16], depths: [u8; 32], t: TableId) -> Option<Line>
-    requires { Ready job.now index.now × Deep (outline_at job.now) depths }
-    ensures { IfSome result (Lined (outline_at job.now) t.0) }
+pub fn line_of(job: Job, depths: [u8; 32], t: TableId) -> Option<Line>
+    requires { Deep (outline_by job) depths }
+    ensures { IfSome result (Lined (outline_by job.entry) t.0) }
 {
-    let again = spec::tables::repeats(job, index, t);
+    let again = spec::tables::repeats(job.at, t);
     if again {
-        return line_up(job, index, depths, t);
+        return line_up(job, depths, t);
     }
     None
 }
 
 // The first of the anchors of table t, which are whole, whose reference row r has.
-pub fn claim_along(
-    job: &[u8],
-    index: &[u16],
-    line: Line,
-    t: TableId,
-    r: RowId,
-) -> Result<Claimed, TableId>
-    requires { Ready job.now index.now × Lined (outline_at job.now) t.0 line }
-    ensures { result ≡ claim_by (claim_in (outline_at job.now) t.0 r.0 (anchors (outline_at job.now) t.0)) (last_table t.0 (anchors (outline_at job.now) t.0)) }
+pub fn claim_along(job: Job, line: Line, t: TableId, r: RowId) -> Result<Claimed, TableId>
+    requires { Lined (outline_by job) t.0 line }
+    ensures { result ≡ claim_by (claim_in (outline_by job.entry) t.0 r.0 (anchors (outline_by job.entry) t.0)) (last_table t.0 (anchors (outline_by job.entry) t.0)) }
 {
     let mut last = t;
     for k in 0..line.n {
         let a = line.anchors[k as usize];
         let l = a.l;
         let table = a.table;
-        match tables::data::reference(job, index, t, table.0, r) {
+        match tables::data::reference(job.at, t, table.0, r) {
             Some(v) => {
                 return Ok(Claimed {
                     l: l,
@@ -254,26 +241,24 @@ pub fn claim_along(
 
 // The claim of row r of table t, by its anchors.
 pub fn claim_by(
-    job: &[u8],
-    index: &[u16],
+    job: Job,
     depths: [u8; 32],
     line: Option<Line>,
     t: TableId,
     r: RowId,
 ) -> Result<Claimed, TableId>
-    requires { Ready job.now index.now × Deep (outline_at job.now) depths × IfSome line (Lined (outline_at job.now) t.0) }
-    ensures { result ≡ claim_by (claim_in (outline_at job.now) t.0 r.0 (anchors (outline_at job.now) t.0)) (last_table t.0 (anchors (outline_at job.now) t.0)) }
+    requires { Deep (outline_by job) depths × IfSome line (Lined (outline_by job) t.0) }
+    ensures { result ≡ claim_by (claim_in (outline_by job.entry) t.0 r.0 (anchors (outline_by job.entry) t.0)) (last_table t.0 (anchors (outline_by job.entry) t.0)) }
 {
     match line {
-        Some(s) => claim_along(job, index, s, t, r),
-        None => claim(job, index, depths, t, r),
+        Some(s) => claim_along(job, s, t, r),
+        None => claim(job, depths, t, r),
     }
 }
 
 // Where row r of the repeat table t hangs.
 pub fn repeat_place(
-    job: &[u8],
-    index: &[u16],
+    job: Job,
     keys: [Keys; 16],
     depths: [u8; 32],
     line: Option<Line>,
@@ -281,14 +266,14 @@ pub fn repeat_place(
     r: RowId,
     near: u32,
 ) -> Place
-    requires { Ready job.now index.now × Keyed (outline_at job.now) keys × Deep (outline_at job.now) depths × (repeated (outline_at job.now) t.0 ≡ true) × IfSome line (Lined (outline_at job.now) t.0) }
-    ensures { Hung (outline_at job.now) t.0 r.0 result }
+    requires { Keyed (outline_by job) keys × Deep (outline_by job) depths × (repeated (outline_by job) t.0 ≡ true) × IfSome line (Lined (outline_by job) t.0) }
+    ensures { Hung (outline_by job.entry) t.0 r.0 result }
 {
-    match claim_by(job, index, depths, line, t, r) {
+    match claim_by(job, depths, line, t, r) {
         Ok(k) => {
             let l = k.l;
             let table = k.table;
-            match first_row(job, index, keys, table, k.value, near) {
+            match first_row(job, keys, table, k.value, near) {
                 Some(p) => Place {
                     above: p.0 + 1,
                     l: l,
@@ -302,19 +287,12 @@ pub fn repeat_place(
 }
 
 // Where row r of another table t hangs.
-pub fn parent_place(
-    job: &[u8],
-    index: &[u16],
-    keys: [Keys; 16],
-    t: TableId,
-    r: RowId,
-    near: u32,
-) -> Place
-    requires { Ready job.now index.now × Keyed (outline_at job.now) keys × (repeated (outline_at job.now) t.0 ≡ false) }
-    ensures { Hung (outline_at job.now) t.0 r.0 result }
+pub fn parent_place(job: Job, keys: [Keys; 16], t: TableId, r: RowId, near: u32) -> Place
+    requires { Keyed (outline_by job) keys × (repeated (outline_by job) t.0 ≡ false) }
+    ensures { Hung (outline_by job.entry) t.0 r.0 result }
 {
-    match spec::tables::table_parent(job, index, t) {
-        Some(u) => match referred(job, index, keys, t, r, TableId(u), near) {
+    match spec::tables::table_parent(job.at, t) {
+        Some(u) => match referred(job, keys, t, r, TableId(u), near) {
             Some(p) => Place {
                 above: p.0 + 1,
                 l: LoopId(0),
@@ -328,8 +306,7 @@ pub fn parent_place(
 
 // Where row r of table t hangs, looked for from `near` on.
 pub fn place_of(
-    job: &[u8],
-    index: &[u16],
+    job: Job,
     keys: [Keys; 16],
     depths: [u8; 32],
     line: Option<Line>,
@@ -337,12 +314,12 @@ pub fn place_of(
     r: RowId,
     near: u32,
 ) -> Place
-    requires { Ready job.now index.now × Keyed (outline_at job.now) keys × Deep (outline_at job.now) depths × IfSome line (Lined (outline_at job.now) t.0) }
-    ensures { Hung (outline_at job.now) t.0 r.0 result }
+    requires { Keyed (outline_by job) keys × Deep (outline_by job) depths × IfSome line (Lined (outline_by job) t.0) }
+    ensures { Hung (outline_by job.entry) t.0 r.0 result }
 {
-    let again = spec::tables::repeats(job, index, t);
+    let again = spec::tables::repeats(job.at, t);
     if again {
-        return repeat_place(job, index, keys, depths, line, t, r, near);
+        return repeat_place(job, keys, depths, line, t, r, near);
     }
-    parent_place(job, index, keys, t, r, near)
+    parent_place(job, keys, t, r, near)
 }

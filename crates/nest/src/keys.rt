@@ -5,8 +5,9 @@ ghost use Rattle.nest.specs.Outline.{Outline, table_of, row_count};
 ghost use Rattle.nest.specs.Nest.{has_keys, first_row, referred};
 ghost use Rattle.nest.specs.Found.{found_by};
 ghost use Rattle.nest.specs.Keys.{Rises, KeysAre, Keyed, MayRepeat};
-ghost use Rattle.nest.specs.Ready.{Ready, outline_at};
+ghost use Rattle.nest.specs.Job.{outline_by};
 
+use crate::Job;
 use crate::seek::{first_row_where, halve};
 use spec::ids::{RowId, TableId};
 
@@ -19,13 +20,12 @@ pub enum Keys {
 }
 
 // Whether u is among the ancestors of table d.
-pub fn names(job: &[u8], index: &[u16], d: TableId, u: u32) -> bool
-    requires { Ready job.now index.now }
-    ensures { result ≡ some_of (eqb u) (table_of (outline_at job.now) d.0).ancestors }
+pub fn names(job: Job, d: TableId, u: u32) -> bool
+    ensures { result ≡ some_of (eqb u) (table_of (outline_by job.entry) d.0).ancestors }
 {
-    let n = spec::tables::ancestor_count(job, index, d);
+    let n = spec::tables::ancestor_count(job.at, d);
     for k in 0..n {
-        if spec::tables::ancestor(job, index, d, k) == u {
+        if spec::tables::ancestor(job.at, d, k) == u {
             return true;
         }
     }
@@ -33,13 +33,12 @@ pub fn names(job: &[u8], index: &[u16], d: TableId, u: u32) -> bool
 }
 
 // Whether some table has u as its ancestor.
-pub fn has_keys(job: &[u8], index: &[u16], u: TableId) -> bool
-    requires { Ready job.now index.now }
-    ensures { result ≡ has_keys (outline_at job.now) u.0 }
+pub fn has_keys(job: Job, u: TableId) -> bool
+    ensures { result ≡ has_keys (outline_by job.entry) u.0 }
 {
-    let n = spec::tables::table_count(job, index);
+    let n = spec::tables::table_count(job.at);
     for i in 0..n {
-        if names(job, index, TableId(i), u.0) {
+        if names(job, TableId(i), u.0) {
             return true;
         }
     }
@@ -47,27 +46,25 @@ pub fn has_keys(job: &[u8], index: &[u16], u: TableId) -> bool
 }
 
 // The first row of u whose key is v, whether or not u has keys.
-pub fn first_with(job: &[u8], index: &[u16], u: TableId, v: u64) -> Option<RowId>
-    requires { Ready job.now index.now }
-    ensures { result ≡ found_by (first (keep (λ p. eqb ((outline_at job.now).key u.0 p) v) (up_to 0 (row_count (outline_at job.now) u.0)))) }
+pub fn first_with(job: Job, u: TableId, v: u64) -> Option<RowId>
+    ensures { result ≡ found_by (first (keep (λ p. eqb ((outline_by job.entry).key u.0 p) v) (up_to 0 (row_count (outline_by job.entry) u.0)))) }
 {
-    let n = tables::data::row_count(job, index, u);
+    let n = tables::data::row_count(job.at, u);
     first_row_where(
         0,
         n as usize,
-        |k| tables::data::key(job, index, u, RowId(k as u32)) == v,
+        |k| tables::data::key(job.at, u, RowId(k as u32)) == v,
     )
 }
 
 // Whether the keys of u rise from row to row, as unsigned numbers.
-pub fn ascends(job: &[u8], index: &[u16], u: TableId) -> bool
-    requires { Ready job.now index.now }
-    ensures { result ≡ true → Rises (outline_at job.now) u.0 }
+pub fn ascends(job: Job, u: TableId) -> bool
+    ensures { result ≡ true → Rises (outline_by job.entry) u.0 }
 {
-    let n = tables::data::row_count(job, index, u);
-    let mut last = tables::data::key(job, index, u, RowId(0));
+    let n = tables::data::row_count(job.at, u);
+    let mut last = tables::data::key(job.at, u, RowId(0));
     for k in 1..n {
-        let key = tables::data::key(job, index, u, RowId(k));
+        let key = tables::data::key(job.at, u, RowId(k));
         if key <= last {
             return false;
         }
@@ -77,13 +74,12 @@ pub fn ascends(job: &[u8], index: &[u16], u: TableId) -> bool
 }
 
 // What is known of the keys of u.
-pub fn keys_of(job: &[u8], index: &[u16], u: TableId) -> Keys
-    requires { Ready job.now index.now }
-    ensures { KeysAre (outline_at job.now) u.0 result }
+pub fn keys_of(job: Job, u: TableId) -> Keys
+    ensures { KeysAre (outline_by job.entry) u.0 result }
 {
-    let keyed = has_keys(job, index, u);
+    let keyed = has_keys(job, u);
     if keyed {
-        let rising = ascends(job, index, u);
+        let rising = ascends(job, u);
         if rising {
             return Keys::Rising;
         }
@@ -93,14 +89,13 @@ pub fn keys_of(job: &[u8], index: &[u16], u: TableId) -> Keys
 }
 
 // What is known of the keys of all tables of data.
-pub fn all_keys(job: &[u8], index: &[u16]) -> [Keys; 16]
-    requires { Ready job.now index.now }
-    ensures { Keyed (outline_at job.now) result }
+pub fn all_keys(job: Job) -> [Keys; 16]
+    ensures { Keyed (outline_by job.entry) result }
 {
     let mut keys = [Keys::None; 16];
-    let count = tables::data::data_count(job, index);
+    let count = tables::data::data_count(job.at);
     for u in 0..count {
-        let k = keys_of(job, index, TableId(u));
+        let k = keys_of(job, TableId(u));
         let i = u as usize;
         keys[i] = k;
     }
@@ -108,32 +103,31 @@ pub fn all_keys(job: &[u8], index: &[u16]) -> [Keys; 16]
 }
 
 // The row of u whose key is v, where the keys of u rise: each turn halves the rows that are left.
-pub fn search(job: &[u8], index: &[u16], u: TableId, v: u64) -> Option<RowId>
-    requires { Ready job.now index.now × Rises (outline_at job.now) u.0 }
-    ensures { result ≡ found_by (first (keep (λ p. eqb ((outline_at job.now).key u.0 p) v) (up_to 0 (row_count (outline_at job.now) u.0)))) }
+pub fn search(job: Job, u: TableId, v: u64) -> Option<RowId>
+    requires { Rises (outline_by job) u.0 }
+    ensures { result ≡ found_by (first (keep (λ p. eqb ((outline_by job.entry).key u.0 p) v) (up_to 0 (row_count (outline_by job.entry) u.0)))) }
 {
-    let n = tables::data::row_count(job, index, u);
+    let n = tables::data::row_count(job.at, u);
     let at = halve(
         0,
         n as usize,
-        |k| tables::data::key(job, index, u, RowId(k as u32)) < v,
+        |k| tables::data::key(job.at, u, RowId(k as u32)) < v,
     );
     let k = at as u32;
-    if is_key(job, index, u, v, k) {
+    if is_key(job, u, v, k) {
         return Some(RowId(k));
     }
     None
 }
 
 // Whether u has a row k and v is its key.
-pub fn is_key(job: &[u8], index: &[u16], u: TableId, v: u64, k: u32) -> bool
-    requires { Ready job.now index.now }
-    ensures there { result ≡ true → (k < row_count (outline_at job.now) u.0) × ((outline_at job.now).key u.0 k ≡ v) }
-    ensures not_there { result ≡ false → k < row_count (outline_at job.now) u.0 → (outline_at job.now).key u.0 k ≡ v → ⊥ }
+pub fn is_key(job: Job, u: TableId, v: u64, k: u32) -> bool
+    ensures there { result ≡ true → (k < row_count (outline_by job.entry) u.0) × ((outline_by job.entry).key u.0 k ≡ v) }
+    ensures not_there { result ≡ false → k < row_count (outline_by job.entry) u.0 → (outline_by job.entry).key u.0 k ≡ v → ⊥ }
 {
-    let n = tables::data::row_count(job, index, u);
+    let n = tables::data::row_count(job.at, u);
     if k < n {
-        let key = tables::data::key(job, index, u, RowId(k));
+        let key = tables::data::key(job.at, u, RowId(k));
         if key == v {
             return true;
         }
@@ -142,21 +136,21 @@ pub fn is_key(job: &[u8], index: &[u16], u: TableId, v: u64, k: u32) -> bool
 }
 
 // The row of u whose key is v, where the keys of u rise: the rows before and at `near` are looked at first.
-pub fn search_near(job: &[u8], index: &[u16], u: TableId, v: u64, near: u32) -> Option<RowId>
-    requires { Ready job.now index.now × Rises (outline_at job.now) u.0 }
-    ensures { result ≡ found_by (first (keep (λ p. eqb ((outline_at job.now).key u.0 p) v) (up_to 0 (row_count (outline_at job.now) u.0)))) }
+pub fn search_near(job: Job, u: TableId, v: u64, near: u32) -> Option<RowId>
+    requires { Rises (outline_by job) u.0 }
+    ensures { result ≡ found_by (first (keep (λ p. eqb ((outline_by job.entry).key u.0 p) v) (up_to 0 (row_count (outline_by job.entry) u.0)))) }
 {
     if 0 < near {
-        let same = is_key(job, index, u, v, near - 1);
+        let same = is_key(job, u, v, near - 1);
         if same {
             return Some(RowId(near - 1));
         }
     }
-    let next = is_key(job, index, u, v, near);
+    let next = is_key(job, u, v, near);
     if next {
         return Some(RowId(near));
     }
-    search(job, index, u, v)
+    search(job, u, v)
 }
 
 // What is known of the keys of u, by the list of all tables.
@@ -171,41 +165,33 @@ pub fn known(keys: [Keys; 16], u: TableId) -> Keys
 }
 
 // The first row of u whose key is v, looked for from `near` on; a table without keys is not searched.
-pub fn first_row(
-    job: &[u8],
-    index: &[u16],
-    keys: [Keys; 16],
-    u: TableId,
-    v: u64,
-    near: u32,
-) -> Option<RowId>
-    requires { Ready job.now index.now × Keyed (outline_at job.now) keys }
-    ensures { result ≡ found_by (first_row (outline_at job.now) u.0 v) }
+pub fn first_row(job: Job, keys: [Keys; 16], u: TableId, v: u64, near: u32) -> Option<RowId>
+    requires { Keyed (outline_by job) keys }
+    ensures { result ≡ found_by (first_row (outline_by job.entry) u.0 v) }
 {
     let k = known(keys, u);
     match k {
         Keys::None => None,
-        Keys::Any => first_with(job, index, u, v),
-        Keys::Rising => search_near(job, index, u, v, near),
+        Keys::Any => first_with(job, u, v),
+        Keys::Rising => search_near(job, u, v, near),
     }
 }
 
 // The row of u that row r of t refers to.
 pub fn referred(
-    job: &[u8],
-    index: &[u16],
+    job: Job,
     keys: [Keys; 16],
     t: TableId,
     r: RowId,
     u: TableId,
     near: u32,
 ) -> Option<RowId>
-    requires { Ready job.now index.now × Keyed (outline_at job.now) keys }
-    ensures { result ≡ found_by (referred (outline_at job.now) t.0 r.0 u.0) }
+    requires { Keyed (outline_by job) keys }
+    ensures { result ≡ found_by (referred (outline_by job.entry) t.0 r.0 u.0) }
 {
-    let value = tables::data::reference(job, index, t, u.0, r);
+    let value = tables::data::reference(job.at, t, u.0, r);
     match value {
-        Some(v) => first_row(job, index, keys, u, v, near),
+        Some(v) => first_row(job, keys, u, v, near),
         None => None,
     }
 }

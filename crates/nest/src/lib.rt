@@ -6,21 +6,23 @@ ghost use Rattle.std.proofs.lemmas.List.Edits.{sets};
 ghost use Rattle.nest.specs.Lists.{keep, first, up_to};
 ghost use Rattle.nest.specs.Found.{found_by, nest_at, row_above, held_at, hooked_at};
 ghost use Rattle.format.specs.Refusal.{rows_of_all};
-ghost use Rattle.format.specs.Sections.{job_of};
 ghost use Rattle.lent.specs.Fit.{base, Noted};
 ghost use Rattle.nest.specs.Nest.{nest_array};
 ghost use Rattle.nest.specs.NestFindings.{nest_findings};
-ghost use Rattle.nest.specs.Ready.{Ready, outline_at, words};
+ghost use Rattle.nest.specs.Ready.{words};
+ghost use Rattle.nest.specs.Job.{outline_by, job_by};
 
 use crate::duplicates::all_duplicates;
 use crate::keys::all_keys;
 use crate::report::all_findings;
 use crate::rows::nest_rows;
 use crate::seek::first_row_where;
+pub use job::Job;
 use spec::ids::{LoopId, RowId, TableId};
 
 pub mod duplicates;
 pub mod hang;
+mod job;
 pub mod keys;
 pub mod order;
 pub mod report;
@@ -104,12 +106,12 @@ pub fn next_hooked(
 }
 
 // Where each row hangs, three numbers a row, and what is found of the rows: duplicate keys first, then row by row.
-pub fn nest(job: &[u8], index: &[u16], nest: &mut [u32], findings: &mut [u64]) -> usize
-    requires { Ready job.now index.now × (rows_of_all (job_of job.now).tables * 3 ≤ length nest.old) }
-    ensures { (nest.new ≡ sets nest.old 0 (nest_array (outline_at job.now))) × Noted findings.old base (words (nest_findings (outline_at job.now))) result findings.new }
+pub fn nest(job: Job, nest: &mut [u32], findings: &mut [u64]) -> usize
+    requires { rows_of_all (job_by job).tables * 3 ≤ length nest.old }
+    ensures { (nest.new ≡ sets nest.old 0 (nest_array (outline_by job.entry))) × Noted findings.old base (words (nest_findings (outline_by job.entry))) result findings.new }
 {
-    nest_rows(job, index, nest);
-    let keys = all_keys(job, index);
-    let next = all_duplicates(job, index, keys, findings, 4611686018427387904);
-    all_findings(job, index, nest, findings, next)
+    nest_rows(job, nest);
+    let keys = all_keys(job);
+    let next = all_duplicates(job, keys, findings, 4611686018427387904);
+    all_findings(job, nest, findings, next)
 }

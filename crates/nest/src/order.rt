@@ -4,20 +4,20 @@ ghost use Rattle.std.proofs.lemmas.List.Edits.{sets};
 ghost use Rattle.nest.specs.Lists.{once};
 ghost use Rattle.nest.specs.Found.{ArrayIs};
 ghost use Rattle.format.specs.Refusal.{rows_of_all};
-ghost use Rattle.format.specs.Sections.{job_of};
 ghost use Rattle.nest.specs.Rising.{falls, rising_flags, rises, Climbs, Parted};
-ghost use Rattle.nest.specs.Ready.{Ready, outline_at};
+ghost use Rattle.nest.specs.Job.{outline_by, job_by};
 
+use crate::Job;
 use crate::seek::halve;
 use spec::ids::TableId;
 
 // Whether some row of table t hangs on an earlier row than the row before it.
-pub fn falls(job: &[u8], index: &[u16], nest: &[u32], t: TableId) -> bool
-    requires { Ready job.now index.now × ArrayIs (outline_at job.now) nest.now }
-    ensures { result ≡ falls (outline_at job.now) t.0 }
+pub fn falls(job: Job, nest: &[u32], t: TableId) -> bool
+    requires { ArrayIs (outline_by job) nest.now }
+    ensures { result ≡ falls (outline_by job.entry) t.0 }
 {
-    let base = tables::data::first_row(job, index, t) as usize;
-    let rows = tables::data::row_count(job, index, t) as usize;
+    let base = tables::data::first_row(job.at, t) as usize;
+    let rows = tables::data::row_count(job.at, t) as usize;
     for k in 1..rows {
         let i = (base + k) * 3;
         let before = i - 3;
@@ -41,14 +41,14 @@ pub fn put_flag(nest: &mut [u32], i: usize, down: bool)
 }
 
 // The flags of all tables of data.
-pub fn mark_rising(job: &[u8], index: &[u16], nest: &mut [u32])
-    requires { Ready job.now index.now × ArrayIs (outline_at job.now) nest.old × (rows_of_all (job_of job.now).tables * 3 + 16 ≤ length nest.old) }
-    ensures { nest.new ≡ sets nest.old (length nest.old - 16) (rising_flags (outline_at job.now)) }
+pub fn mark_rising(job: Job, nest: &mut [u32])
+    requires { ArrayIs (outline_by job) nest.old × (rows_of_all (job_by job).tables * 3 + 16 ≤ length nest.old) }
+    ensures { nest.new ≡ sets nest.old (length nest.old - 16) (rising_flags (outline_by job.entry)) }
 {
-    let count = tables::data::data_count(job, index);
+    let count = tables::data::data_count(job.at);
     let flags = nest.len() - 16;
     for t in 0..count {
-        let down = falls(job, index, nest, TableId(t));
+        let down = falls(job, nest, TableId(t));
         put_flag(nest, flags + t as usize, down);
     }
 }

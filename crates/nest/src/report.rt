@@ -1,7 +1,6 @@
 // What is found of a row: contradictions with the row that it hangs on, or that it hangs on none.
 ghost use Rattle.std.specs.Prelude.{◌≡◌, true, false, ◌<◌, length};
 ghost use Rattle.lent.specs.Fit.{Noted};
-ghost use Rattle.format.specs.Sections.{job_of};
 ghost use Rattle.tables.specs.Parts.{rows_before};
 ghost use Rattle.nest.specs.Outline.{row_count, repeated};
 ghost use Rattle.nest.specs.Nest.{row_of};
@@ -9,16 +8,16 @@ ghost use Rattle.nest.specs.Lists.{each, up_to};
 ghost use Rattle.nest.specs.NestFindings.{contradiction_at, contradictions, missing_at, row_findings, table_findings};
 ghost use Rattle.nest.specs.Keys.{Deep};
 ghost use Rattle.nest.specs.Found.{ArrayIs};
-ghost use Rattle.nest.specs.Ready.{Ready, outline_at, words};
+ghost use Rattle.nest.specs.Ready.{words};
+ghost use Rattle.nest.specs.Job.{outline_by, job_by};
 
 use crate::hang::{all_depths, claim};
-use crate::{row_above, table_above};
+use crate::{Job, row_above, table_above};
 use spec::ids::{RowId, TableId};
 
 // The finding of ancestor a, if row r of t and the row p of u that it hangs on refer to different rows of it.
 pub fn contradiction_at(
-    job: &[u8],
-    index: &[u16],
+    job: Job,
     findings: &mut [u64],
     at: usize,
     t: TableId,
@@ -27,11 +26,10 @@ pub fn contradiction_at(
     p: RowId,
     a: u32,
 ) -> usize
-    requires { Ready job.now index.now }
-    ensures { Noted findings.old at (words (contradiction_at (outline_at job.now) t.0 r.0 (row_of u.0 p.0) a)) result findings.new }
+    ensures { Noted findings.old at (words (contradiction_at (outline_by job.entry) t.0 r.0 (row_of u.0 p.0) a)) result findings.new }
 {
-    let own = tables::data::reference(job, index, t, a, r);
-    let above = tables::data::reference(job, index, u, a, p);
+    let own = tables::data::reference(job.at, t, a, r);
+    let above = tables::data::reference(job.at, u, a, p);
     match own {
         Some(v) => {
             match above {
@@ -61,8 +59,7 @@ pub fn contradiction_at(
 
 // The contradictions of row r of t with the row p of u that it hangs on, over the ancestors of u.
 pub fn contradictions(
-    job: &[u8],
-    index: &[u16],
+    job: Job,
     findings: &mut [u64],
     at: usize,
     t: TableId,
@@ -70,32 +67,30 @@ pub fn contradictions(
     u: TableId,
     p: RowId,
 ) -> usize
-    requires { Ready job.now index.now }
-    ensures { Noted findings.old at (words (contradictions (outline_at job.now) t.0 r.0 (row_of u.0 p.0))) result findings.new }
+    ensures { Noted findings.old at (words (contradictions (outline_by job.entry) t.0 r.0 (row_of u.0 p.0))) result findings.new }
 {
-    let count = spec::tables::ancestor_count(job, index, u);
+    let count = spec::tables::ancestor_count(job.at, u);
     let mut next = lent::more(at, 0);
     for k in 0..count {
-        let a = spec::tables::ancestor(job, index, u, k);
-        next = contradiction_at(job, index, findings, next, t, r, u, p, a);
+        let a = spec::tables::ancestor(job.at, u, k);
+        next = contradiction_at(job, findings, next, t, r, u, p, a);
     }
     next
 }
 
 // The finding of a repeat row that hangs on none.
 pub fn repeat_missing(
-    job: &[u8],
-    index: &[u16],
+    job: Job,
     findings: &mut [u64],
     at: usize,
     depths: [u8; 32],
     t: TableId,
     r: RowId,
 ) -> usize
-    requires { Ready job.now index.now × Deep (outline_at job.now) depths × (repeated (outline_at job.now) t.0 ≡ true) }
-    ensures { Noted findings.old at (words (missing_at (outline_at job.now) t.0 r.0)) result findings.new }
+    requires { Deep (outline_by job) depths × (repeated (outline_by job) t.0 ≡ true) }
+    ensures { Noted findings.old at (words (missing_at (outline_by job.entry) t.0 r.0)) result findings.new }
 {
-    let anchored = claim(job, index, depths, t, r);
+    let anchored = claim(job, depths, t, r);
     match anchored {
         Ok(k) => {
             let table = k.table;
@@ -129,21 +124,14 @@ pub fn repeat_missing(
 }
 
 // The finding of a row of another table that hangs on none; a table without parent has none.
-pub fn parent_missing(
-    job: &[u8],
-    index: &[u16],
-    findings: &mut [u64],
-    at: usize,
-    t: TableId,
-    r: RowId,
-) -> usize
-    requires { Ready job.now index.now × (repeated (outline_at job.now) t.0 ≡ false) }
-    ensures { Noted findings.old at (words (missing_at (outline_at job.now) t.0 r.0)) result findings.new }
+pub fn parent_missing(job: Job, findings: &mut [u64], at: usize, t: TableId, r: RowId) -> usize
+    requires { repeated (outline_by job) t.0 ≡ false }
+    ensures { Noted findings.old at (words (missing_at (outline_by job.entry) t.0 r.0)) result findings.new }
 {
-    let parent = spec::tables::table_parent(job, index, t);
+    let parent = spec::tables::table_parent(job.at, t);
     match parent {
         Some(u) => {
-            let value = tables::data::reference(job, index, t, u, r);
+            let value = tables::data::reference(job.at, t, u, r);
             match value {
                 Some(v) => {
                     return lent::note_words(
@@ -171,28 +159,26 @@ pub fn parent_missing(
 
 // The finding of a row that hangs on none.
 pub fn missing(
-    job: &[u8],
-    index: &[u16],
+    job: Job,
     findings: &mut [u64],
     at: usize,
     depths: [u8; 32],
     t: TableId,
     r: RowId,
 ) -> usize
-    requires { Ready job.now index.now × Deep (outline_at job.now) depths }
-    ensures { Noted findings.old at (words (missing_at (outline_at job.now) t.0 r.0)) result findings.new }
+    requires { Deep (outline_by job) depths }
+    ensures { Noted findings.old at (words (missing_at (outline_by job.entry) t.0 r.0)) result findings.new }
 {
-    let again = spec::tables::repeats(job, index, t);
+    let again = spec::tables::repeats(job.at, t);
     if again {
-        return repeat_missing(job, index, findings, at, depths, t, r);
+        return repeat_missing(job, findings, at, depths, t, r);
     }
-    parent_missing(job, index, findings, at, t, r)
+    parent_missing(job, findings, at, t, r)
 }
 
 // The findings of row r of t, by nest's numbers; the rows of t start at `base`.
 pub fn row_findings(
-    job: &[u8],
-    index: &[u16],
+    job: Job,
     nest: &[u32],
     findings: &mut [u64],
     at: usize,
@@ -201,59 +187,52 @@ pub fn row_findings(
     base: usize,
     r: RowId,
 ) -> usize
-    requires { Ready job.now index.now × ArrayIs (outline_at job.now) nest.now × Deep (outline_at job.now) depths × (base ≡ rows_before (job_of job.now).tables t.0) × (r.0 < row_count (outline_at job.now) t.0) }
-    ensures { Noted findings.old at (words (row_findings (outline_at job.now) t.0 r.0)) result findings.new }
+    requires { ArrayIs (outline_by job) nest.now × Deep (outline_by job) depths × (base ≡ rows_before (job_by job).tables t.0) × (r.0 < row_count (outline_by job) t.0) }
+    ensures { Noted findings.old at (words (row_findings (outline_by job.entry) t.0 r.0)) result findings.new }
 {
     let above = row_above(nest, base, r);
     match above {
         Some(p) => {
             let table = table_above(nest, base, r);
-            return contradictions(job, index, findings, at, t, r, table, p);
+            return contradictions(job, findings, at, t, r, table, p);
         }
         None => {
-            return missing(job, index, findings, at, depths, t, r);
+            return missing(job, findings, at, depths, t, r);
         }
     }
 }
 
 // The findings of the rows of table t.
 pub fn table_findings(
-    job: &[u8],
-    index: &[u16],
+    job: Job,
     nest: &[u32],
     findings: &mut [u64],
     at: usize,
     depths: [u8; 32],
     t: TableId,
 ) -> usize
-    requires { Ready job.now index.now × ArrayIs (outline_at job.now) nest.now × Deep (outline_at job.now) depths }
-    ensures { Noted findings.old at (words (table_findings (outline_at job.now) t.0)) result findings.new }
+    requires { ArrayIs (outline_by job) nest.now × Deep (outline_by job) depths }
+    ensures { Noted findings.old at (words (table_findings (outline_by job.entry) t.0)) result findings.new }
 {
-    let base = tables::data::first_row(job, index, t) as usize;
-    let n = tables::data::row_count(job, index, t);
+    let base = tables::data::first_row(job.at, t) as usize;
+    let n = tables::data::row_count(job.at, t);
     let mut next = lent::more(at, 0);
     for r in 0..n {
-        next = row_findings(job, index, nest, findings, next, depths, t, base, RowId(r));
+        next = row_findings(job, nest, findings, next, depths, t, base, RowId(r));
     }
     next
 }
 
 // The findings of the rows of the spec's tables, table by table.
-pub fn all_findings(
-    job: &[u8],
-    index: &[u16],
-    nest: &[u32],
-    findings: &mut [u64],
-    at: usize,
-) -> usize
-    requires { Ready job.now index.now × ArrayIs (outline_at job.now) nest.now }
-    ensures { Noted findings.old at (words (each (table_findings (outline_at job.now)) (up_to 0 (length (outline_at job.now).tables)))) result findings.new }
+pub fn all_findings(job: Job, nest: &[u32], findings: &mut [u64], at: usize) -> usize
+    requires { ArrayIs (outline_by job) nest.now }
+    ensures { Noted findings.old at (words (each (table_findings (outline_by job.entry)) (up_to 0 (length (outline_by job.entry).tables)))) result findings.new }
 {
-    let depths = all_depths(job, index);
-    let count = spec::tables::table_count(job, index);
+    let depths = all_depths(job);
+    let count = spec::tables::table_count(job.at);
     let mut next = lent::more(at, 0);
     for t in 0..count {
-        next = table_findings(job, index, nest, findings, next, depths, TableId(t));
+        next = table_findings(job, nest, findings, next, depths, TableId(t));
     }
     next
 }

@@ -1,59 +1,39 @@
 // Orders (condition 2).
 ghost use Rattle.std.specs.Prelude.{◌≡◌, ◌≤◌, ◌<◌, eqb, ltb, length};
-ghost use Rattle.format.specs.Sections.{job_of};
 ghost use Rattle.format.specs.Ask.{order_of};
-ghost use Rattle.format.specs.Layout.{segment_item, loop_item};
 ghost use Rattle.plan.specs.Answers.{item_of};
 ghost use Rattle.nest.specs.Lists.{sum, times};
 ghost use Rattle.nest.specs.Outline.{loop_of, segment_of, item_segments, order_of as order_in};
-ghost use Rattle.nest.specs.Ready.{Ready, outline_at};
 ghost use Rattle.walk.specs.Check.{each_below, planned};
 ghost use Rattle.paths.specs.Tests.{same_item, segment_below, order_right, only_planned};
+ghost use Rattle.nest.specs.Job.{outline_by, job_by};
 
 use crate::below::each;
 use crate::counts::{loops, once};
+use nest::Job;
 use plan::answers::Item;
 use spec::ids::LoopId;
-
-// 1 where an item is segment i.
-fn is_segment(v: Item, i: u32) -> u32
-    ensures { (result ≡ same_item (segment_item i) (item_of v)) × (result ≤ 1) }
-{
-    match v {
-        Item::Segment(k) => once(k == i),
-        Item::Loop(_) => 0,
-    }
-}
-
-// 1 where an item is loop l.
-fn is_loop(v: Item, l: LoopId) -> u32
-    ensures { (result ≡ same_item (loop_item l.0) (item_of v)) × (result ≤ 1) }
-{
-    match v {
-        Item::Segment(_) => 0,
-        Item::Loop(k) => once(k.0 == l.0),
-    }
-}
 
 // 1 where two items are the same.
 fn same_item(x: Item, v: Item) -> u32
     ensures { (result ≡ same_item (item_of x) (item_of v)) × (result ≤ 1) }
 {
-    match x {
-        Item::Segment(i) => is_segment(v, i),
-        Item::Loop(l) => is_loop(v, l),
+    match (x, v) {
+        (Item::Segment(i), Item::Segment(k)) => once(k == i),
+        (Item::Loop(l), Item::Loop(k)) => once(k.0 == l.0),
+        _ => 0,
     }
 }
 
 // How often an item stands in the order of a loop.
-fn item_times(job: &[u8], index: &[u16], l: LoopId, x: Item) -> u32
-    requires { Ready job.now index.now × (l.0 < 32) }
-    ensures { result ≡ sum (same_item (item_of x)) (order_of (job_of job.now) l.0) }
+fn item_times(job: Job, l: LoopId, x: Item) -> u32
+    requires { l.0 < 32 }
+    ensures { result ≡ sum (same_item (item_of x)) (order_of (job_by job.entry) l.0) }
 {
-    let n = plan::layout::order_count(job, index, l);
+    let n = plan::layout::order_count(job.at, l);
     let mut seen: u32 = 0;
     for i in 0..n {
-        let v = plan::layout::item(job, index, l, i);
+        let v = plan::layout::item(job.at, l, i);
         let more = same_item(x, v);
         seen = seen + more;
     }
@@ -61,14 +41,13 @@ fn item_times(job: &[u8], index: &[u16], l: LoopId, x: Item) -> u32
 }
 
 // How often loop k is a child of loop l.
-fn child_times(job: &[u8], index: &[u16], l: LoopId, k: u32) -> u32
-    requires { Ready job.now index.now }
-    ensures { result ≡ times k (loop_of (outline_at job.now) l.0).children }
+fn child_times(job: Job, l: LoopId, k: u32) -> u32
+    ensures { result ≡ times k (loop_of (outline_by job.entry) l.0).children }
 {
-    let n = spec::loops::child_count(job, index, l);
+    let n = spec::loops::child_count(job.at, l);
     let mut seen: u32 = 0;
     for i in 0..n {
-        let v = spec::loops::child(job, index, l, i);
+        let v = spec::loops::child(job.at, l, i);
         let more = once(v.0 == k);
         seen = seen + more;
     }
@@ -76,28 +55,28 @@ fn child_times(job: &[u8], index: &[u16], l: LoopId, k: u32) -> u32
 }
 
 // Whether the order of loop l names loop k as often as it is a child.
-fn order_right(job: &[u8], index: &[u16], l: LoopId, k: u32) -> bool
-    requires { Ready job.now index.now × (l.0 < 32) }
-    ensures { result ≡ order_right (outline_at job.now) l.0 k }
+fn order_right(job: Job, l: LoopId, k: u32) -> bool
+    requires { l.0 < 32 }
+    ensures { result ≡ order_right (outline_by job.entry) l.0 k }
 {
-    let a = item_times(job, index, l, Item::Loop(LoopId(k)));
-    let b = child_times(job, index, l, k);
+    let a = item_times(job, l, Item::Loop(LoopId(k)));
+    let b = child_times(job, l, k);
     a == b
 }
 
-pub fn order_loops(job: &[u8], index: &[u16], l: LoopId) -> bool
-    requires { Ready job.now index.now × (l.0 < 32) }
-    ensures { result ≡ each_below (length (outline_at job.now).loops) (order_right (outline_at job.now) l.0) }
+pub fn order_loops(job: Job, l: LoopId) -> bool
+    requires { l.0 < 32 }
+    ensures { result ≡ each_below (length (outline_by job.entry).loops) (order_right (outline_by job.entry) l.0) }
 {
-    each(loops(job, index), |k| order_right(job, index, l, k))
+    each(loops(job), |k| order_right(job, l, k))
 }
 
 // Whether planned segment i stands once in the order of loop l.
-pub fn once_ordered(job: &[u8], index: &[u16], l: LoopId, i: u32) -> bool
-    requires { Ready job.now index.now × (l.0 < 32) }
-    ensures { result ≡ eqb (times i (item_segments (order_in (outline_at job.now) l.0))) 1 }
+pub fn once_ordered(job: Job, l: LoopId, i: u32) -> bool
+    requires { l.0 < 32 }
+    ensures { result ≡ eqb (times i (item_segments (order_in (outline_by job.entry) l.0))) 1 }
 {
-    let n = item_times(job, index, l, Item::Segment(i));
+    let n = item_times(job, l, Item::Segment(i));
     n == 1
 }
 
@@ -112,14 +91,14 @@ fn segment_below(v: Item, n: u32) -> bool
 }
 
 // Whether the order of loop l names only planned segments.
-pub fn only_planned(job: &[u8], index: &[u16], l: LoopId) -> bool
-    requires { Ready job.now index.now × (l.0 < 32) }
-    ensures { result ≡ only_planned (outline_at job.now) l.0 }
+pub fn only_planned(job: Job, l: LoopId) -> bool
+    requires { l.0 < 32 }
+    ensures { result ≡ only_planned (outline_by job.entry) l.0 }
 {
-    let most = plan::planned::planned_count(job, index, l);
-    let n = plan::layout::order_count(job, index, l);
+    let most = plan::planned::planned_count(job.at, l);
+    let n = plan::layout::order_count(job.at, l);
     for i in 0..n {
-        let v = plan::layout::item(job, index, l, i);
+        let v = plan::layout::item(job.at, l, i);
         let below = segment_below(v, most);
         if !below {
             return false;
@@ -129,11 +108,11 @@ pub fn only_planned(job: &[u8], index: &[u16], l: LoopId) -> bool
 }
 
 // Whether the spec has the occurrence that planned segment i of loop l names.
-pub fn occurs(job: &[u8], index: &[u16], l: LoopId, i: u32) -> bool
-    requires { Ready job.now index.now × (l.0 < 32) }
-    ensures { result ≡ ltb (segment_of (outline_at job.now) l.0 i).occurrence (loop_of (outline_at job.now) l.0).occurrences }
+pub fn occurs(job: Job, l: LoopId, i: u32) -> bool
+    requires { l.0 < 32 }
+    ensures { result ≡ ltb (segment_of (outline_by job.entry) l.0 i).occurrence (loop_of (outline_by job.entry) l.0).occurrences }
 {
-    let k = plan::planned::occurrence_of(job, index, l, i);
-    let n = spec::loops::occurrence_count(job, index, l);
+    let k = plan::planned::occurrence_of(job.at, l, i);
+    let n = spec::loops::occurrence_count(job.at, l);
     k < n
 }

@@ -24,7 +24,6 @@ use Rattle.format.specs.Ask.{loop_of, segment_def, depth_of}
 use Rattle.spec.specs.Found.{StandsAt}
 use Rattle.spec.specs.Answers.{control_of, rule_of}
 use Rattle.spec.specs.declared.ids.ControlRule.{ControlRule}
-use Rattle.emit.specs.Table.{held_field}
 use Rattle.std.specs.Prelude as Rust
 use Rattle.segment.specs.Parts.{is_empty}
 use Rattle.emit.specs.Envelope.{field_at}
@@ -119,14 +118,14 @@ module _ (j : Job) (l : ℕ) (p : LoopPlan) (r : Option ControlRule) (h : contro
   loop_ruled c t i k = let z : (loop_of j l).control ≡ Some (rule_of c) = sym h ∙ ap control_of i in k ∙ sym (rw z)
 
 -- h is what the field of an element was found as
-module _ (g : ℕ → Bool) (h : Rust.Option ℕ) (depth position : ℕ) (e : held_field h ≡ field_at depth position) where
+module _ (g : ℕ → Bool) (h : Rust.Option ℕ) (depth position : ℕ) (e : h ≡ field_at depth position) where
   pub held_nothing : h ≡ Rust.None → false ≡ if_some g (field_at depth position)
   unfolding if_some
-  held_nothing i = let z : field_at depth position ≡ None = sym e ∙ ap held_field i in sym (rw z)
+  held_nothing i = let z : field_at depth position ≡ None = sym e ∙ i in sym (rw z)
 
   pub held_field_lem : (f : ℕ) (r : Bool) → h ≡ Rust.Some f → r ≡ g f → r ≡ if_some g (field_at depth position)
   unfolding if_some
-  held_field_lem f r i k = let z : field_at depth position ≡ Some f = sym e ∙ ap held_field i in k ∙ sym (rw z)
+  held_field_lem f r i k = let z : field_at depth position ≡ Some f = sym e ∙ i in k ∙ sym (rw z)
 
 -- n is what the repetition separator was read as
 module _ (j : Job) (l opener d : ℕ) (n : Option ℕ) (h : d ≡ depth_of j l) (k : n ≡ j.envelope.repetition) where

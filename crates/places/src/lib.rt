@@ -6,14 +6,14 @@ mod triggers;
 
 ghost use Rattle.std.specs.Prelude.{length, ◌≡◌, false};
 ghost use Rattle.codec.specs.Codec.{pick};
-ghost use Rattle.format.specs.Sections.{job_of};
 ghost use Rattle.complete.specs.Decides.{Decides};
 ghost use Rattle.complete.specs.Complete.{SeparatorsAlone};
-ghost use Rattle.nest.specs.Ready.{Ready};
 ghost use Rattle.places.specs.Fits.{Fits5, SegmentsFit};
+ghost use Rattle.nest.specs.Job.{job_by};
 
 use codec::Section;
 use codes::{codes_clear, maps_fit, rules_fit, start};
+use nest::Job;
 
 fn both(x: bool, y: bool) -> bool
     ensures { result ≡ pick x y false }
@@ -25,48 +25,47 @@ fn both(x: bool, y: bool) -> bool
 }
 
 // The places of planned segments.
-pub fn segments_fit(job: &[u8], index: &[u16]) -> bool
-    requires { Ready job.now index.now }
-    ensures { Decides result (SegmentsFit (job_of job.now)) }
+pub fn segments_fit(job: Job) -> bool
+    ensures { Decides result (SegmentsFit (job_by job.entry)) }
 {
-    let plan = start(job, 4);
-    let layout = start(job, 8);
+    let plan = start(job.at.bytes, 4);
+    let layout = start(job.at.bytes, 8);
     !spots::plans_wrong(
         Section {
-            bytes: job,
+            bytes: job.at.bytes,
             end: layout,
         },
-        index,
+        job.at.index,
         plan as usize,
     )
 }
 
 // Envelope fields that give a separator.
-pub fn separators_alone(job: &[u8], index: &[u16]) -> bool
-    requires { Ready job.now index.now × (length (job_of job.now).plan ≡ length (job_of job.now).spec.loops) }
-    ensures { Decides result (SeparatorsAlone (job_of job.now)) }
+pub fn separators_alone(job: Job) -> bool
+    requires { length (job_by job).plan ≡ length (job_by job).spec.loops }
+    ensures { Decides result (SeparatorsAlone (job_by job.entry)) }
 {
-    let plan = start(job, 4);
-    let layout = start(job, 8);
+    let plan = start(job.at.bytes, 4);
+    let layout = start(job.at.bytes, 8);
     !triggers::loops_wrong(
         Section {
-            bytes: job,
+            bytes: job.at.bytes,
             end: layout,
         },
-        index,
+        job.at.index,
         plan as usize,
     )
 }
 
 // Condition 5, where the plan has one entry a loop.
-pub fn places_fit(job: &[u8], index: &[u16]) -> bool
-    requires { Ready job.now index.now × (length (job_of job.now).plan ≡ length (job_of job.now).spec.loops) }
-    ensures { Decides result (Fits5 (job_of job.now)) }
+pub fn places_fit(job: Job) -> bool
+    requires { length (job_by job).plan ≡ length (job_by job).spec.loops }
+    ensures { Decides result (Fits5 (job_by job.entry)) }
 {
-    let rules = rules_fit(job);
-    let maps = maps_fit(job);
-    let segments = segments_fit(job, index);
-    let codes = codes_clear(job, index);
-    let alone = separators_alone(job, index);
+    let rules = rules_fit(job.at.bytes);
+    let maps = maps_fit(job.at.bytes);
+    let segments = segments_fit(job);
+    let codes = codes_clear(job);
+    let alone = separators_alone(job);
     both(segments, both(maps, both(rules, both(alone, codes))))
 }

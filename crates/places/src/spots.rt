@@ -15,6 +15,7 @@ ghost use Rattle.places.specs.Spots.{wrong_spot, clash, front, hits, meet, mispl
 use crate::both;
 use codec::{Form, Section};
 use format::{Instances, LoopPlan, SegmentPlan, Source};
+use spec::Indexed;
 use spec::ids::TableId;
 
 // The place of a planned element: rank is 0 for no component, else one more than it; reach is how many rows fill it.
@@ -117,7 +118,7 @@ fn spot_wrong(step: usize, x: Spot) -> bool
 fn rank_at(s: Section, at: usize) -> usize
     ensures { Says (opt_c num_c) s.entry.bytes.now s.entry.end at rank result }
 {
-    if s.tag_at(at) == 1 {
+    if s.case(at) == Some(1) {
         let p = s.le_at(1, at);
         return s.count_at(p) + 1;
     }
@@ -127,7 +128,7 @@ fn rank_at(s: Section, at: usize) -> usize
 fn reach_at(s: Section, at: usize, room: usize) -> usize
     ensures { Says value_c s.entry.bytes.now s.entry.end at (reach_of room) result }
 {
-    if s.tag_at(at) == 1 {
+    if s.case(at) == Some(1) {
         return room;
     }
     1
@@ -209,8 +210,20 @@ fn repeat_wrong(s: Section, index: &[u16], at: usize, t: TableId) -> bool
     requires { SpecIndexed s.bytes.now index.now × PlanIndexed s.bytes.now index.now }
     ensures { Says (list_c element_plan_c) s.entry.bytes.now s.entry.end at (wrong_spots 2 (step_of (job_of s.entry.bytes.now) t.0) (max 1 (capacity_of (job_of s.entry.bytes.now) t.0))) result }
 {
-    let step = spec::tables::step(s.bytes, index, t);
-    let capacity = plan::layout::capacity(s.bytes, index, t);
+    let step = spec::tables::step(
+        Indexed {
+            bytes: s.bytes,
+            index,
+        },
+        t,
+    );
+    let capacity = plan::layout::capacity(
+        Indexed {
+            bytes: s.bytes,
+            index,
+        },
+        t,
+    );
     let room = at_least_1(capacity);
     spots_wrong(s, at, 2, step as usize, room)
 }
@@ -221,16 +234,15 @@ fn segment_wrong(s: Section, index: &[u16], at: usize) -> bool
 {
     let source = s.le_at(4, at);
     let elements = Source::ends_at(s, source);
-    let t = s.tag_at(source);
-    if t == 2 {
-        let p = s.le_at(1, source);
-        let table = s.count_at(p) as u32;
-        return repeat_wrong(s, index, elements, TableId(table));
+    match s.case(source) {
+        Some(2) => {
+            let p = s.le_at(1, source);
+            let table = s.count_at(p) as u32;
+            repeat_wrong(s, index, elements, TableId(table))
+        }
+        Some(1) => spots_wrong(s, elements, 1, 0, 1),
+        _ => spots_wrong(s, elements, 0, 0, 1),
     }
-    if t == 1 {
-        return spots_wrong(s, elements, 1, 0, 1);
-    }
-    spots_wrong(s, elements, 0, 0, 1)
 }
 
 fn segments_wrong(s: Section, index: &[u16], at: usize) -> bool

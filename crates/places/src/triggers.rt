@@ -12,11 +12,14 @@ ghost use Rattle.emit.specs.Envelope.{field_at};
 ghost use Rattle.nest.specs.Ready.{Ready};
 ghost use Rattle.says.specs.Says.{Says};
 ghost use Rattle.places.specs.Triggers.{crowded, field_gives, gives, part_of, trigger_of, wrong_element, wrong_loop_at, wrong_ruled, wrong_trigger};
+ghost use Rattle.nest.specs.Job.{job_by};
 
 use crate::both;
 use codec::forms::{Le, NumMap};
 use codec::{Form, Section};
 use format::{Component, Element, Instances, Kind, LoopPlan, SegmentPlan, Source};
+use nest::Job;
+use spec::Indexed;
 use spec::ids::{ControlRule, LoopId};
 
 // What an element of a trigger is judged by: the element of the control number, the depth, and whether there is a repetition separator.
@@ -77,8 +80,7 @@ fn part_at(s: Section, at: usize, n: usize) -> bool
 {
     let component = s.le_at(4, at);
     let e = s.count_at(at);
-    let t = s.tag_at(component);
-    both(e == n, t == 1)
+    both(e == n, s.case(component) == Some(1))
 }
 
 fn parts_at(s: Section, at: usize, n: usize) -> bool
@@ -122,8 +124,7 @@ fn trigger_wrong(s: Section, at: usize, t: Trigger, defs: usize, spec: Section) 
 {
     let source = s.le_at(4, at);
     let elements = Source::ends_at(s, source);
-    let k = s.tag_at(source);
-    if k == 0 {
+    if s.case(source) == Some(0) {
         return elements_wrong(spec, defs, t, elements, s);
     }
     false
@@ -137,12 +138,12 @@ fn triggers_wrong(s: Section, at: usize, t: Trigger, defs: usize, spec: Section)
 
 // ---- loops
 
-fn trigger_of(job: &[u8], index: &[u16], l: LoopId, opener: usize) -> Trigger
-    requires { Ready job.now index.now × (l.0 < 32) }
-    ensures { result ≡ trigger_of (job_of job.now) l.0 opener }
+fn trigger_of(job: Job, l: LoopId, opener: usize) -> Trigger
+    requires { l.0 < 32 }
+    ensures { result ≡ trigger_of (job_by job.entry) l.0 opener }
 {
-    let depth = plan::layout::depth(job, index, l) as usize;
-    let repetition = spec::envelope::repetition(job, index);
+    let depth = plan::layout::depth(job.at, l) as usize;
+    let repetition = spec::envelope::repetition(job.at);
     match repetition {
         None => Trigger {
             opener: opener,
@@ -161,14 +162,35 @@ fn ruled_wrong(s: Section, index: &[u16], at: usize, l: LoopId, opener: usize) -
     requires { Ready s.bytes.now index.now × (l.0 < 32) }
     ensures { Says loop_plan_c s.entry.bytes.now s.entry.end at (wrong_ruled (job_of s.entry.bytes.now) l.0 opener) result }
 {
-    let t = trigger_of(s.bytes, index, l, opener);
+    let t = trigger_of(
+        Job {
+            at: Indexed {
+                bytes: s.bytes,
+                index,
+            },
+        },
+        l,
+        opener,
+    );
     let spec = Section {
         bytes: s.bytes,
         end: spec::read::spec_end(s.bytes),
     };
     let segments = Instances::ends_at(s, at);
-    let name = spec::loops::trigger(s.bytes, index, l);
-    let place = spec::segments::elements_of(s.bytes, index, name);
+    let name = spec::loops::trigger(
+        Indexed {
+            bytes: s.bytes,
+            index,
+        },
+        l,
+    );
+    let place = spec::segments::elements_of(
+        Indexed {
+            bytes: s.bytes,
+            index,
+        },
+        name,
+    );
     match place {
         None => false,
         Some(q) => triggers_wrong(s, segments, t, q, spec),
@@ -179,7 +201,13 @@ fn loop_wrong(s: Section, index: &[u16], at: usize, l: LoopId) -> bool
     requires { Ready s.bytes.now index.now × (l.0 < 32) }
     ensures { Says loop_plan_c s.entry.bytes.now s.entry.end at (wrong_loop_at (job_of s.entry.bytes.now) l.0) result }
 {
-    let c = spec::loops::control(s.bytes, index, l);
+    let c = spec::loops::control(
+        Indexed {
+            bytes: s.bytes,
+            index,
+        },
+        l,
+    );
     match c {
         None => false,
         Some(rule) => ruled_wrong(s, index, at, l, rule.opener as usize),

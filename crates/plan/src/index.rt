@@ -5,9 +5,11 @@ ghost use Rattle.format.specs.Passed.{Passed};
 ghost use Rattle.plan.specs.Index.{PlanFilled};
 ghost use Rattle.plan.specs.Filling.{PlanLists, PlanInto, LayoutInto};
 
+use codec::forms::{Flag, Items, Le, Les, Opt};
 use codec::{Form, Section};
-use format::{Instances, LoopPlan};
-use spec::region::{Part, list_into};
+use format::{Instances, Item, LoopPlan, SegmentPlan};
+use spec::Indexed;
+use spec::region::list_into;
 
 // Where the 33 numbers of each list begin:
 pub const PLAN: usize = 1024;
@@ -31,7 +33,7 @@ pub fn loop_plan_into(s: Section, index: &mut [u16], l: usize, p: usize) -> usiz
     if l < 32 {
         codec::put(index, PLAN + 1 + l, p);
         let at = Instances::ends_at(s, p);
-        return list_into(s, index, Part::SegmentPlan, SEGMENTS + l * 33, at);
+        return list_into::<SegmentPlan>(s, index, SEGMENTS + l * 33, at);
     }
     LoopPlan::ends_at(s, p)
 }
@@ -52,10 +54,10 @@ pub fn plan_into(s: Section, index: &mut [u16], at: usize)
 pub fn layout_into(s: Section, index: &mut [u16], at: usize)
     ensures { LayoutInto s.entry.bytes.now s.entry.end at index.old index.new }
 {
-    let forced = list_into(s, index, Part::Order, ORDER, at);
-    let columns = list_into(s, index, Part::Forced, FORCED, forced);
-    let depth = list_into(s, index, Part::Columns, COLUMNS, columns);
-    let capacity = list_into(s, index, Part::Depth, DEPTH, depth);
+    let forced = list_into::<Items<Item>>(s, index, ORDER, at);
+    let columns = list_into::<Items<Flag>>(s, index, FORCED, forced);
+    let depth = list_into::<Les<4>>(s, index, COLUMNS, columns);
+    let capacity = list_into::<Opt<Le<4>>>(s, index, DEPTH, depth);
     codec::put(index, CAPACITY, capacity);
 }
 
@@ -87,9 +89,9 @@ pub fn fill(job: &[u8], index: &mut [u16])
 }
 
 // How many items the list has whose place is number k of the index.
-pub fn list_count(job: &[u8], index: &[u16], k: usize) -> u32
-    ensures { result ≡ le 4 job.now (get_or index.now k 0) }
+pub fn list_count(job: Indexed, k: usize) -> u32
+    ensures { result ≡ le 4 job.entry.bytes.now (get_or job.entry.index.now k 0) }
 {
-    let p = codec::place(index, k);
-    codec::num(job, p) as u32
+    let p = codec::place(job.index, k);
+    codec::num(job.bytes, p) as u32
 }

@@ -9,23 +9,24 @@ ghost use Rattle.plan.specs.Planned.{OrderIs};
 use crate::answers::{Item, Order};
 use crate::index::{CAPACITY, COLUMNS, DEPTH, FORCED, ORDER};
 use crate::read;
+use spec::Indexed;
 use spec::ids::{LoopId, TableId};
 
 // How many items the order of a loop has.
-pub fn order_count(job: &[u8], index: &[u16], l: LoopId) -> u32
-    requires { PlanIndexed job.now index.now × (l.0 < 32) }
-    ensures { result ≡ length (order_of (job_of job.now) l.0) }
+pub fn order_count(job: Indexed, l: LoopId) -> u32
+    requires { PlanIndexed job.bytes.now job.index.now × (l.0 < 32) }
+    ensures { result ≡ length (order_of (job_of job.entry.bytes.now) l.0) }
 {
-    read::inner_count(job, index, ORDER, l.0)
+    read::inner_count(job, ORDER, l.0)
 }
 
 // The order of a loop.
-pub fn order(job: &[u8], index: &[u16], l: LoopId) -> Order
-    requires { PlanIndexed job.now index.now × (l.0 < 32) }
-    ensures { OrderIs job.now l.0 result }
+pub fn order(job: Indexed, l: LoopId) -> Order
+    requires { PlanIndexed job.bytes.now job.index.now × (l.0 < 32) }
+    ensures { OrderIs job.entry.bytes.now l.0 result }
 {
-    let count = order_count(job, index, l);
-    let p = codec::place(index, ORDER + 1 + l.0 as usize);
+    let count = order_count(job, l);
+    let p = codec::place(job.index, ORDER + 1 + l.0 as usize);
     Order {
         count,
         first: p + 4,
@@ -41,80 +42,80 @@ pub fn order_item(job: &[u8], o: Order, k: u32) -> Item
 }
 
 // Item k of the order of a loop.
-pub fn item(job: &[u8], index: &[u16], l: LoopId, k: u32) -> Item
-    requires { PlanIndexed job.now index.now × (l.0 < 32) }
-    ensures { item_of result ≡ get_or (order_of (job_of job.now) l.0) k no_item }
+pub fn item(job: Indexed, l: LoopId, k: u32) -> Item
+    requires { PlanIndexed job.bytes.now job.index.now × (l.0 < 32) }
+    ensures { item_of result ≡ get_or (order_of (job_of job.entry.bytes.now) l.0) k no_item }
 {
-    let o = order(job, index, l);
+    let o = order(job, l);
     if o.count <= k {
         return Item::Segment(0);
     }
-    order_item(job, o, k)
+    order_item(job.bytes, o, k)
 }
 
 // Whether planned segment i of a loop is written also where none of its columns has a value.
-pub fn forced(job: &[u8], index: &[u16], l: LoopId, i: u32) -> bool
-    requires { PlanIndexed job.now index.now × (l.0 < 32) }
-    ensures { result ≡ forced_of (job_of job.now) l.0 i }
+pub fn forced(job: Indexed, l: LoopId, i: u32) -> bool
+    requires { PlanIndexed job.bytes.now job.index.now × (l.0 < 32) }
+    ensures { result ≡ forced_of (job_of job.entry.bytes.now) l.0 i }
 {
-    let n = read::inner_count(job, index, FORCED, l.0);
+    let n = read::inner_count(job, FORCED, l.0);
     if n <= i {
         return false;
     }
-    let p = codec::place(index, FORCED + 1 + l.0 as usize);
-    let mark = codec::byte_at(job, p + 4 + i as usize);
+    let p = codec::place(job.index, FORCED + 1 + l.0 as usize);
+    let mark = codec::byte_at(job.bytes, p + 4 + i as usize);
     mark == 1
 }
 
 // How many columns make the groups of a loop.
-pub fn group_column_count(job: &[u8], index: &[u16], l: LoopId) -> u32
-    requires { PlanIndexed job.now index.now × (l.0 < 32) }
-    ensures { result ≡ length (group_columns_of (job_of job.now) l.0) }
+pub fn group_column_count(job: Indexed, l: LoopId) -> u32
+    requires { PlanIndexed job.bytes.now job.index.now × (l.0 < 32) }
+    ensures { result ≡ length (group_columns_of (job_of job.entry.bytes.now) l.0) }
 {
-    read::inner_count(job, index, COLUMNS, l.0)
+    read::inner_count(job, COLUMNS, l.0)
 }
 
 // Group column k of a loop.
-pub fn group_column(job: &[u8], index: &[u16], l: LoopId, k: u32) -> u32
-    requires { PlanIndexed job.now index.now × (l.0 < 32) }
-    ensures { result ≡ get_or (group_columns_of (job_of job.now) l.0) k 0 }
+pub fn group_column(job: Indexed, l: LoopId, k: u32) -> u32
+    requires { PlanIndexed job.bytes.now job.index.now × (l.0 < 32) }
+    ensures { result ≡ get_or (group_columns_of (job_of job.entry.bytes.now) l.0) k 0 }
 {
-    let n = group_column_count(job, index, l);
+    let n = group_column_count(job, l);
     if n <= k {
         return 0;
     }
-    let p = codec::place(index, COLUMNS + 1 + l.0 as usize);
-    codec::num(job, p + 4 + k as usize * 4) as u32
+    let p = codec::place(job.index, COLUMNS + 1 + l.0 as usize);
+    codec::num(job.bytes, p + 4 + k as usize * 4) as u32
 }
 
 // The depth of a loop among the envelope loops; 0 where it has none.
-pub fn depth(job: &[u8], index: &[u16], l: LoopId) -> u32
-    requires { PlanIndexed job.now index.now × (l.0 < 32) }
-    ensures { result ≡ depth_of (job_of job.now) l.0 }
+pub fn depth(job: Indexed, l: LoopId) -> u32
+    requires { PlanIndexed job.bytes.now job.index.now × (l.0 < 32) }
+    ensures { result ≡ depth_of (job_of job.entry.bytes.now) l.0 }
 {
     let i = l.0 as usize;
-    let list = codec::place(index, DEPTH);
-    let n = codec::num(job, list);
+    let list = codec::place(job.index, DEPTH);
+    let n = codec::num(job.bytes, list);
     if n <= i {
         return 0;
     }
-    let p = codec::place(index, DEPTH + 1 + i);
-    let mark = codec::byte_at(job, p);
+    let p = codec::place(job.index, DEPTH + 1 + i);
+    let mark = codec::byte_at(job.bytes, p);
     if mark == 0 {
         return 0;
     }
-    codec::num(job, p + 1) as u32
+    codec::num(job.bytes, p + 1) as u32
 }
 
 // How many rows a repeat segment of a table takes; 1 where the layout lacks the table.
-pub fn capacity(job: &[u8], index: &[u16], t: TableId) -> u32
-    requires { PlanIndexed job.now index.now }
-    ensures { result ≡ capacity_of (job_of job.now) t.0 }
+pub fn capacity(job: Indexed, t: TableId) -> u32
+    requires { PlanIndexed job.bytes.now job.index.now }
+    ensures { result ≡ capacity_of (job_of job.entry.bytes.now) t.0 }
 {
-    let list = codec::place(index, CAPACITY);
-    let n = codec::num(job, list);
+    let list = codec::place(job.index, CAPACITY);
+    let n = codec::num(job.bytes, list);
     if n <= t.0 as usize {
         return 1;
     }
-    codec::num(job, list + 4 + t.0 as usize * 4) as u32
+    codec::num(job.bytes, list + 4 + t.0 as usize * 4) as u32
 }

@@ -9,73 +9,74 @@ ghost use Rattle.plan.specs.Planned.{PlannedIs};
 use crate::answers::{Instances, Planned, Source};
 use crate::index::{PLAN, SEGMENTS};
 use crate::read;
+use spec::Indexed;
 use spec::ids::LoopId;
 
 // Where the instances of a loop come from; Absent where the plan lacks the loop.
-pub fn instances(job: &[u8], index: &[u16], l: LoopId) -> Instances
-    requires { PlanIndexed job.now index.now × (l.0 < 32) }
-    ensures { instances_of result ≡ (plan_of (job_of job.now) l.0).instances }
+pub fn instances(job: Indexed, l: LoopId) -> Instances
+    requires { PlanIndexed job.bytes.now job.index.now × (l.0 < 32) }
+    ensures { instances_of result ≡ (plan_of (job_of job.entry.bytes.now) l.0).instances }
 {
     let i = l.0 as usize;
-    let list = codec::place(index, PLAN);
-    let n = codec::num(job, list);
+    let list = codec::place(job.index, PLAN);
+    let n = codec::num(job.bytes, list);
     if n <= i {
         return Instances::Absent;
     }
-    let p = codec::place(index, PLAN + 1 + i);
-    read::instances_at(job, p)
+    let p = codec::place(job.index, PLAN + 1 + i);
+    read::instances_at(job.bytes, p)
 }
 
 // How many segments are planned for a loop.
-pub fn planned_count(job: &[u8], index: &[u16], l: LoopId) -> u32
-    requires { PlanIndexed job.now index.now × (l.0 < 32) }
-    ensures { result ≡ length (plan_of (job_of job.now) l.0).segments }
+pub fn planned_count(job: Indexed, l: LoopId) -> u32
+    requires { PlanIndexed job.bytes.now job.index.now × (l.0 < 32) }
+    ensures { result ≡ length (plan_of (job_of job.entry.bytes.now) l.0).segments }
 {
     let i = l.0 as usize;
-    let list = codec::place(index, PLAN);
-    let n = codec::num(job, list);
+    let list = codec::place(job.index, PLAN);
+    let n = codec::num(job.bytes, list);
     if n <= i {
         return 0;
     }
-    let p = codec::place(index, SEGMENTS + i * 33);
-    codec::num(job, p) as u32
+    let p = codec::place(job.index, SEGMENTS + i * 33);
+    codec::num(job.bytes, p) as u32
 }
 
 // What fills planned segment i of a loop.
-pub fn source(job: &[u8], index: &[u16], l: LoopId, i: u32) -> Source
-    requires { PlanIndexed job.now index.now × (l.0 < 32) }
-    ensures { source_of result ≡ (planned_of (job_of job.now) l.0 i).source }
+pub fn source(job: Indexed, l: LoopId, i: u32) -> Source
+    requires { PlanIndexed job.bytes.now job.index.now × (l.0 < 32) }
+    ensures { source_of result ≡ (planned_of (job_of job.entry.bytes.now) l.0 i).source }
 {
-    let n = planned_count(job, index, l);
+    let n = planned_count(job, l);
     if n <= i {
         return Source::Envelope;
     }
-    let p = codec::place(index, SEGMENTS + l.0 as usize * 33 + 1 + i as usize);
-    read::source_at(job, p + 4)
+    let p = codec::place(job.index, SEGMENTS + l.0 as usize * 33 + 1 + i as usize);
+    read::source_at(job.bytes, p + 4)
 }
 
 // Which occurrence of its loop planned segment i is.
-pub fn occurrence_of(job: &[u8], index: &[u16], l: LoopId, i: u32) -> u32
-    requires { PlanIndexed job.now index.now × (l.0 < 32) }
-    ensures { result ≡ (planned_of (job_of job.now) l.0 i).occurrence }
+pub fn occurrence_of(job: Indexed, l: LoopId, i: u32) -> u32
+    requires { PlanIndexed job.bytes.now job.index.now × (l.0 < 32) }
+    ensures { result ≡ (planned_of (job_of job.entry.bytes.now) l.0 i).occurrence }
 {
-    let n = planned_count(job, index, l);
+    let n = planned_count(job, l);
     if n <= i {
         return 0;
     }
-    let p = codec::place(index, SEGMENTS + l.0 as usize * 33 + 1 + i as usize);
-    codec::num(job, p) as u32
+    let p = codec::place(job.index, SEGMENTS + l.0 as usize * 33 + 1 + i as usize);
+    codec::num(job.bytes, p) as u32
 }
 
 // Planned segment i of a loop.
-pub fn segment(job: &[u8], index: &[u16], l: LoopId, i: u32) -> Planned
-    requires { PlanIndexed job.now index.now × (l.0 < 32) }
-    ensures { PlannedIs job.now l.0 i result }
+pub fn segment(job: Indexed, l: LoopId, i: u32) -> Planned
+    requires { PlanIndexed job.bytes.now job.index.now × (l.0 < 32) }
+    ensures { PlannedIs job.entry.bytes.now l.0 i result }
 {
-    let n = planned_count(job, index, l);
+    let n = planned_count(job, l);
     if n <= i {
         return read::unplanned();
     }
-    let p = codec::place(index, SEGMENTS + l.0 as usize * 33 + 1 + i as usize);
-    read::segment_at(job, p)
+    let p = codec::place(job.index, SEGMENTS + l.0 as usize * 33 + 1 + i as usize);
+    read::segment_at(job.bytes, p)
 }

@@ -8,6 +8,7 @@ ghost use Rattle.plan.specs.Index.{inner_count};
 ghost use Rattle.plan.specs.Planned.{unplanned, SegmentRead};
 
 use crate::answers::{ElementPlan, Instances, Item, Planned, Source, ValueSource};
+use spec::Indexed;
 use spec::ids::{LoopId, Stretch, TableId};
 
 // The instances of the planned loop that stands at a place: the count of its segments is behind them, so that it has five bytes or more.
@@ -179,15 +180,15 @@ pub fn item_at(job: &[u8], at: usize) -> Item
 }
 
 // How many items the list of loop l has, among the lists whose numbers in the index begin at k.
-pub fn inner_count(job: &[u8], index: &[u16], k: usize, l: u32) -> u32
+pub fn inner_count(job: Indexed, k: usize, l: u32) -> u32
     requires { k < 4294967296 }
-    ensures { result ≡ inner_count job.now index.now k l }
+    ensures { result ≡ inner_count job.entry.bytes.now job.entry.index.now k l }
 {
-    let list = codec::place(index, k);
-    let n = codec::num(job, list);
+    let list = codec::place(job.index, k);
+    let n = codec::num(job.bytes, list);
     if n <= l as usize {
         return 0;
     }
-    let p = codec::place(index, k + 1 + l as usize);
-    codec::num(job, p) as u32
+    let p = codec::place(job.index, k + 1 + l as usize);
+    codec::num(job.bytes, p) as u32
 }

@@ -1,7 +1,7 @@
 -- What a row of a chunk leaves, planned element by planned element.
 use Prim.Native.Nat.{ℕ, ◌+◌, ◌≤◌, ◌<◌}
 use mathlib.Core.Path.{◌≡◌, refl, ap, ◌∙◌}
-use mathlib.Core.List.{List, []}
+use mathlib.Core.List.{List, [], append-nil}
 use mathlib.Core.Bool.{true, false}
 use native.Mathlib.Omega.{arith}
 use Rattle.std.specs.Prelude.{Option, Some}
@@ -25,7 +25,7 @@ use Rattle.plan.specs.Elements.{Elements}
 use Rattle.nest.specs.Ready.{Ready}
 use Rattle.nest.specs.Finding.{Origin, Place, cell}
 use Rattle.emit.specs.declared.state.Counts.{Counts}
-use Rattle.emit.specs.Puts.{Put, and_put, max_in, cell_text, place_of, held_in, delimited, put_cell, chunk_put}
+use Rattle.emit.specs.Puts.{Put, and_put, cell_text, place_of, held_in, delimited, put_cell, chunk_put}
 use Rattle.emit.specs.Written.{words_of, is_own}
 use Rattle.emit.specs.Fold.{fill_out}
 use Rattle.emit.specs.Did.{state_of, traced_words, stop_words, DidCounts, Within}
@@ -73,7 +73,7 @@ own_quiet b c max bs fit q e h o p =
 pub quiet_cell : {c : CellRead} (b id : List ℕ) (e : ℕ) (k : Option ℕ) (t column r : ℕ) (bs : List ℕ) → Reads b c (Some (cell_of (data_of (job_of b) t) column r)) → bs ≡ separators (job_of b).envelope
     → ((o : Origin) (p : Place) (max : Width) → found_on o p (cell_text (or_null (cell_at b c)) max) bs ≡ []) → (put_cell (job_of b) id e k t column r).findings ≡ []
 unfolding put_cell delimited
-quiet_cell b id e k t column r bs h q f = rw (h.cell, q) at (f (cell t r column) (place_of id e k) (max_in (max_of (job_of b) id e k)))
+quiet_cell b id e k t column r bs h q f = rw (h.cell, q) at (f (cell t r column) (place_of id e k) (max_of (job_of b) id e k))
 
 pub no_finding : {d : List ℕ} {at n : ℕ} (p : Put) → p.findings ≡ [] → n ≡ more at 0 → Noted d at (words_of p.findings) n d
 no_finding p h e = rw h (none_stored e)
@@ -102,6 +102,18 @@ module _ (b : List ℕ) (s : Planned) (o : Of b s) (k r : ℕ) (state : Counts) 
         along = q.along;
         stored = rw p (stored_findings (row_puts b s k r (take i (plans_of b s))).findings (element_put b s k r (element_of b e)).findings c w.stored x);
         entries = rw (p, w.entries, y) (more_more _ _ _);
+      }
+
+  -- an element that has no cell
+  pub fill_passed : {f₀ f : List ℕ} {at i found entries : ℕ} (e : Element) → i < s.count → FillSoFar b s k r state f₀ f at i found entries → Read b s i e
+      → (element_put b s k r (element_of b e)).findings ≡ [] → (element_put b s k r (element_of b e)).entries ≡ 0
+      → FillSoFar b s k r state f₀ f e.next (i + 1) found entries
+  fill_passed {at = at} {i = i} e h w q x y =
+      let p : row_puts b s k r (take (i + 1) (plans_of b s)) ≡ and_put (row_puts b s k r (take i (plans_of b s))) (element_put b s k r (element_of b e)) = ap (row_puts b s k r) (take_next b s o at i w.along h e q) ∙ row_snoc b s k r _ _ in
+      record {
+        along = q.along;
+        stored = rw (p, x, append-nil (row_puts b s k r (take i (plans_of b s))).findings) w.stored;
+        entries = rw (p, y) (w.entries ∙ omega arith);
       }
 
   pub fill_end : {f₀ f : List ℕ} {at i found entries : ℕ} → s.count ≤ i → FillSoFar b s k r state f₀ f at i found entries

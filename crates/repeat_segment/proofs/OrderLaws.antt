@@ -17,10 +17,7 @@ use Rattle.segment.specs.Calls as Calls
 use Rattle.segment.proofs.Fed.{fed_stored}
 use Rattle.plan.specs.declared.answers.ElementPlan.{ElementPlan as Element}
 use Rattle.plan.specs.Answers.{element_of}
-use Rattle.texts.specs.declared.Text.{Text}
-use Rattle.texts.specs.Held.{held}
 use Rattle.emit.specs.Puts.{Put}
-use Rattle.emit.proofs.TextLaws.{held_text}
 use Rattle.repeat_segment.specs.declared.planned.Planned.{Planned}
 use Rattle.repeat_segment.specs.Planned.{plans_of, id_of, Of, Along, Read}
 use Rattle.repeat_segment.specs.Places.{place_in, text_in, element_put, row_puts, parts_from, parts_of}
@@ -59,11 +56,6 @@ module _ (b : List ℕ) (s : Planned) (k r : ℕ) (x : ElementPlan) where
   pub fed_there : {sep : Separators} {pen t : Pen} {d d₁ : List ℕ} (m : ℕ) → place_in s.step k x ≡ Some m
       → Penned (placed sep pen m 1 (text_in b s m r x).text) pen.at t d d₁ → Fed sep (element_put b s k r x).parts pen d t d₁
   fed_there m h w = rw (element_parts b s k r x, h) (part w done)
-
--- a text of its own is written as a stretch of its bytes
-pub own_part : {r : Pen} {d d₁ : List ℕ} (sep : Separators) (pen : Pen) (p : ℕ) (t : Text) (x : List ℕ) → t ≡ held x → Penned (placed sep pen p 1 (take t.len t.bytes)) pen.at r d d₁
-    → Penned (placed sep pen p 1 x) pen.at r d d₁
-own_part sep pen p t x h w = rw (held_text t x h) at w
 
 -- ---- the planned elements of a row
 

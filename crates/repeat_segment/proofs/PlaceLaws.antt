@@ -9,7 +9,7 @@ use Rattle.std.specs.Prelude.{Option, None, Some}
 use lib.Dec.{eqb}
 use borrow.Author.Tests.{eqb-true}
 use Rattle.format.specs.Plan.{Value, from_column, from_group, from_code, ElementPlan}
-use Rattle.segment.specs.Parts.{Part, pick}
+use Rattle.segment.specs.Parts.{pick}
 use Rattle.spec.specs.declared.ids.Stretch.{Stretch}
 use Rattle.spec.specs.Answers.{stretch_of}
 use Rattle.format.specs.Sections.{job_of}
@@ -24,7 +24,7 @@ use Rattle.repeat_segment.specs.declared.planned.Planned.{Planned}
 use Rattle.repeat_segment.specs.declared.places.Source.{Source}
 use Rattle.repeat_segment.specs.declared.places.Source.TheVariants.{Cell, Code as OfCode}
 use Rattle.repeat_segment.specs.Planned.{id_of}
-use Rattle.repeat_segment.specs.Places.{place_by, place_in, text_by, text_in, source_in, entries_in, put_by, put_at, element_put, Lowest}
+use Rattle.repeat_segment.specs.Places.{place_by, place_in, text_by, text_in, source_in, put_by, put_at, element_put, Lowest}
 
 -- a moved place is a small number
 pub moved_small : (e step k : ℕ) → e ≤ 255 → step ≤ 255 → k < 256 → (k * step ≤ 65025) × (e + k * step ≤ 65280)
@@ -165,14 +165,6 @@ module _ (b : List ℕ) (s : Planned) (e : Element) (p r : ℕ) where
       go (Group n) = refl
       go (Code c) = refl
 
-  pub put_entries : entries_in (source_in e.value) ≡ (put_at b s p r (element_of b e)).entries
-  unfolding put_cell
-  put_entries = go (source_in e.value) ∙ sym (ap (λ (w : Put). w.entries) put_source)
-    where
-      go : (x : Source) → entries_in x ≡ (put_from b s p e.component r x).entries
-      go (Cell n) = refl
-      go (OfCode c) = refl
-
 -- ---- what an element puts
 
 -- it puts something if it has a place
@@ -196,6 +188,14 @@ module _ (b : List ℕ) (s : Planned) (k r : ℕ) (x : ElementPlan) where
 
   pub put_there : (p : ℕ) → place_in s.step k x ≡ Some p → element_put b s k r x ≡ put_at b s p r x
   put_there p h = element_put_lem b s k r x ∙ rw h refl
+
+-- by what gives its text
+module _ (b : List ℕ) (s : Planned) (e : Element) (k p r : ℕ) (h : place_in s.step k (element_of b e) ≡ Some p) where
+  pub put_cell_there : (n : ℕ) → source_in e.value ≡ Cell n → element_put b s k r (element_of b e) ≡ put_cell (job_of b) (id_of b s) p e.component s.table.0 n r
+  put_cell_there n q = put_there b s k r (element_of b e) p h ∙ put_source b s e p r ∙ rw q refl
+
+  pub put_code_there : (c : Stretch) → source_in e.value ≡ OfCode c → element_put b s k r (element_of b e) ≡ put_text p e.component (stretch_of b c)
+  put_code_there c q = put_there b s k r (element_of b e) p h ∙ put_source b s e p r ∙ rw q refl
 
 -- the part that an element puts, if it has a place
 pub element_parts : (b : List ℕ) (s : Planned) (k r : ℕ) (x : ElementPlan)

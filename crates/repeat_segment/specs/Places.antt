@@ -43,10 +43,6 @@ source_in (Column n) = Cell n
 source_in (Group n) = Cell n
 source_in (Code c) = OfCode c
 
-abbrev pub entries_in : Source → ℕ
-entries_in (Cell n) = 1
-entries_in (OfCode c) = 0
-
 -- what an element puts at e
 abbrev pub put_by : Job → List ℕ → ℕ → ℕ → Option ℕ → ℕ → Value → Put
 put_by j id t e c r (from_column n) = put_cell j id e c t n r

@@ -3,19 +3,18 @@ ghost use Rattle.std.specs.Prelude.{◌≤◌, length};
 ghost use Rattle.lent.specs.Fit.{Stored};
 ghost use Rattle.segment.specs.Parts.{joined, sorted};
 ghost use Rattle.segment.specs.Calls.{Group, Repeat, repeat_text, last_component_at};
-ghost use Rattle.nest.specs.Ready.{Ready};
 ghost use Rattle.repeat_segment.specs.Planned.{Of, id_of};
 ghost use Rattle.repeat_segment.specs.Places.{parts_of};
 
 use crate::planned::Planned;
 use crate::{last, order, scan};
+use nest::Job;
 use segment::{Pen, Separators};
 
 // The components of element p up to the last filled.
 fn put_components(
     doc: &mut [u8],
-    job: &[u8],
-    index: &[u16],
+    job: Job,
     rows: &[u32],
     count: u32,
     sep: Separators,
@@ -24,21 +23,20 @@ fn put_components(
     p: u32,
     last: u32,
 ) -> Pen
-    requires { Ready job.now index.now × Of job.now s × (count ≤ 256) × (count ≤ length rows.now) }
-    ensures { Group sep last (repeat_text (parts_of job.now s rows.now count) p) p 1 pen doc.old result doc.new }
+    requires { Of job.at.bytes.now s × (count ≤ 256) × (count ≤ length rows.now) }
+    ensures { Group sep last (repeat_text (parts_of job.entry.at.bytes.now s rows.now count) p) p 1 pen doc.old result doc.new }
 {
     let mut t = pen;
     for c in 1..=last {
-        let v = scan::component_value(job, index, rows, count, s, p, c);
-        t = segment::component(doc, job, sep, t, p as usize, c as usize, v);
+        let v = scan::component_value(job, rows, count, s, p, c);
+        t = segment::component(doc, job.at.bytes, sep, t, p as usize, c as usize, v);
     }
     segment::finish(doc, sep, t, p as usize, last as usize)
 }
 
 fn put_position(
     doc: &mut [u8],
-    job: &[u8],
-    index: &[u16],
+    job: Job,
     rows: &[u32],
     count: u32,
     sep: Separators,
@@ -46,19 +44,18 @@ fn put_position(
     pen: Pen,
     p: u32,
 ) -> Pen
-    requires { Ready job.now index.now × Of job.now s × (count ≤ 256) × (count ≤ length rows.now) }
-    ensures { Group sep (last_component_at p (parts_of job.now s rows.now count)) (repeat_text (parts_of job.now s rows.now count) p) p 1
+    requires { Of job.at.bytes.now s × (count ≤ 256) × (count ≤ length rows.now) }
+    ensures { Group sep (last_component_at p (parts_of job.entry.at.bytes.now s rows.now count)) (repeat_text (parts_of job.entry.at.bytes.now s rows.now count) p) p 1
         pen doc.old result doc.new }
 {
-    let last = last::highest_in(job, index, rows, count, s, Some(p));
-    put_components(doc, job, index, rows, count, sep, s, pen, p, last)
+    let last = last::highest_in(job, rows, count, s, Some(p));
+    put_components(doc, job, rows, count, sep, s, pen, p, last)
 }
 
 // All elements up to the last filled, and the segment's end.
 fn put_positions(
     doc: &mut [u8],
-    job: &[u8],
-    index: &[u16],
+    job: Job,
     rows: &[u32],
     count: u32,
     sep: Separators,
@@ -66,12 +63,12 @@ fn put_positions(
     pen: Pen,
     last: u32,
 ) -> usize
-    requires { Ready job.now index.now × Of job.now s × (count ≤ 256) × (count ≤ length rows.now) }
-    ensures { Repeat sep last (parts_of job.now s rows.now count) 1 pen doc.old result doc.new }
+    requires { Of job.at.bytes.now s × (count ≤ 256) × (count ≤ length rows.now) }
+    ensures { Repeat sep last (parts_of job.entry.at.bytes.now s rows.now count) 1 pen doc.old result doc.new }
 {
     let mut t = pen;
     for p in 1..=last {
-        t = put_position(doc, job, index, rows, count, sep, s, t, p);
+        t = put_position(doc, job, rows, count, sep, s, t, p);
     }
     segment::close(doc, sep, t, last as usize)
 }
@@ -80,21 +77,20 @@ fn put_positions(
 fn put_any(
     doc: &mut [u8],
     at: usize,
-    job: &[u8],
-    index: &[u16],
+    job: Job,
     rows: &[u32],
     count: u32,
     sep: Separators,
     s: Planned,
 ) -> usize
-    requires { Ready job.now index.now × Of job.now s × (count ≤ 256) × (count ≤ length rows.now) }
-    ensures { Stored doc.old at (joined sep (id_of job.now s) (sorted (parts_of job.now s rows.now count))) result doc.new }
+    requires { Of job.at.bytes.now s × (count ≤ 256) × (count ≤ length rows.now) }
+    ensures { Stored doc.old at (joined sep (id_of job.entry.at.bytes.now s) (sorted (parts_of job.entry.at.bytes.now s rows.now count))) result doc.new }
 {
-    let last = last::highest_in(job, index, rows, count, s, None);
+    let last = last::highest_in(job, rows, count, s, None);
     let id = s.id;
-    let pen = segment::begin(doc, at, job, id.start, id.len);
-    if last::zero_free(job, s, count) {
-        return put_positions(doc, job, index, rows, count, sep, s, pen, last);
+    let pen = segment::begin(doc, at, job.at.bytes, id.start, id.len);
+    if last::zero_free(job.at.bytes, s, count) {
+        return put_positions(doc, job, rows, count, sep, s, pen, last);
     }
     segment::close(doc, sep, pen, last as usize)
 }
@@ -103,18 +99,17 @@ fn put_any(
 pub fn put_chunk(
     doc: &mut [u8],
     at: usize,
-    job: &[u8],
-    index: &[u16],
+    job: Job,
     rows: &[u32],
     count: u32,
     sep: Separators,
     s: Planned,
 ) -> usize
-    requires { Ready job.now index.now × Of job.now s × (count ≤ 256) × (count ≤ length rows.now) }
-    ensures { Stored doc.old at (joined sep (id_of job.now s) (sorted (parts_of job.now s rows.now count))) result doc.new }
+    requires { Of job.at.bytes.now s × (count ≤ 256) × (count ≤ length rows.now) }
+    ensures { Stored doc.old at (joined sep (id_of job.entry.at.bytes.now s) (sorted (parts_of job.entry.at.bytes.now s rows.now count))) result doc.new }
 {
-    if order::in_order(job, s, count) {
-        return order::put_ordered(doc, at, job, index, rows, count, sep, s);
+    if order::in_order(job.at.bytes, s, count) {
+        return order::put_ordered(doc, at, job, rows, count, sep, s);
     }
-    put_any(doc, at, job, index, rows, count, sep, s)
+    put_any(doc, at, job, rows, count, sep, s)
 }

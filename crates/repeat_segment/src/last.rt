@@ -3,7 +3,6 @@ ghost use Rattle.std.specs.Prelude.{◌≡◌, List, [], ◌∷◌, ℕ, ◌-◌
 ghost use Rattle.segment.specs.Parts.{pick, is_empty, highest};
 ghost use Rattle.segment.specs.Calls.{zero_free};
 ghost use Rattle.plan.specs.Answers.{element_of};
-ghost use Rattle.nest.specs.Ready.{Ready};
 ghost use Rattle.emit.specs.Puts.{part_at};
 ghost use Rattle.repeat_segment.specs.Planned.{Of, plans_of};
 ghost use Rattle.repeat_segment.specs.Places.{text_in, element_put, parts_from, parts_of, number_by, all_above};
@@ -11,6 +10,7 @@ ghost use Rattle.repeat_segment.specs.Places.{text_in, element_put, parts_from, 
 use crate::places;
 use crate::planned::Planned;
 use emit::signs;
+use nest::Job;
 use plan::answers::ElementPlan;
 use plan::read;
 use spec::ids::RowId;
@@ -30,46 +30,37 @@ fn number_of(m: u32, c: Option<u32>, q: Option<u32>) -> u32
     }
 }
 
-fn number_if(job: &[u8], index: &[u16], s: Planned, e: ElementPlan, m: u32, r: RowId, n: u32) -> u32
-    requires { Ready job.now index.now × Of job.now s }
-    ensures { result ≡ pick (is_empty (text_in job.now s m r.0 (element_of job.now e)).text) 0 n }
+fn number_if(job: Job, s: Planned, e: ElementPlan, m: u32, r: RowId, n: u32) -> u32
+    requires { Of job.at.bytes.now s }
+    ensures { result ≡ pick (is_empty (text_in job.entry.at.bytes.now s m r.0 (element_of job.entry.at.bytes.now e)).text) 0 n }
 {
     if n == 0 {
         return 0;
     }
-    let w = places::text(job, index, s, e, m, r);
+    let w = places::text(job, s, e, m, r);
     let v = w.value;
-    if segment::is_empty(job, v) {
+    if segment::is_empty(job.at.bytes, v) {
         return 0;
     }
     n
 }
 
 // For one planned element and one row.
-fn highest_at(
-    job: &[u8],
-    index: &[u16],
-    s: Planned,
-    e: ElementPlan,
-    q: Option<u32>,
-    k: u32,
-    r: RowId,
-) -> u32
-    requires { Ready job.now index.now × Of job.now s × (e.element ≤ 255) × (k < 256) }
-    ensures { result ≡ highest (number_by q) (element_put job.now s k r.0 (element_of job.now e)).parts }
+fn highest_at(job: Job, s: Planned, e: ElementPlan, q: Option<u32>, k: u32, r: RowId) -> u32
+    requires { Of job.at.bytes.now s × (e.element ≤ 255) × (k < 256) }
+    ensures { result ≡ highest (number_by q) (element_put job.entry.at.bytes.now s k r.0 (element_of job.entry.at.bytes.now e)).parts }
 {
     let place = places::place_of(e, s.step, k);
     let c = e.component;
     match place {
         None => 0,
-        Some(m) => number_if(job, index, s, e, m, r, number_of(m, c, q)),
+        Some(m) => number_if(job, s, e, m, r, number_of(m, c, q)),
     }
 }
 
 // For one planned element and some rows.
 fn highest_rows(
-    job: &[u8],
-    index: &[u16],
+    job: Job,
     rows: &[u32],
     s: Planned,
     e: ElementPlan,
@@ -77,62 +68,47 @@ fn highest_rows(
     from: u32,
     to: u32,
 ) -> u32
-    requires { Ready job.now index.now × Of job.now s × (e.element ≤ 255) × (from ≤ to) × (to ≤ 256) × (to ≤ length rows.now) }
-    ensures { result ≡ highest (number_by q) (parts_from job.now s rows.now from (to - from) (element_of job.now e ∷ [])) }
+    requires { Of job.at.bytes.now s × (e.element ≤ 255) × (from ≤ to) × (to ≤ 256) × (to ≤ length rows.now) }
+    ensures { result ≡ highest (number_by q) (parts_from job.entry.at.bytes.now s rows.now from (to - from) (element_of job.entry.at.bytes.now e ∷ [])) }
 {
     let mut best: u32 = 0;
     for k in from..to {
         let r = RowId(rows[k as usize]);
-        best = best.max(highest_at(job, index, s, e, q, k, r));
+        best = best.max(highest_at(job, s, e, q, k, r));
     }
     best
 }
 
 // For one planned element and all rows: with a step one row at most stands at an element.
-fn highest_of(
-    job: &[u8],
-    index: &[u16],
-    rows: &[u32],
-    count: u32,
-    s: Planned,
-    e: ElementPlan,
-    q: Option<u32>,
-) -> u32
-    requires { Ready job.now index.now × Of job.now s × (e.element ≤ 255) × (count ≤ 256) × (count ≤ length rows.now) }
-    ensures { result ≡ highest (number_by q) (parts_from job.now s rows.now 0 count (element_of job.now e ∷ [])) }
+fn highest_of(job: Job, rows: &[u32], count: u32, s: Planned, e: ElementPlan, q: Option<u32>) -> u32
+    requires { Of job.at.bytes.now s × (e.element ≤ 255) × (count ≤ 256) × (count ≤ length rows.now) }
+    ensures { result ≡ highest (number_by q) (parts_from job.entry.at.bytes.now s rows.now 0 count (element_of job.entry.at.bytes.now e ∷ [])) }
 {
     match q {
-        None => highest_rows(job, index, rows, s, e, None, 0, count),
+        None => highest_rows(job, rows, s, e, None, 0, count),
         Some(p) => {
             if s.step == 0 {
-                return highest_rows(job, index, rows, s, e, Some(p), 0, count);
+                return highest_rows(job, rows, s, e, Some(p), 0, count);
             }
             let k = places::row_at(e, s.step, p);
             if count <= k {
                 return 0;
             }
-            highest_rows(job, index, rows, s, e, Some(p), k, k + 1)
+            highest_rows(job, rows, s, e, Some(p), k, k + 1)
         }
     }
 }
 
 // The last filled element, or the last filled component of the element asked for.
-pub fn highest_in(
-    job: &[u8],
-    index: &[u16],
-    rows: &[u32],
-    count: u32,
-    s: Planned,
-    q: Option<u32>,
-) -> u32
-    requires { Ready job.now index.now × Of job.now s × (count ≤ 256) × (count ≤ length rows.now) }
-    ensures { result ≡ highest (number_by q) (parts_of job.now s rows.now count) }
+pub fn highest_in(job: Job, rows: &[u32], count: u32, s: Planned, q: Option<u32>) -> u32
+    requires { Of job.at.bytes.now s × (count ≤ 256) × (count ≤ length rows.now) }
+    ensures { result ≡ highest (number_by q) (parts_of job.entry.at.bytes.now s rows.now count) }
 {
     let mut at = s.first;
     let mut best: u32 = 0;
     for _i in 0..s.count {
-        let e = read::element_at(job, at);
-        best = best.max(highest_of(job, index, rows, count, s, e, q));
+        let e = read::element_at(job.at.bytes, at);
+        best = best.max(highest_of(job, rows, count, s, e, q));
         at = e.next;
     }
     best

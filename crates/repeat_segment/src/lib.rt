@@ -10,32 +10,31 @@ pub mod planned;
 mod scan;
 
 ghost use Rattle.std.specs.Prelude.{◌≡◌, List, ℕ, ◌≤◌, ◌<◌, length, take};
-ghost use Rattle.format.specs.Sections.{job_of};
-ghost use Rattle.nest.specs.Ready.{Ready};
 ghost use Rattle.emit.specs.Fold.{fill_out, chunk_out, first_row};
 ghost use Rattle.emit.specs.Did.{row_in, DidCounts, Within};
 ghost use Rattle.repeat_segment.specs.Planned.{Of};
+ghost use Rattle.nest.specs.Job.{job_by};
 
 use crate::planned::Planned;
 use emit::state::{Counts, From};
 use emit::{signs, state};
+use nest::Job;
 use spec::ids::{RowId, TableId};
 
 // Row number k of a chunk: the findings on its cells, a trace entry for each.
 pub fn fill_row(
-    job: &[u8],
-    index: &[u16],
+    job: Job,
     findings: &mut [u64],
     s: Counts,
     segment: Planned,
     k: u32,
     r: RowId,
 ) -> Counts
-    requires { Ready job.now index.now × Within s × Of job.now segment × (k < 256) }
-    ensures { (d g p : List ℕ) → DidCounts (fill_out (job_of job.now) segment.l.0 segment.i segment.table.0 k r.0) s result d d g g findings.old findings.new p p }
+    requires { Within s × Of job.at.bytes.now segment × (k < 256) }
+    ensures { (d g p : List ℕ) → DidCounts (fill_out (job_by job.entry) segment.l.0 segment.i segment.table.0 k r.0) s result d d g g findings.old findings.new p p }
 {
-    let delimiters = signs::delimiters_of(job, index);
-    fill::fill_elements(job, index, findings, s, segment, delimiters, k, r)
+    let delimiters = signs::delimiters_of(job.at);
+    fill::fill_elements(job, findings, s, segment, delimiters, k, r)
 }
 
 // What a chunk comes from: its first row.
@@ -51,8 +50,7 @@ fn source_of(rows: &[u32], count: usize, t: TableId) -> From
 
 // The segment of a chunk: its first `count` rows.
 pub fn write_chunk(
-    job: &[u8],
-    index: &[u16],
+    job: Job,
     rows: &[u32],
     count: usize,
     doc: &mut [u8],
@@ -60,21 +58,12 @@ pub fn write_chunk(
     s: Counts,
     segment: Planned,
 ) -> Counts
-    requires { Ready job.now index.now × Within s × Of job.now segment × (count ≤ length rows.now) × (count ≤ 256) }
-    ensures { (f p : List ℕ) → DidCounts (chunk_out (job_of job.now) segment.l.0 segment.i segment.table.0 (take count rows.now)) s result
+    requires { Within s × Of job.at.bytes.now segment × (count ≤ length rows.now) × (count ≤ 256) }
+    ensures { (f p : List ℕ) → DidCounts (chunk_out (job_by job.entry) segment.l.0 segment.i segment.table.0 (take count rows.now)) s result
         doc.old doc.new segments.old segments.new f f p p }
 {
-    let separators = signs::separators_of(job, index);
-    let at = join::put_chunk(
-        doc,
-        s.bytes,
-        job,
-        index,
-        rows,
-        count as u32,
-        separators,
-        segment,
-    );
+    let separators = signs::separators_of(job.at);
+    let at = join::put_chunk(doc, s.bytes, job, rows, count as u32, separators, segment);
     let from = source_of(rows, count, segment.table);
     state::finish_segment(segments, s, from, 0, at, s.findings)
 }

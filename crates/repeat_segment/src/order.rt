@@ -1,31 +1,29 @@
 // Segments whose parts are plain and come, row by row, in the order of their places: texts are written as they come.
 ghost use Rattle.std.specs.Prelude.{◌≡◌, true, List, ℕ, ◌≤◌, ◌<◌, length};
 ghost use Rattle.lent.specs.Fit.{Stored};
-ghost use Rattle.format.specs.Sections.{job_of};
 ghost use Rattle.format.specs.Ask.{max_of};
 ghost use Rattle.column.specs.Cell.{or_null};
 ghost use Rattle.column.specs.Answers.{cell_at};
-ghost use Rattle.texts.specs.Held.{held};
 ghost use Rattle.segment.specs.Parts.{joined, sorted};
 ghost use Rattle.segment.specs.Pen.{placed, Penned};
 ghost use Rattle.plan.specs.Answers.{element_of};
-ghost use Rattle.nest.specs.Ready.{Ready};
-ghost use Rattle.emit.specs.Puts.{max_in, cell_text};
+ghost use Rattle.emit.specs.Puts.{cell_text};
 ghost use Rattle.emit.specs.Written.{scale_in, is_own};
 ghost use Rattle.repeat_segment.specs.Planned.{Of, id_of, plans_of};
 ghost use Rattle.repeat_segment.specs.Places.{text_in, element_put, row_puts, parts_of};
 ghost use Rattle.repeat_segment.specs.Order.{Ends, Ordered, Fed};
+ghost use Rattle.nest.specs.Job.{job_by};
 
 use crate::places;
 use crate::places::Source;
 use crate::planned::Planned;
 use column::Cell;
 use emit::cells;
+use nest::Job;
 use plan::answers::ElementPlan;
 use plan::read;
 use segment::{Pen, Separators};
 use spec::ids::RowId;
-use texts::Text;
 
 // ---- the order
 
@@ -61,16 +59,8 @@ fn row_behind(job: &[u8], s: Planned, k: u32, from: u32) -> Option<u32>
     let mut at = s.first;
     for _i in 0..s.count {
         let e = read::element_at(job, at);
-        let n = behind(s, e, k, last);
-        match n {
-            None => {
-                return None;
-            }
-            Some(m) => {
-                last = m;
-                at = e.next;
-            }
-        }
+        last = behind(s, e, k, last)?;
+        at = e.next;
     }
     Some(last)
 }
@@ -82,34 +72,20 @@ pub fn in_order(job: &[u8], s: Planned, count: u32) -> bool
 {
     let mut last: u32 = 0;
     for k in 0..count {
-        let n = row_behind(job, s, k, last);
-        match n {
-            None => {
-                return false;
-            }
-            Some(m) => {
-                last = m;
-            }
-        }
+        let Some(n) = row_behind(job, s, k, last) else {
+            return false;
+        };
+        last = n;
     }
     true
 }
 
 // ---- the texts
 
-// A text of its own at element p.
-fn put_own(doc: &mut [u8], sep: Separators, pen: Pen, p: u32, text: Text) -> Pen
-    ensures { (x : List ℕ) → text ≡ held x → Penned (placed sep pen p 1 x) pen.at result doc.old doc.new }
-{
-    let bytes = text.bytes;
-    segment::part(doc, &bytes, sep, pen, p as usize, 1, 0, text.len)
-}
-
 // The text of a date or a time at element p.
 fn put_said(
     doc: &mut [u8],
-    job: &[u8],
-    index: &[u16],
+    job: Job,
     sep: Separators,
     s: Planned,
     pen: Pen,
@@ -117,20 +93,19 @@ fn put_said(
     c: Option<u32>,
     cell: Cell,
 ) -> Pen
-    requires { Ready job.now index.now × Of job.now s × (scale_in cell ≤ 38) × (is_own cell ≡ true) }
-    ensures { Penned (placed sep pen p 1 (cell_text (or_null (cell_at job.now cell)) (max_in (max_of (job_of job.now) (id_of job.now s) p c))).text)
+    requires { Of job.at.bytes.now s × (scale_in cell ≤ 38) × (is_own cell ≡ true) }
+    ensures { Penned (placed sep pen p 1 (cell_text (or_null (cell_at job.entry.at.bytes.now cell)) (max_of (job_by job.entry) (id_of job.entry.at.bytes.now s) p c)).text)
         pen.at result doc.old doc.new }
 {
-    let said = cells::own_text(job, index, s.id, p, c, cell);
+    let said = cells::own_text(job, s.id, p, c, cell);
     let text = cells::text_in(said);
-    put_own(doc, sep, pen, p, text)
+    cells::put_text(doc, sep, pen, p, 1, text)
 }
 
 // The text of a cell at element p.
 fn put_cell(
     doc: &mut [u8],
-    job: &[u8],
-    index: &[u16],
+    job: Job,
     sep: Separators,
     s: Planned,
     pen: Pen,
@@ -138,26 +113,36 @@ fn put_cell(
     c: Option<u32>,
     cell: Cell,
 ) -> Pen
-    requires { Ready job.now index.now × Of job.now s × (scale_in cell ≤ 38) }
-    ensures { Penned (placed sep pen p 1 (cell_text (or_null (cell_at job.now cell)) (max_in (max_of (job_of job.now) (id_of job.now s) p c))).text)
+    requires { Of job.at.bytes.now s × (scale_in cell ≤ 38) }
+    ensures { Penned (placed sep pen p 1 (cell_text (or_null (cell_at job.entry.at.bytes.now cell)) (max_of (job_by job.entry) (id_of job.entry.at.bytes.now s) p c)).text)
         pen.at result doc.old doc.new }
 {
     match cell {
-        Cell::None => segment::part(doc, job, sep, pen, p as usize, 1, 0, 0),
-        Cell::Null => segment::part(doc, job, sep, pen, p as usize, 1, 0, 0),
-        Cell::Bytes(start, len) => segment::part(doc, job, sep, pen, p as usize, 1, start, len),
-        Cell::Int(bits) => put_own(doc, sep, pen, p, cells::int_text(bits)),
-        Cell::Wide(lo, hi, scale) => put_own(doc, sep, pen, p, cells::decimal_text(lo, hi, scale)),
-        Cell::Days(_) => put_said(doc, job, index, sep, s, pen, p, c, cell),
-        Cell::Seconds(_) => put_said(doc, job, index, sep, s, pen, p, c, cell),
+        Cell::None => segment::part(doc, job.at.bytes, sep, pen, p as usize, 1, 0, 0),
+        Cell::Null => segment::part(doc, job.at.bytes, sep, pen, p as usize, 1, 0, 0),
+        Cell::Bytes(start, len) => segment::part(
+            doc,
+            job.at.bytes,
+            sep,
+            pen,
+            p as usize,
+            1,
+            start,
+            len,
+        ),
+        Cell::Int(bits) => cells::put_text(doc, sep, pen, p, 1, cells::int_text(bits)),
+        Cell::Wide(lo, hi, scale) => {
+            cells::put_text(doc, sep, pen, p, 1, cells::decimal_text(lo, hi, scale))
+        }
+        Cell::Days(_) => put_said(doc, job, sep, s, pen, p, c, cell),
+        Cell::Seconds(_) => put_said(doc, job, sep, s, pen, p, c, cell),
     }
 }
 
 // The text of a planned element at p.
 fn put_source(
     doc: &mut [u8],
-    job: &[u8],
-    index: &[u16],
+    job: Job,
     sep: Separators,
     s: Planned,
     pen: Pen,
@@ -165,19 +150,26 @@ fn put_source(
     p: u32,
     r: RowId,
 ) -> Pen
-    requires { Ready job.now index.now × Of job.now s }
-    ensures { Penned (placed sep pen p 1 (text_in job.now s p r.0 (element_of job.now e)).text) pen.at result doc.old doc.new }
+    requires { Of job.at.bytes.now s }
+    ensures { Penned (placed sep pen p 1 (text_in job.entry.at.bytes.now s p r.0 (element_of job.entry.at.bytes.now e)).text) pen.at result doc.old doc.new }
 {
     let v = e.value;
     let c = e.component;
     let source = places::source_of(v);
     match source {
         Source::Cell(n) => {
-            let cell = tables::data::cell(job, index, s.table, n, r);
-            put_cell(doc, job, index, sep, s, pen, p, c, cell)
+            let cell = tables::data::cell(job.at, s.table, n, r);
+            put_cell(doc, job, sep, s, pen, p, c, cell)
         }
         Source::Code(code) => segment::part(
-            doc, job, sep, pen, p as usize, 1, code.start, code.len,
+            doc,
+            job.at.bytes,
+            sep,
+            pen,
+            p as usize,
+            1,
+            code.start,
+            code.len,
         ),
     }
 }
@@ -185,8 +177,7 @@ fn put_source(
 // The text of a planned element for row number k, if it has a place.
 fn put_element(
     doc: &mut [u8],
-    job: &[u8],
-    index: &[u16],
+    job: Job,
     sep: Separators,
     s: Planned,
     pen: Pen,
@@ -194,35 +185,26 @@ fn put_element(
     k: u32,
     r: RowId,
 ) -> Pen
-    requires { Ready job.now index.now × Of job.now s × (e.element ≤ 255) × (k < 256) }
-    ensures { Fed sep (element_put job.now s k r.0 (element_of job.now e)).parts pen doc.old result doc.new }
+    requires { Of job.at.bytes.now s × (e.element ≤ 255) × (k < 256) }
+    ensures { Fed sep (element_put job.entry.at.bytes.now s k r.0 (element_of job.entry.at.bytes.now e)).parts pen doc.old result doc.new }
 {
     let place = places::place_of(e, s.step, k);
     match place {
         None => pen,
-        Some(p) => { put_source(doc, job, index, sep, s, pen, e, p, r) }
+        Some(p) => { put_source(doc, job, sep, s, pen, e, p, r) }
     }
 }
 
 // The texts of row number k.
-fn put_row(
-    doc: &mut [u8],
-    job: &[u8],
-    index: &[u16],
-    sep: Separators,
-    s: Planned,
-    pen: Pen,
-    k: u32,
-    r: RowId,
-) -> Pen
-    requires { Ready job.now index.now × Of job.now s × (k < 256) }
-    ensures { Fed sep (row_puts job.now s k r.0 (plans_of job.now s)).parts pen doc.old result doc.new }
+fn put_row(doc: &mut [u8], job: Job, sep: Separators, s: Planned, pen: Pen, k: u32, r: RowId) -> Pen
+    requires { Of job.at.bytes.now s × (k < 256) }
+    ensures { Fed sep (row_puts job.entry.at.bytes.now s k r.0 (plans_of job.entry.at.bytes.now s)).parts pen doc.old result doc.new }
 {
     let mut t = pen;
     let mut at = s.first;
     for _i in 0..s.count {
-        let e = read::element_at(job, at);
-        t = put_element(doc, job, index, sep, s, t, e, k, r);
+        let e = read::element_at(job.at.bytes, at);
+        t = put_element(doc, job, sep, s, t, e, k, r);
         at = e.next;
     }
     t
@@ -231,21 +213,20 @@ fn put_row(
 // The texts of so many rows.
 fn put_rows(
     doc: &mut [u8],
-    job: &[u8],
-    index: &[u16],
+    job: Job,
     rows: &[u32],
     count: u32,
     sep: Separators,
     s: Planned,
     pen: Pen,
 ) -> Pen
-    requires { Ready job.now index.now × Of job.now s × (count ≤ 256) × (count ≤ length rows.now) }
-    ensures { Fed sep (parts_of job.now s rows.now count) pen doc.old result doc.new }
+    requires { Of job.at.bytes.now s × (count ≤ 256) × (count ≤ length rows.now) }
+    ensures { Fed sep (parts_of job.entry.at.bytes.now s rows.now count) pen doc.old result doc.new }
 {
     let mut t = pen;
     for k in 0..count {
         let r = RowId(rows[k as usize]);
-        t = put_row(doc, job, index, sep, s, t, k, r);
+        t = put_row(doc, job, sep, s, t, k, r);
     }
     t
 }
@@ -254,18 +235,17 @@ fn put_rows(
 pub fn put_ordered(
     doc: &mut [u8],
     at: usize,
-    job: &[u8],
-    index: &[u16],
+    job: Job,
     rows: &[u32],
     count: u32,
     sep: Separators,
     s: Planned,
 ) -> usize
-    requires { Ready job.now index.now × Of job.now s × (count ≤ 256) × (count ≤ length rows.now) × Ordered (parts_of job.now s rows.now count) }
-    ensures { Stored doc.old at (joined sep (id_of job.now s) (sorted (parts_of job.now s rows.now count))) result doc.new }
+    requires { Of job.at.bytes.now s × (count ≤ 256) × (count ≤ length rows.now) × Ordered (parts_of job.at.bytes.now s rows.now count) }
+    ensures { Stored doc.old at (joined sep (id_of job.entry.at.bytes.now s) (sorted (parts_of job.entry.at.bytes.now s rows.now count))) result doc.new }
 {
     let id = s.id;
-    let pen = segment::begin(doc, at, job, id.start, id.len);
-    let end = put_rows(doc, job, index, rows, count, sep, s, pen);
+    let pen = segment::begin(doc, at, job.at.bytes, id.start, id.len);
+    let end = put_rows(doc, job, rows, count, sep, s, pen);
     segment::close(doc, sep, end, end.elements)
 }

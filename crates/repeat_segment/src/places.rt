@@ -2,7 +2,6 @@
 ghost use Rattle.std.specs.Prelude.{◌≡◌, List, ℕ, ◌+◌, ◌*◌, ◌≤◌, ◌<◌, eqb, Some, None};
 ghost use Rattle.segment.specs.Parts.{pick};
 ghost use Rattle.plan.specs.Answers.{element_of};
-ghost use Rattle.nest.specs.Ready.{Ready};
 ghost use Rattle.emit.specs.Written.{Writes};
 ghost use Rattle.repeat_segment.specs.Planned.{Of};
 ghost use Rattle.repeat_segment.specs.Places.{place_in, source_in, text_in, Lowest};
@@ -10,6 +9,7 @@ ghost use Rattle.repeat_segment.specs.Places.{place_in, source_in, text_in, Lowe
 use crate::planned::Planned;
 use emit::cells;
 use emit::cells::Written;
+use nest::Job;
 use plan::answers::{ElementPlan, ValueSource};
 use spec::ids::{RowId, Stretch};
 
@@ -96,15 +96,15 @@ pub fn source_of(v: ValueSource) -> Source
 }
 
 // The text of a planned element at element p.
-pub fn text(job: &[u8], index: &[u16], s: Planned, e: ElementPlan, p: u32, r: RowId) -> Written
-    requires { Ready job.now index.now × Of job.now s }
-    ensures { Writes job.now result (text_in job.now s p r.0 (element_of job.now e)) }
+pub fn text(job: Job, s: Planned, e: ElementPlan, p: u32, r: RowId) -> Written
+    requires { Of job.at.bytes.now s }
+    ensures { Writes job.entry.at.bytes.now result (text_in job.entry.at.bytes.now s p r.0 (element_of job.entry.at.bytes.now e)) }
 {
     let v = e.value;
     let c = e.component;
     let source = source_of(v);
     match source {
-        Source::Cell(n) => cells::cell_text(job, index, s.id, s.table, r, p, c, n),
+        Source::Cell(n) => cells::cell_text(job, s.id, s.table, r, p, c, n),
         Source::Code(code) => cells::code_text(code),
     }
 }

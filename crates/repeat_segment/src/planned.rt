@@ -1,8 +1,8 @@
 // A planned segment.
 ghost use Rattle.std.specs.Prelude.{◌≡◌, ◌<◌};
-ghost use Rattle.nest.specs.Ready.{Ready};
 ghost use Rattle.repeat_segment.specs.Planned.{Of};
 
+use nest::Job;
 use plan::planned;
 use spec::ids::{LoopId, Stretch, TableId};
 use spec::loops;
@@ -19,13 +19,13 @@ pub struct Planned {
     pub count: u32,
 }
 
-pub fn planned_segment(job: &[u8], index: &[u16], l: LoopId, i: u32, t: TableId) -> Planned
-    requires { Ready job.now index.now × (l.0 < 32) }
-    ensures { Of job.now result × (result.l ≡ l) × (result.i ≡ i) × (result.table ≡ t) }
+pub fn planned_segment(job: Job, l: LoopId, i: u32, t: TableId) -> Planned
+    requires { l.0 < 32 }
+    ensures { Of job.entry.at.bytes.now result × (result.l ≡ l) × (result.i ≡ i) × (result.table ≡ t) }
 {
-    let s = planned::segment(job, index, l, i);
-    let id = loops::occurrence(job, index, l, s.occurrence);
-    let step = spec::tables::step(job, index, t);
+    let s = planned::segment(job.at, l, i);
+    let id = loops::occurrence(job.at, l, s.occurrence);
+    let step = spec::tables::step(job.at, t);
     Planned {
         l,
         i,

@@ -3,12 +3,12 @@ ghost use Rattle.std.specs.Prelude.{◌≡◌, List, [], ℕ, ◌≤◌, ◌<◌
 ghost use Rattle.segment.specs.Pen.{value_text};
 ghost use Rattle.segment.specs.Calls.{first_at, or_text, repeat_text};
 ghost use Rattle.plan.specs.Answers.{element_of};
-ghost use Rattle.nest.specs.Ready.{Ready};
 ghost use Rattle.repeat_segment.specs.Planned.{Of};
 ghost use Rattle.repeat_segment.specs.Places.{text_in, parts_of, rank_of, Earlier, found_text};
 
 use crate::places;
 use crate::planned::Planned;
+use nest::Job;
 use plan::answers::{ElementPlan, ValueSource};
 use plan::read;
 use segment::Value;
@@ -75,62 +75,46 @@ fn first_at(job: &[u8], s: Planned, count: u32, p: u32, rank: u64) -> First
     f
 }
 
-fn found_value(job: &[u8], index: &[u16], rows: &[u32], s: Planned, p: u32, f: First) -> Value
-    requires { Ready job.now index.now × Of job.now s × (f.row < length rows.now) }
-    ensures { value_text job.now result ≡ (text_in job.now s p (get_or rows.now f.row 0) (element_of job.now f.plan)).text }
+fn found_value(job: Job, rows: &[u32], s: Planned, p: u32, f: First) -> Value
+    requires { Of job.at.bytes.now s × (f.row < length rows.now) }
+    ensures { value_text job.entry.at.bytes.now result ≡ (text_in job.entry.at.bytes.now s p (get_or rows.now f.row 0) (element_of job.entry.at.bytes.now f.plan)).text }
 {
     let k = f.row as usize;
     let r = RowId(rows[k]);
     let e = f.plan;
-    let w = places::text(job, index, s, e, p, r);
+    let w = places::text(job, s, e, p, r);
     w.value
 }
 
-fn ranked_value(
-    job: &[u8],
-    index: &[u16],
-    rows: &[u32],
-    count: u32,
-    s: Planned,
-    p: u32,
-    rank: u64,
-) -> Value
-    requires { Ready job.now index.now × Of job.now s × (count ≤ 256) × (count ≤ length rows.now) }
-    ensures { value_text job.now result ≡ or_text (first_at p rank (parts_of job.now s rows.now count)) [] }
+fn ranked_value(job: Job, rows: &[u32], count: u32, s: Planned, p: u32, rank: u64) -> Value
+    requires { Of job.at.bytes.now s × (count ≤ 256) × (count ≤ length rows.now) }
+    ensures { value_text job.entry.at.bytes.now result ≡ or_text (first_at p rank (parts_of job.entry.at.bytes.now s rows.now count)) [] }
 {
-    let f = first_at(job, s, count, p, rank);
+    let f = first_at(job.at.bytes, s, count, p, rank);
     if f.row < count {
-        return found_value(job, index, rows, s, p, f);
+        return found_value(job, rows, s, p, f);
     }
     segment::held(0, 0)
 }
 
-fn first_component(job: &[u8], index: &[u16], rows: &[u32], count: u32, s: Planned, p: u32) -> Value
-    requires { Ready job.now index.now × Of job.now s × (count ≤ 256) × (count ≤ length rows.now) }
-    ensures { value_text job.now result ≡ repeat_text (parts_of job.now s rows.now count) p 1 }
+fn first_component(job: Job, rows: &[u32], count: u32, s: Planned, p: u32) -> Value
+    requires { Of job.at.bytes.now s × (count ≤ 256) × (count ≤ length rows.now) }
+    ensures { value_text job.entry.at.bytes.now result ≡ repeat_text (parts_of job.entry.at.bytes.now s rows.now count) p 1 }
 {
-    let f = first_at(job, s, count, p, 0);
+    let f = first_at(job.at.bytes, s, count, p, 0);
     if f.row < count {
-        return found_value(job, index, rows, s, p, f);
+        return found_value(job, rows, s, p, f);
     }
-    ranked_value(job, index, rows, count, s, p, 2)
+    ranked_value(job, rows, count, s, p, 2)
 }
 
 // The text of component c of element p.
-pub fn component_value(
-    job: &[u8],
-    index: &[u16],
-    rows: &[u32],
-    count: u32,
-    s: Planned,
-    p: u32,
-    c: u32,
-) -> Value
-    requires { Ready job.now index.now × Of job.now s × (count ≤ 256) × (count ≤ length rows.now) }
-    ensures { value_text job.now result ≡ repeat_text (parts_of job.now s rows.now count) p c }
+pub fn component_value(job: Job, rows: &[u32], count: u32, s: Planned, p: u32, c: u32) -> Value
+    requires { Of job.at.bytes.now s × (count ≤ 256) × (count ≤ length rows.now) }
+    ensures { value_text job.entry.at.bytes.now result ≡ repeat_text (parts_of job.entry.at.bytes.now s rows.now count) p c }
 {
     if c == 1 {
-        return first_component(job, index, rows, count, s, p);
+        return first_component(job, rows, count, s, p);
     }
-    ranked_value(job, index, rows, count, s, p, c as u64 + 1)
+    ranked_value(job, rows, count, s, p, c as u64 + 1)
 }

@@ -5,6 +5,7 @@ use mathlib.Core.Bool.{Bool, true, false}
 use mathlib.Core.List.{List, [], ◌∷◌}
 use native.Mathlib.Omega.{arith}
 use native.Mathlib.Numerals.{add-one}
+use Rattle.std.specs.Prelude.{None}
 use lib.ListN.{length, take, set, replicate, length-set, length-replicate}
 use lib.Seq.{take-suc-set}
 use Rattle.lent.specs.Fit.{cap, wide}
@@ -13,10 +14,9 @@ use Rattle.nest.specs.OfJob.{outline_of}
 use Rattle.spec.specs.declared.ids.RowId.{RowId}
 use Rattle.walk.specs.Tour.{stop, fill, chunk, segments_in}
 use Rattle.emit.specs.declared.state.Counts.{Counts}
-use Rattle.emit.specs.declared.state.Mark.{Mark}
 use Rattle.emit.specs.Fold as F
 use Rattle.emit.specs.Fold.{stop_out, fill_out, chunk_out, steps_out}
-use Rattle.emit.specs.Did.{no_mark, state_of, state_with, Did, DidCounts, DidMark, Fit, Within}
+use Rattle.emit.specs.Did.{Mark, state_of, state_with, Did, DidCounts, DidMark, Fit, Within}
 use Rattle.emit.proofs.DidLaws.{did_fit, did_small}
 use Rattle.emit.proofs.TookLaws.{did_steps, did_step, step_stop, step_fill, step_chunk}
 use Rattle.repeats.specs.declared.Chunk.{Chunk}
@@ -26,11 +26,11 @@ use Rattle.repeats.specs.Added.{Added}
 
 -- what code did that was given the highest row of a table, for some marks
 abbrev pub no_marks : ℕ → List Mark
-no_marks t = replicate (suc t) no_mark
+no_marks t = replicate (suc t) None
 
 module _ {m n : Mark} {s c : Counts} {d d₁ g g₁ f f₁ p p₁ : List ℕ} (t : ℕ) (o : F.State → F.Out) (x : DidMark t o m n s c d d₁ g g₁ f f₁ p p₁) where
   pub mark_some : Did (o (state_of (state_with (set (no_marks t) t m) [] s))) (state_with (set (no_marks t) t m) [] s) (state_with (set (no_marks t) t n) [] c) d d₁ g g₁ f f₁ p p₁
-  mark_some = x (no_marks t) [] (omega (arith, length-replicate (suc t) no_mark))
+  mark_some = let e : length (no_marks t) ≡ suc t = length-replicate (suc t) None in x (no_marks t) [] (omega (arith, e))
 
   pub mark_small : Within c
   mark_small = did_small mark_some

@@ -21,10 +21,9 @@ use Rattle.nest.specs.Ready.{outline_at}
 use Rattle.walk.specs.Nested.{Nested}
 use Rattle.walk.specs.Tour.{Step, stop, fill, chunk, segments_in, repeat_steps}
 use Rattle.walk.proofs.Counts.{segments_append}
-use Rattle.emit.specs.declared.state.Mark.{Mark}
 use Rattle.emit.specs.declared.state.Counts.{Counts}
 use Rattle.emit.specs.Fold.{steps_out}
-use Rattle.emit.specs.Did.{state_with, DidMark, Fit, Within}
+use Rattle.emit.specs.Did.{Mark, state_with, DidMark, Fit, Within}
 use Rattle.emit.proofs.TookLaws.{did_steps, took_none}
 use Rattle.repeat_segment.specs.declared.planned.Planned.{Planned}
 use Rattle.repeats.specs.declared.Table.{Table}

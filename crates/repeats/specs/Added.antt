@@ -11,9 +11,8 @@ use Rattle.nest.specs.Nest.{repeat_rows}
 use Rattle.nest.specs.Ready.{outline_at}
 use Rattle.walk.specs.Tour.{Step, segments_in}
 use Rattle.emit.specs.Fold.{steps_out}
-use Rattle.emit.specs.declared.state.Mark.{Mark}
 use Rattle.emit.specs.declared.state.Counts.{Counts}
-use Rattle.emit.specs.Did.{DidMark}
+use Rattle.emit.specs.Did.{Mark, DidMark}
 use Rattle.repeats.specs.declared.Table.{Table}
 use Rattle.repeats.specs.declared.Part.{Part}
 use Rattle.repeats.specs.declared.Chunk.{Chunk}

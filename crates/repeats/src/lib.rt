@@ -2,26 +2,26 @@
 #![tactic(auto)]
 
 ghost use Rattle.std.specs.Prelude.{◌≡◌, true, false, ◌&&◌, List, [], ◌∷◌, ◌++◌, ℕ, ◌+◌, ◌≤◌, ◌<◌, max, length, take, set, ltb};
-ghost use Rattle.format.specs.Sections.{job_of};
 ghost use Rattle.lent.specs.Fit.{cap};
 ghost use Rattle.nest.specs.Lists.{keep, up_to};
 ghost use Rattle.nest.specs.Outline.{row_count, repeated};
 ghost use Rattle.nest.specs.Found.{hooked_at};
-ghost use Rattle.nest.specs.Ready.{Ready, outline_at};
-ghost use Rattle.walk.specs.Nested.{Nested};
 ghost use Rattle.walk.specs.Tour.{stop, fill, chunk, segments_in, repeat_steps};
 ghost use Rattle.emit.specs.Fold.{steps_out};
 ghost use Rattle.emit.specs.Did.{DidMark, Within};
 ghost use Rattle.repeat_segment.specs.Planned.{Of};
 ghost use Rattle.repeats.specs.Going.{going};
 ghost use Rattle.repeats.specs.Added.{TableIs, PartIs, Holds, Added, Repeats, left};
+ghost use Rattle.nest.specs.Job.{outline_by, job_by};
 
 use emit::state::{Counts, Mark};
 use enter::Entered;
+use nest::Job;
 use nest::order::{first_at, rises};
 use repeat_segment::planned::{Planned, planned_segment};
 use repeat_segment::{fill_row, write_chunk};
 use spec::ids::{LoopId, RowId, TableId};
+use walk::Nest;
 
 // A repeat table: where its rows stand among all, up to which of them they are gone through, and how many go into a segment.
 #[derive(Clone, Copy)]
@@ -58,24 +58,22 @@ pub struct Chunk {
 }
 
 // How many rows go into a segment; 0 counts as 1.
-fn room_of(job: &[u8], index: &[u16], t: TableId) -> u32
-    requires { Ready job.now index.now }
-    ensures { (result ≡ max 1 ((outline_at job.now).capacity t.0)) × (result < 256) }
+fn room_of(job: Job, t: TableId) -> u32
+    ensures { (result ≡ max 1 ((outline_by job.entry).capacity t.0)) × (result < 256) }
 {
-    let n = plan::layout::capacity(job, index, t);
+    let n = plan::layout::capacity(job.at, t);
     if n == 0 {
         return 1;
     }
     n
 }
 
-fn table_of(job: &[u8], index: &[u16], t: TableId) -> Table
-    requires { Ready job.now index.now }
-    ensures { (result.t.0 ≡ t.0) × TableIs job.now result × (result.rows ≡ row_count (outline_at job.now) t.0) }
+fn table_of(job: Job, t: TableId) -> Table
+    ensures { (result.t.0 ≡ t.0) × TableIs job.entry.at.bytes.now result × (result.rows ≡ row_count (outline_by job.entry) t.0) }
 {
-    let base = tables::data::first_row(job, index, t);
-    let rows = tables::data::row_count(job, index, t);
-    let room = room_of(job, index, t);
+    let base = tables::data::first_row(job.at, t);
+    let rows = tables::data::row_count(job.at, t);
+    let room = room_of(job, t);
     Table {
         t,
         base: base as usize,
@@ -85,14 +83,14 @@ fn table_of(job: &[u8], index: &[u16], t: TableId) -> Table
 }
 
 // The rows of table t that may go into an instance that row p opens: where the rows hang on rising rows, those that hang on p.
-fn part_of(job: &[u8], index: &[u16], nest: &[u32], t: TableId, p: RowId) -> Part
-    requires { Nested job.now index.now nest.now × (p.0 < 4096) × (repeated (outline_at job.now) t.0 ≡ true) }
-    ensures { (l : ℕ) → PartIs job.now nest.now t.0 l p.0 result }
+fn part_of(nest: Nest, t: TableId, p: RowId) -> Part
+    requires { (p.0 < 4096) × (repeated (outline_by nest.job) t.0 ≡ true) }
+    ensures { (l : ℕ) → PartIs nest.entry.job.at.bytes.now nest.entry.array.now t.0 l p.0 result }
 {
-    let mut w = table_of(job, index, t);
-    if rises(nest, t) {
-        let low = first_at(nest, w.base, 0, w.rows, p.0 + 1);
-        let high = first_at(nest, w.base, low, w.rows, p.0 + 2);
+    let mut w = table_of(nest.job, t);
+    if rises(nest.array, t) {
+        let low = first_at(nest.array, w.base, 0, w.rows, p.0 + 1);
+        let high = first_at(nest.array, w.base, low, w.rows, p.0 + 2);
         w.rows = high;
         return Part {
             table: w,
@@ -103,30 +101,19 @@ fn part_of(job: &[u8], index: &[u16], nest: &[u32], t: TableId, p: RowId) -> Par
 }
 
 // Whether row r joins a chunk of so many rows: there is room, and it agrees with the first.
-fn joins(
-    job: &[u8],
-    index: &[u16],
-    l: LoopId,
-    i: u32,
-    head: RowId,
-    count: u32,
-    room: u32,
-    r: RowId,
-) -> bool
-    requires { Ready job.now index.now × (l.0 < 32) }
-    ensures { result ≡ ltb count room && (outline_at job.now).same_chunk l.0 i head.0 r.0 }
+fn joins(job: Job, l: LoopId, i: u32, head: RowId, count: u32, room: u32, r: RowId) -> bool
+    requires { l.0 < 32 }
+    ensures { result ≡ ltb count room && (outline_by job.entry).same_chunk l.0 i head.0 r.0 }
 {
     if room <= count {
         return false;
     }
-    due::same_chunk(job, index, l, i, head, r)
+    due::same_chunk(job, l, i, head, r)
 }
 
 // Row r is entered as number k of its chunk, and gives its cells.
 fn add_row(
-    job: &[u8],
-    index: &[u16],
-    nest: &[u32],
+    nest: Nest,
     rows: &mut [u32],
     findings: &mut [u64],
     stops: &mut [u64],
@@ -136,34 +123,33 @@ fn add_row(
     k: u32,
     r: RowId,
 ) -> Entered
-    requires { Nested job.now index.now nest.now × Within c × Of job.now s × (r.0 < row_count (outline_at job.now) s.table.0) × (k < 256) × (256 ≤ length rows.old) }
+    requires { Within c × Of nest.job.at.bytes.now s × (r.0 < row_count (outline_by nest.job) s.table.0) × (k < 256) × (256 ≤ length rows.old) }
     ensures { ((d g : List ℕ) → length d ≤ cap → length g ≤ cap
-        → DidMark s.table.0 (steps_out (job_of job.now) (stop s.l.0 s.table.0 r.0 ∷ fill s.l.0 s.i s.table.0 k r.0 ∷ [])) m result.mark c result.counts d d g g findings.old findings.new stops.old stops.new)
+        → DidMark s.table.0 (steps_out (job_by nest.entry.job) (stop s.l.0 s.table.0 r.0 ∷ fill s.l.0 s.i s.table.0 k r.0 ∷ [])) m result.mark c result.counts d d g g findings.old findings.new stops.old stops.new)
         × (rows.new ≡ set rows.old k r.0) }
 {
     let at = k as usize;
     rows[at] = r.0;
-    let mut n = enter::enter(job, index, nest, findings, stops, m, c, s.l, s.table, r);
-    n.counts = fill_row(job, index, findings, n.counts, s, k, r);
+    let mut n = enter::enter(nest, findings, stops, m, c, s.l, s.table, r);
+    n.counts = fill_row(nest.job, findings, n.counts, s, k, r);
     n
 }
 
 // The chunk is written.
 fn close(
-    job: &[u8],
-    index: &[u16],
+    job: Job,
     rows: &[u32],
     doc: &mut [u8],
     segments: &mut [u64],
     c: Chunk,
     s: Planned,
 ) -> Repeated
-    requires { Ready job.now index.now × Within c.counts × Of job.now s × (c.count ≤ length rows.now) × (c.count ≤ 256) × (c.written < cap) }
-    ensures { ((f p : List ℕ) → DidMark s.table.0 (steps_out (job_of job.now) (chunk s.l.0 s.i s.table.0 (take c.count rows.now) ∷ [])) c.mark result.mark c.counts result.counts
+    requires { Within c.counts × Of job.at.bytes.now s × (c.count ≤ length rows.now) × (c.count ≤ 256) × (c.written < cap) }
+    ensures { ((f p : List ℕ) → DidMark s.table.0 (steps_out (job_by job.entry) (chunk s.l.0 s.i s.table.0 (take c.count rows.now) ∷ [])) c.mark result.mark c.counts result.counts
         doc.old doc.new segments.old segments.new f f p p) × (result.written ≡ c.written + 1) }
 {
     let count = c.count as usize;
-    let counts = write_chunk(job, index, rows, count, doc, segments, c.counts, s);
+    let counts = write_chunk(job, rows, count, doc, segments, c.counts, s);
     Repeated {
         mark: c.mark,
         counts,
@@ -173,9 +159,7 @@ fn close(
 
 // Row r joins the chunk.
 fn extend(
-    job: &[u8],
-    index: &[u16],
-    nest: &[u32],
+    nest: Nest,
     rows: &mut [u32],
     findings: &mut [u64],
     stops: &mut [u64],
@@ -184,13 +168,11 @@ fn extend(
     w: Table,
     r: RowId,
 ) -> Chunk
-    requires { Nested job.now index.now nest.now × Within c.counts × Of job.now s × (r.0 < row_count (outline_at job.now) s.table.0) × Holds w c rows.old }
+    requires { Within c.counts × Of nest.job.at.bytes.now s × (r.0 < row_count (outline_by nest.job) s.table.0) × Holds w c rows.old }
     ensures { (d g : List ℕ) → length d ≤ cap → length g ≤ cap
-        → Added (job_of job.now) s.l.0 s.i s.table.0 true r.0 c result rows.old rows.new d d g g findings.old findings.new stops.old stops.new }
+        → Added (job_by nest.entry.job) s.l.0 s.i s.table.0 true r.0 c result rows.old rows.new d d g g findings.old findings.new stops.old stops.new }
 {
-    let n = add_row(
-        job, index, nest, rows, findings, stops, c.mark, c.counts, s, c.count, r,
-    );
+    let n = add_row(nest, rows, findings, stops, c.mark, c.counts, s, c.count, r);
     Chunk {
         mark: n.mark,
         counts: n.counts,
@@ -202,9 +184,7 @@ fn extend(
 
 // The chunk is written, and row r begins the next.
 fn cut(
-    job: &[u8],
-    index: &[u16],
-    nest: &[u32],
+    nest: Nest,
     rows: &mut [u32],
     doc: &mut [u8],
     segments: &mut [u64],
@@ -215,13 +195,11 @@ fn cut(
     w: Table,
     r: RowId,
 ) -> Chunk
-    requires { Nested job.now index.now nest.now × Within c.counts × Of job.now s × (r.0 < row_count (outline_at job.now) s.table.0) × Holds w c rows.old × (c.written < cap) }
-    ensures { Added (job_of job.now) s.l.0 s.i s.table.0 false r.0 c result rows.old rows.new doc.old doc.new segments.old segments.new findings.old findings.new stops.old stops.new }
+    requires { Within c.counts × Of nest.job.at.bytes.now s × (r.0 < row_count (outline_by nest.job) s.table.0) × Holds w c rows.old × (c.written < cap) }
+    ensures { Added (job_by nest.entry.job) s.l.0 s.i s.table.0 false r.0 c result rows.old rows.new doc.old doc.new segments.old segments.new findings.old findings.new stops.old stops.new }
 {
-    let closed = close(job, index, rows, doc, segments, c, s);
+    let closed = close(nest.job, rows, doc, segments, c, s);
     let n = add_row(
-        job,
-        index,
         nest,
         rows,
         findings,
@@ -243,9 +221,7 @@ fn cut(
 
 // Row r comes to the chunk: it joins, or begins the next.
 fn add_next(
-    job: &[u8],
-    index: &[u16],
-    nest: &[u32],
+    nest: Nest,
     rows: &mut [u32],
     doc: &mut [u8],
     segments: &mut [u64],
@@ -256,23 +232,19 @@ fn add_next(
     w: Table,
     r: RowId,
 ) -> Chunk
-    requires { Nested job.now index.now nest.now × Within c.counts × (s.l.0 < 32) × (r.0 < row_count (outline_at job.now) s.table.0) × Holds w c rows.old × (c.written < cap) × Of job.now s }
-    ensures { Added (job_of job.now) s.l.0 s.i s.table.0 (ltb c.count w.room && (outline_at job.now).same_chunk s.l.0 s.i c.head.0 r.0) r.0 c result rows.old rows.new doc.old doc.new segments.old segments.new findings.old findings.new stops.old stops.new }
+    requires { Within c.counts × (s.l.0 < 32) × (r.0 < row_count (outline_by nest.job) s.table.0) × Holds w c rows.old × (c.written < cap) × Of nest.job.at.bytes.now s }
+    ensures { Added (job_by nest.entry.job) s.l.0 s.i s.table.0 (ltb c.count w.room && (outline_by nest.entry.job).same_chunk s.l.0 s.i c.head.0 r.0) r.0 c result rows.old rows.new doc.old doc.new segments.old segments.new findings.old findings.new stops.old stops.new }
 {
-    let fits = joins(job, index, s.l, s.i, c.head, c.count, w.room, r);
+    let fits = joins(nest.job, s.l, s.i, c.head, c.count, w.room, r);
     if fits {
-        return extend(job, index, nest, rows, findings, stops, c, s, w, r);
+        return extend(nest, rows, findings, stops, c, s, w, r);
     }
-    cut(
-        job, index, nest, rows, doc, segments, findings, stops, c, s, w, r,
-    )
+    cut(nest, rows, doc, segments, findings, stops, c, s, w, r)
 }
 
 // The rows from `from` on come to the chunk `first`, and the last chunk is written.
 fn add_rows(
-    job: &[u8],
-    index: &[u16],
-    nest: &[u32],
+    nest: Nest,
     rows: &mut [u32],
     doc: &mut [u8],
     segments: &mut [u64],
@@ -284,29 +256,25 @@ fn add_rows(
     p: RowId,
     from: usize,
 ) -> Repeated
-    requires { Nested job.now index.now nest.now × Within first.counts × (s.l.0 < 32) × (p.0 < 4096) × TableIs job.now w × Holds w first rows.old
-        × (first.written + segments_in (left job.now nest.now s.l.0 s.i s.table.0 w p.0 first rows.old from) < cap) × Of job.now s × (s.table ≡ w.t) }
-    ensures { DidMark s.table.0 (steps_out (job_of job.now) (left job.now nest.now s.l.0 s.i s.table.0 w p.0 first rows.old from)) first.mark result.mark first.counts result.counts
+    requires { Within first.counts × (s.l.0 < 32) × (p.0 < 4096) × TableIs nest.job.at.bytes.now w × Holds w first rows.old
+        × (first.written + segments_in (left nest.job.at.bytes.now nest.array.now s.l.0 s.i s.table.0 w p.0 first rows.old from) < cap) × Of nest.job.at.bytes.now s × (s.table ≡ w.t) }
+    ensures { DidMark s.table.0 (steps_out (job_by nest.entry.job) (left nest.entry.job.at.bytes.now nest.entry.array.now s.l.0 s.i s.table.0 w p.0 first rows.old from)) first.mark result.mark first.counts result.counts
         doc.old doc.new segments.old segments.new findings.old findings.new stops.old stops.new
-        × (result.written ≡ first.written + segments_in (left job.now nest.now s.l.0 s.i s.table.0 w p.0 first rows.old from)) }
+        × (result.written ≡ first.written + segments_in (left nest.entry.job.at.bytes.now nest.entry.array.now s.l.0 s.i s.table.0 w p.0 first rows.old from)) }
 {
     let mut c = first;
     let mut k = from;
     // No `for`: each row tells where the next is looked for.
-    while let Some(r) = nest::next_hooked(nest, w.base, w.rows, k, s.l, p) {
-        c = add_next(
-            job, index, nest, rows, doc, segments, findings, stops, c, s, w, r,
-        );
+    while let Some(r) = nest::next_hooked(nest.array, w.base, w.rows, k, s.l, p) {
+        c = add_next(nest, rows, doc, segments, findings, stops, c, s, w, r);
         k = r.0 as usize + 1;
     }
-    close(job, index, rows, doc, segments, c, s)
+    close(nest.job, rows, doc, segments, c, s)
 }
 
 // The planned segment is read once; the first row of all begins a chunk, and the rows behind it come to it.
 fn begin(
-    job: &[u8],
-    index: &[u16],
-    nest: &[u32],
+    nest: Nest,
     rows: &mut [u32],
     doc: &mut [u8],
     segments: &mut [u64],
@@ -320,13 +288,13 @@ fn begin(
     p: RowId,
     r: RowId,
 ) -> Repeated
-    requires { Nested job.now index.now nest.now × Within c × (l.0 < 32) × (p.0 < 4096) × TableIs job.now w × (r.0 < w.rows) × (256 ≤ length rows.old)
-        × (segments_in (going ((outline_at job.now).same_chunk l.0 i) w.room l.0 i w.t.0 r.0 (r.0 ∷ []) 1 (keep (hooked_at nest.now w.base l.0 p.0) (up_to (r.0 + 1) w.rows))) < cap) }
-    ensures { Repeats (job_of job.now) ((stop l.0 w.t.0 r.0 ∷ fill l.0 i w.t.0 0 r.0 ∷ []) ++ going ((outline_at job.now).same_chunk l.0 i) w.room l.0 i w.t.0 r.0 (r.0 ∷ []) 1 (keep (hooked_at nest.now w.base l.0 p.0) (up_to (r.0 + 1) w.rows))) w.t.0 m c result
+    requires { Within c × (l.0 < 32) × (p.0 < 4096) × TableIs nest.job.at.bytes.now w × (r.0 < w.rows) × (256 ≤ length rows.old)
+        × (segments_in (going ((outline_by nest.job).same_chunk l.0 i) w.room l.0 i w.t.0 r.0 (r.0 ∷ []) 1 (keep (hooked_at nest.array.now w.base l.0 p.0) (up_to (r.0 + 1) w.rows))) < cap) }
+    ensures { Repeats (job_by nest.entry.job) ((stop l.0 w.t.0 r.0 ∷ fill l.0 i w.t.0 0 r.0 ∷ []) ++ going ((outline_by nest.entry.job).same_chunk l.0 i) w.room l.0 i w.t.0 r.0 (r.0 ∷ []) 1 (keep (hooked_at nest.entry.array.now w.base l.0 p.0) (up_to (r.0 + 1) w.rows))) w.t.0 m c result
         doc.old doc.new segments.old segments.new findings.old findings.new stops.old stops.new }
 {
-    let s = planned_segment(job, index, l, i, w.t);
-    let n = add_row(job, index, nest, rows, findings, stops, m, c, s, 0, r);
+    let s = planned_segment(nest.job, l, i, w.t);
+    let n = add_row(nest, rows, findings, stops, m, c, s, 0, r);
     let first = Chunk {
         mark: n.mark,
         counts: n.counts,
@@ -336,15 +304,13 @@ fn begin(
     };
     let from = r.0 as usize + 1;
     add_rows(
-        job, index, nest, rows, doc, segments, findings, stops, first, s, w, p, from,
+        nest, rows, doc, segments, findings, stops, first, s, w, p, from,
     )
 }
 
 // The same for a table of repeat segments that data has, the rows of a chunk standing in `rows`.
 fn write_hooked(
-    job: &[u8],
-    index: &[u16],
-    nest: &[u32],
+    nest: Nest,
     rows: &mut [u32],
     doc: &mut [u8],
     segments: &mut [u64],
@@ -357,14 +323,14 @@ fn write_hooked(
     t: TableId,
     p: RowId,
 ) -> Repeated
-    requires { Nested job.now index.now nest.now × Within c × (l.0 < 32) × (p.0 < 4096) × (256 ≤ length rows.old) × (repeated (outline_at job.now) t.0 ≡ true)
-        × (segments_in (repeat_steps (outline_at job.now) l.0 i t.0 p.0) < cap) }
-    ensures { Repeats (job_of job.now) (repeat_steps (outline_at job.now) l.0 i t.0 p.0) t.0 m c result
+    requires { Within c × (l.0 < 32) × (p.0 < 4096) × (256 ≤ length rows.old) × (repeated (outline_by nest.job) t.0 ≡ true)
+        × (segments_in (repeat_steps (outline_by nest.job) l.0 i t.0 p.0) < cap) }
+    ensures { Repeats (job_by nest.entry.job) (repeat_steps (outline_by nest.entry.job) l.0 i t.0 p.0) t.0 m c result
         doc.old doc.new segments.old segments.new findings.old findings.new stops.old stops.new }
 {
-    let part = part_of(job, index, nest, t, p);
+    let part = part_of(nest, t, p);
     let w = part.table;
-    let f = nest::next_hooked(nest, w.base, w.rows, part.from, l, p);
+    let f = nest::next_hooked(nest.array, w.base, w.rows, part.from, l, p);
     match f {
         None => Repeated {
             mark: m,
@@ -372,16 +338,14 @@ fn write_hooked(
             written: 0,
         },
         Some(r) => begin(
-            job, index, nest, rows, doc, segments, findings, stops, m, c, l, i, w, p, r,
+            nest, rows, doc, segments, findings, stops, m, c, l, i, w, p, r,
         ),
     }
 }
 
 // The repeat segments of table t in the instance of loop l that row p opens: the rows that go into it, cut into chunks.
 pub fn write_repeats(
-    job: &[u8],
-    index: &[u16],
-    nest: &[u32],
+    nest: Nest,
     doc: &mut [u8],
     segments: &mut [u64],
     findings: &mut [u64],
@@ -393,16 +357,16 @@ pub fn write_repeats(
     t: TableId,
     p: RowId,
 ) -> Repeated
-    requires { Nested job.now index.now nest.now × Within c × (l.0 < 32) × (p.0 < 4096)
-        × (segments_in (repeat_steps (outline_at job.now) l.0 i t.0 p.0) < cap) }
-    ensures { Repeats (job_of job.now) (repeat_steps (outline_at job.now) l.0 i t.0 p.0) t.0 m c result
+    requires { Within c × (l.0 < 32) × (p.0 < 4096)
+        × (segments_in (repeat_steps (outline_by nest.job) l.0 i t.0 p.0) < cap) }
+    ensures { Repeats (job_by nest.entry.job) (repeat_steps (outline_by nest.entry.job) l.0 i t.0 p.0) t.0 m c result
         doc.old doc.new segments.old segments.new findings.old findings.new stops.old stops.new }
 {
-    let again = spec::tables::repeats(job, index, t);
+    let again = spec::tables::repeats(nest.job.at, t);
     if again {
         let mut rows: [u32; 256] = [0; 256];
         return write_hooked(
-            job, index, nest, &mut rows, doc, segments, findings, stops, m, c, l, i, t, p,
+            nest, &mut rows, doc, segments, findings, stops, m, c, l, i, t, p,
         );
     }
     Repeated {

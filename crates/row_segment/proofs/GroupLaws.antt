@@ -63,10 +63,10 @@ pub scanning_start : (b : List ℕ) (x : Line) (n : Look) (e : ℕ) → Sees b x
 scanning_start b x n e s = record { last = omega arith; rest = refl; sees = s; low = omega arith; less = inl refl }
 
 module _ (b : List ℕ) (x : Line) (n : Look) (e : ℕ) (a : Look) (m : ℕ) (i : Scanning b x n e a m) where
-  pub scanning_next : (idx text : List ℕ) (c m' : ℕ) (a' : Look) → Lined b idx x → {y : Planned} → a.part ≡ Some y → y.element ≡ e → text ≡ (outcome_of b x y).text
+  pub scanning_next : (text : List ℕ) (c m' : ℕ) (a' : Look) → Lined b x → {y : Planned} → a.part ≡ Some y → y.element ≡ e → text ≡ (outcome_of b x y).text
       → c ≡ or_one y.component → c < 4294967296 → m' ≡ max m (pick (is_empty text) 0 c) → Looks b x a.k a' → Scanning b x n e a' m'
   unfolding highest
-  scanning_next idx text c m' a' d t q v f k g l = record {
+  scanning_next text c m' a' d t q v f k g l = record {
     last = i.last ∙ rw (here_more a a' e t q l, g, f, v) (omega arith);
     rest = i.rest ∙ after_more a a' e t q l;
     sees = l.sees;
@@ -75,7 +75,7 @@ module _ (b : List ℕ) (x : Line) (n : Look) (e : ℕ) (a : Look) (m : ℕ) (i 
   }
     where
       z : left x.count a' < left x.count a
-      z = left_less a a' idx d t l
+      z = left_less a a' d t l
 
       go : (a ≡ n) ⊎ (left x.count a < left x.count n) → left x.count a' < left x.count n
       go (inl p) = rw (← p) z

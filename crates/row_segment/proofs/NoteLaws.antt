@@ -21,7 +21,6 @@ use Rattle.emit.proofs.FindingLaws.{stored_findings, none_stored}
 use Rattle.emit.proofs.PutLaws.{highest_append, cell_findings}
 use Rattle.row_segment.specs.declared.parts.Line.{Line}
 use Rattle.row_segment.specs.declared.parts.Planned.{Planned}
-use Rattle.row_segment.specs.declared.parts.Source.{Source}
 use Rattle.row_segment.specs.declared.parts.Source.TheVariants.{Cell, Code}
 use Rattle.row_segment.specs.declared.parts.Look.{Look}
 use Rattle.row_segment.specs.declared.notes.Tally.{Tally}
@@ -51,14 +50,6 @@ module _ (b : List ℕ) (x : Line) (p : Planned) where
   pub code_entry : {s : Stretch} → p.source ≡ Code s → 0 ≡ (part_put b x p).entries
   unfolding part_put
   code_entry e = rw e
-
-  pub one_entry : (part_put b x p).entries ≤ 1
-  unfolding part_put put_cell
-  one_entry = go p.source refl
-    where
-      go : (s : Source) → p.source ≡ s → (part_put b x p).entries ≤ 1
-      go (Cell n) e = rw e (omega arith)
-      go (Code s) e = rw e (omega arith)
 
   pub noted : {s r : Tally} {f f' : List ℕ} (text : List ℕ) → text ≡ (outcome_of b x p).text → StoredAt base f s.findings (words_of (part_put b x p).findings) r.findings f'
       → r.entries ≡ s.entries + (part_put b x p).entries → r.last ≡ max s.last (pick (is_empty text) 0 p.element) → Notes (part_put b x p) s r f f'
@@ -119,7 +110,7 @@ module _ {b : List ℕ} {x : Line} {n m : Look} {s t : Tally} {f₀ f : List ℕ
 
 -- ---- the whole line
 
-module _ (b idx : List ℕ) (x : Line) (w : Lined b idx x) (n : Look) (l : Looks b x 0 n) (from : ℕ) (t : Tally) (e : t ≡ record { findings = more from 0; entries = 0; last = 0 }) where
+module _ (b : List ℕ) (x : Line) (w : Lined b x) (n : Look) (l : Looks b x 0 n) (from : ℕ) (t : Tally) (e : t ≡ record { findings = more from 0; entries = 0; last = 0 }) where
   pub room_first : x.count < 4294967296 → Room b x t n
   room_first h = rw (e, l.whole) (let k = puts_few b x in let c = w.count in omega (arith, k, c))
 

@@ -13,6 +13,7 @@ use Rattle.format.specs.Plan.{ElementPlan as ElementPlanIn, element_plan_c}
 use Rattle.format.specs.Sections.{job_of}
 use Rattle.spec.specs.Answers.{stretch_of}
 use Rattle.plan.specs.declared.answers.ElementPlan.{ElementPlan}
+use Rattle.plan.specs.Index.{PlanIndexed}
 use Rattle.plan.specs.Answers.{element_of, ElementRead}
 use Rattle.segment.specs.declared.Separators.{Separators}
 use Rattle.segment.specs.declared.Pen.{Pen}
@@ -35,20 +36,20 @@ use Rattle.row_segment.proofs.NoteLaws.{puts_few}
 
 -- ---- one planned element
 
-pub stands_first : (b idx : List ℕ) (x : Line) → Lined b idx x → Stands b x 0 x.first
-stands_first b idx x w = record { place = w.first; within = omega arith }
+pub stands_first : (b : List ℕ) (x : Line) → Lined b x → Stands b x 0 x.first
+stands_first b x w = record { place = w.first; within = omega arith }
 
-module _ (b idx : List ℕ) (x : Line) (w : Lined b idx x) (k p : ℕ) (q : Stands b x k p) (h : k < x.count) where
+module _ {b idx : List ℕ} (r : PlanIndexed b idx) (x : Line) (w : Lined b x) (k p : ℕ) (q : Stands b x k p) (h : k < x.count) where
   pub place_low : p < 4294967296
-  place_low = through_place b idx x w k k p (through_start b x k p q) h
+  place_low = through_place r x w k k p (through_start b x k p q) h
 
   module _ (e : ElementPlan) (f : (n : ℕ) (v : ElementPlanIn) → n ≤ length b → Is element_plan_c b n p v → ElementRead b n p v e)
       (o : Option Planned) (s : (b : List ℕ) (x : Line) → look_put b x o ≡ element_put b x (element_of b e)) where
     pub stands_next : Stands b x (k + 1) e.next
-    stands_next = stood b idx x w k k p (through_start b x k p q) h e f o s
+    stands_next = stood r x w k k p (through_start b x k p q) h e f o s
 
     puts_look : puts b x k ≡ and_put (look_put b x o) (puts b x (k + 1))
-    puts_look = looked b idx x w k k p (through_start b x k p q) h e f o s
+    puts_look = looked r x w k k p (through_start b x k p q) h e f o s
 
     pub puts_some : {y : Planned} → o ≡ Some y → puts b x k ≡ and_put (part_put b x y) (puts b x (k + 1))
     puts_some m = rw m at puts_look
@@ -67,8 +68,8 @@ pub record Ordering (b : List ℕ) (x : Line) (k p at from : ℕ) : Type 0 where
   pub stands : Stands b x k p
   pub rest : Rises at from (puts b x k).parts → Rises 1 1 (puts b x 0).parts
 
-pub ordering_start : (b idx : List ℕ) (x : Line) → Lined b idx x → Ordering b x 0 x.first 1 1
-ordering_start b idx x w = record { stands = stands_first b idx x w; rest = λ z. z }
+pub ordering_start : (b : List ℕ) (x : Line) → Lined b x → Ordering b x 0 x.first 1 1
+ordering_start b x w = record { stands = stands_first b x w; rest = λ z. z }
 
 module _ {b : List ℕ} {x : Line} {k p at from : ℕ} (i : Ordering b x k p at from) {p' : ℕ} (q : Stands b x (k + 1) p') where
   pub ordering_part : {at' from' : ℕ} (y : Planned) → puts b x k ≡ and_put (part_put b x y) (puts b x (k + 1)) → at' ≡ y.element → from' ≡ component_of (part_by b x y) + 1
@@ -78,8 +79,8 @@ module _ {b : List ℕ} {x : Line} {k p at from : ℕ} (i : Ordering b x k p at 
   pub ordering_none : puts b x k ≡ puts b x (k + 1) → Ordering b x (k + 1) p' at from
   ordering_none e = record { stands = q; rest = λ z. i.rest (rw e z) }
 
-pub ordering_end : {b : List ℕ} {x : Line} {k p at from : ℕ} (idx : List ℕ) → Lined b idx x → Ordering b x k p at from → x.count ≤ k → Rises 1 1 (puts b x 0).parts
-ordering_end {b} {x} {k} idx w i h = i.rest (rw (puts_end b x k (omega (arith, w.count))) tt)
+pub ordering_end : {b : List ℕ} {x : Line} {k p at from : ℕ} → Lined b x → Ordering b x k p at from → x.count ≤ k → Rises 1 1 (puts b x 0).parts
+ordering_end {b} {x} {k} w i h = i.rest (rw (puts_end b x k (omega (arith, w.count))) tt)
 
 -- ---- their calls
 
@@ -93,9 +94,9 @@ pub record Feeding (s : Separators) (b : List ℕ) (x : Line) (pen : Pen) (from 
   pub doc_long : length d ≡ length d₀
   pub findings_long : length f ≡ length f₀
 
-pub feeding_start : (s : Separators) (b idx : List ℕ) (x : Line) (pen : Pen) (from : ℕ) (d f : List ℕ) → Lined b idx x → from ≤ cap → Feeding s b x pen from d f 0 x.first pen from 0 d f
-feeding_start s b idx x pen from d f w h = record {
-  stands = stands_first b idx x w;
+pub feeding_start : (s : Separators) (b : List ℕ) (x : Line) (pen : Pen) (from : ℕ) (d f : List ℕ) → Lined b x → from ≤ cap → Feeding s b x pen from d f 0 x.first pen from 0 d f
+feeding_start s b x pen from d f w h = record {
+  stands = stands_first b x w;
   fed = λ t d₂ z. z;
   found = λ e g z. z;
   entries = omega arith;
@@ -105,8 +106,8 @@ feeding_start s b idx x pen from d f w h = record {
 }
 
 module _ {s : Separators} {b : List ℕ} {x : Line} {pen : Pen} {from : ℕ} {d₀ f₀ : List ℕ} {k p : ℕ} {q : Pen} {m n : ℕ} {d f : List ℕ} (i : Feeding s b x pen from d₀ f₀ k p q m n d f) where
-  pub feeding_few : (idx : List ℕ) → Lined b idx x → x.count < 4294967296 → n < 4294967296
-  feeding_few idx w h = omega (arith, i.entries, puts_few b x, w.count)
+  pub feeding_few : Lined b x → x.count < 4294967296 → n < 4294967296
+  feeding_few w h = omega (arith, i.entries, puts_few b x, w.count)
 
   pub feeding_part : (y : Planned) (g : Put-behind) {p' : ℕ} {d' f' : List ℕ} → Stands b x (k + 1) p' → length f₀ ≤ wide → puts b x k ≡ and_put (part_put b x y) (puts b x (k + 1))
       → Stood s b x y q m n d f g d' f' → Feeding s b x pen from d₀ f₀ (k + 1) p' g.pen g.findings g.entries d' f'
@@ -131,15 +132,15 @@ module _ {s : Separators} {b : List ℕ} {x : Line} {pen : Pen} {from : ℕ} {d�
     findings_long = i.findings_long;
   }
 
-  pub feeding_end : (idx : List ℕ) → Lined b idx x → x.count ≤ k → AllStood s b x pen from d₀ f₀ (record { pen = q; findings = m; entries = n }) d f
-  feeding_end idx w h =
+  pub feeding_end : Lined b x → x.count ≤ k → AllStood s b x pen from d₀ f₀ (record { pen = q; findings = m; entries = n }) d f
+  feeding_end w h =
       let e : puts b x k ≡ nothing = puts_end b x k (omega (arith, w.count)) in
       let y : m ≡ more m 0 = omega (arith, i.small) in
       record { fed = i.fed q d (rw e done); findings = i.found m f (rw e (none_stored y)); entries = let j = rw e at i.entries in omega (arith, j) }
 
 -- ---- the whole segment
 
-pub line_ordered : {idx d d₁ d₂ d₃ f f' : List ℕ} {at from from' bytes : ℕ} {pen : Pen} {s : Separators} (b : List ℕ) (x : Line) (g : Put-behind) → Lined b idx x → Rises 1 1 (puts b x 0).parts
+pub line_ordered : {d d₁ d₂ d₃ f f' : List ℕ} {at from from' bytes : ℕ} {pen : Pen} {s : Separators} (b : List ℕ) (x : Line) (g : Put-behind) → Lined b x → Rises 1 1 (puts b x 0).parts
     → length d ≤ cap → length f ≤ wide → s ≡ separators_of (job_of b) → Penned (opened (stretch b x.id.start x.id.len)) at pen d d₁ → from' ≡ more from 0
     → AllStood s b x pen from' d₁ f g d₂ f' → Stored d₂ g.pen.at (closing s g.pen g.pen.elements) bytes d₃
     → Stored d at (joined (separators_of (job_of b)) (id_of b x) (puts b x 0).parts) bytes d₃ × Totals b x from g.findings g.entries f f'

@@ -102,17 +102,17 @@ module _ (s : Separators) (b : List ℕ) (x : Line) (n : Look) (pen : Pen) (d₀
 -- ---- the whole segment
 
 -- its parts joined in one pass, and noted
-pub line_joined : {idx d d₁ d₂ d₃ f f₁ f₂ : List ℕ} {at from : ℕ} {pen : Pen} {s : Separators} {t : Tally} {g : Step} (b : List ℕ) (x : Line) (n : Look) (r : Joined) → Lined b idx x
+pub line_joined : {d d₁ d₂ d₃ f f₁ f₂ : List ℕ} {at from : ℕ} {pen : Pen} {s : Separators} {t : Tally} {g : Step} (b : List ℕ) (x : Line) (n : Look) (r : Joined) → Lined b x
     → length d ≤ cap → length f ≤ wide → s ≡ separators_of (job_of b) → Looks b x 0 n → Penned (opened (stretch b x.id.start x.id.len)) at pen d d₁ → t ≡ record { findings = more from 0; entries = 0; last = 0 }
     → Rows s b x n pen d₁ g d₂ × Between b x n g.after t g.tally f f₁
     → Stored d₂ g.pen.at (closing s g.pen r.tally.last) r.bytes d₃ × Notes (ahead b x g.after) g.tally r.tally f₁ f₂
     → Stored d at (joined (separators_of (job_of b)) (id_of b x) (puts b x 0).parts) r.bytes d₃ × Totals b x from r.tally.findings r.tally.entries f f₂
 unfolding stretch_of
-line_joined {idx} {at = at} {from = from} {t = t} b x n r w h k q l v e (z, u) (o, m) =
+line_joined {at = at} {from = from} {t = t} b x n r w h k q l v e (z, u) (o, m) =
     let all = u.whole r.tally _ m in
     let row = z.row r.tally.last r.bytes _ o in (
-      run_stored (separators_of (job_of b)) (id_of b x) (puts b x 0).parts h (rw w.id.bytes at v) (rw (q, last_noted b idx x w n l from t e all, l.whole) at row),
-      all_noted b idx x w n l from t e k all,
+      run_stored (separators_of (job_of b)) (id_of b x) (puts b x 0).parts h (rw w.id.bytes at v) (rw (q, last_noted b x w n l from t e all, l.whole) at row),
+      all_noted b x w n l from t e k all,
     )
 
 pub did_line : {s n : Counts} {d d' g g' f f' p : List ℕ} (b : List ℕ) (x : Line) (y : Ended) → Within s → Totals b x s.findings y.findings y.entries f f'

@@ -9,13 +9,14 @@ use native.Mathlib.Omega.{arith}
 use lib.ListN.{length, get_or}
 use Rattle.codec.specs.Skip.{Is}
 use Rattle.format.specs.Plan.{ElementPlan as ElementPlanIn, element_plan_c, no_element_plan}
+use Rattle.format.specs.Passed.{Passed}
 use Rattle.format.specs.Sections.{job_of}
 use Rattle.format.specs.Ask.{loop_of, planned_of, identifier_of}
-use Rattle.nest.specs.Ready.{Ready}
 use Rattle.emit.proofs.NameLaws.{name_short, holds_length}
 use Rattle.spec.specs.Answers.{Holds}
 use Rattle.plan.specs.declared.answers.ElementPlan.{ElementPlan}
 use Rattle.plan.specs.Answers.{element_of, ElementRead}
+use Rattle.plan.specs.Index.{PlanIndexed}
 use Rattle.plan.specs.Elements.{Elements, ElementStep, element_place, element_step}
 use Rattle.segment.specs.Parts.{Part}
 use Rattle.emit.specs.Puts.{Put, nothing, and_put, part_at, put_cell, row_put}
@@ -29,12 +30,12 @@ use Rattle.row_segment.specs.Stream.{id_of, plans, Lined, element_put, puts, par
 
 -- ---- a line
 
-pub lined : (b idx : List ℕ) (x : Line) → Ready b idx → x.l.0 < 32 → x.count ≡ length (plans b x) → Elements b x.first (plans b x) → {k : ℕ} → k ≡ (planned_of (job_of b) x.l.0 x.i).occurrence
-    → Holds b x.id (get_or (loop_of (job_of b) x.l.0).occurrences k []) → Lined b idx x
+pub lined : (b : List ℕ) (x : Line) → Passed b → x.l.0 < 32 → x.count ≡ length (plans b x) → Elements b x.first (plans b x) → {k : ℕ} → k ≡ (planned_of (job_of b) x.l.0 x.i).occurrence
+    → Holds b x.id (get_or (loop_of (job_of b) x.l.0).occurrences k []) → Lined b x
 unfolding identifier_of
-lined b idx x r m n p {k} e h =
+lined b x w m n p {k} e h =
     let h' : Holds b x.id (id_of b x) = rw (← e) h in
-    record { ready = r; low = m; count = n; first = p; id = h'; named = let a = holds_length b x.id _ h in let c = name_short b r.passed x.l.0 k in omega (arith, a, c) }
+    record { low = m; count = n; first = p; id = h'; named = let a = holds_length b x.id _ h in let c = name_short b w x.l.0 k in omega (arith, a, c) }
 
 -- ---- planned element by planned element
 
@@ -58,17 +59,17 @@ pub record Through (b : List ℕ) (x : Line) (k i p : ℕ) : Type 0 where
 pub through_start : (b : List ℕ) (x : Line) (k p : ℕ) → Stands b x k p → Through b x k k p
 through_start b x k p h = record { whole = refl; stands = h; behind = omega arith }
 
-module _ (b idx : List ℕ) (x : Line) (w : Lined b idx x) (k i p : ℕ) (q : Through b x k i p) where
+module _ {b idx : List ℕ} (r : PlanIndexed b idx) (x : Line) (w : Lined b x) (k i p : ℕ) (q : Through b x k i p) where
   inside : i < x.count → i < length (plans b x)
   inside h = omega (arith, w.count)
 
   pub through_place : i < x.count → p < 4294967296
-  through_place h = element_place b idx w.ready.plan p i (plans b x) (inside h) q.stands.place
+  through_place h = element_place b idx r p i (plans b x) (inside h) q.stands.place
 
   module _ (h : i < x.count) (e : ElementPlan) (f : (n : ℕ) (v : ElementPlanIn) → n ≤ length b → Is element_plan_c b n p v → ElementRead b n p v e)
       (o : Option Planned) (s : (b : List ℕ) (x : Line) → look_put b x o ≡ element_put b x (element_of b e)) where
     read : ElementStep b i (plans b x) e
-    read = element_step b idx w.ready.plan p i (plans b x) (inside h) q.stands.place e f
+    read = element_step b idx r p i (plans b x) (inside h) q.stands.place e f
 
     pub looked : puts b x k ≡ and_put (look_put b x o) (puts b x (i + 1))
     looked = q.whole ∙ puts_next b x i (inside h)
@@ -128,8 +129,8 @@ module _ {b : List ℕ} {x : Line} (n m : Look) where
   pub parts_more : {y : Planned} → n.part ≡ Some y → Looks b x n.k m → (ahead b x n).parts ≡ part_by b x y ∷ (ahead b x m).parts
   parts_more {y} e l = parts_here b x n e ∙ ap (λ (p : Put). part_by b x y ∷ p.parts) (sym l.whole)
 
-  pub left_less : (idx : List ℕ) → Lined b idx x → {y : Planned} → n.part ≡ Some y → Looks b x n.k m → left x.count m < left x.count n
-  left_less idx w e l = go m.part refl
+  pub left_less : Lined b x → {y : Planned} → n.part ≡ Some y → Looks b x n.k m → left x.count m < left x.count n
+  left_less w e l = go m.part refl
     where
       go : (t : Option Planned) → m.part ≡ t → left x.count m < left x.count n
       go (Some z) q = rw (e, q) (let a = l.later z q in let c = l.sees.stands.within in omega (arith, a, c, w.count))

@@ -3,11 +3,8 @@ use Rattle.std.specs.Prelude.{ℕ, ◌+◌, ◌≤◌, ◌<◌, max, ◌≡◌, 
 use Rattle.lent.specs.Fit.{base, cap, StoredAt}
 use Rattle.format.specs.Sections.{job_of}
 use Rattle.format.specs.Refusal.{separators}
-use Rattle.segment.specs.declared.Separators.{Separators}
 use Rattle.segment.specs.Parts.{last_element}
 use Rattle.nest.specs.Finding.{number_from}
-use Rattle.emit.specs.declared.findings.Delimiters.{Delimiters}
-use Rattle.emit.specs.Fold.{separators_of}
 use Rattle.emit.specs.Puts.{Put}
 use Rattle.emit.specs.Written.{tried, words_of}
 use Rattle.row_segment.specs.declared.parts.Line.{Line}
@@ -20,11 +17,6 @@ use Rattle.row_segment.specs.Stream.{id_of, puts, ahead}
 pub record Tries (b : List ℕ) (x : Line) (y : Tried) : Type 0 where
   pub name : y.name ≡ number_from 0 (id_of b x)
   pub delimiters : tried y.delimiters ≡ separators (job_of b).envelope
-
--- these are the job's separators, to write with and to try texts for
-pub record Triable (b : List ℕ) (s : Separators) (d : Delimiters) : Type 0 where
-  pub written : s ≡ separators_of (job_of b)
-  pub tried : tried d ≡ separators (job_of b).envelope
 
 -- what puts give was noted: the tally went from s to r, the findings from f to f'
 pub record Notes (p : Put) (s r : Tally) (f f' : List ℕ) : Type 0 where

@@ -6,7 +6,6 @@ use Rattle.format.specs.Ask.{planned_of, identifier_of}
 use Rattle.texts.specs.Reason.{Outcome, gives}
 use Rattle.spec.specs.Answers.{stretch_of, Holds}
 use Rattle.plan.specs.Elements.{Elements}
-use Rattle.nest.specs.Ready.{Ready}
 use Rattle.emit.specs.Puts.{Put, cell_outcome, nothing, and_put, put_cell, put_text, row_value, row_put}
 use Rattle.row_segment.specs.declared.parts.Line.{Line}
 use Rattle.row_segment.specs.declared.parts.Source.{Source}
@@ -22,9 +21,8 @@ id_of b x = identifier_of (job_of b) x.l.0 x.i
 abbrev pub plans : List ℕ → Line → List ElementPlan
 plans b x = (planned_of (job_of b) x.l.0 x.i).elements
 
--- the line is of that job and index
-pub record Lined (b idx : List ℕ) (x : Line) : Type 0 where
-  pub ready : Ready b idx
+-- the line is of that job
+pub record Lined (b : List ℕ) (x : Line) : Type 0 where
   pub low : x.l.0 < 32
   pub count : x.count ≡ length (plans b x)
   pub first : Elements b x.first (plans b x)

@@ -1,16 +1,15 @@
 // A part that is written and noted as it comes, by what gives it its text.
 ghost use Rattle.std.specs.Prelude.{◌≡◌, true, ◌<◌, Some};
 ghost use Rattle.lent.specs.Fit.{stretch, more};
-ghost use Rattle.format.specs.Sections.{job_of};
 ghost use Rattle.format.specs.Ask.{data_of};
+ghost use Rattle.format.specs.Refusal.{separators};
 ghost use Rattle.column.specs.Cell.{cell_of};
 ghost use Rattle.column.specs.Answers.{Reads};
 ghost use Rattle.segment.specs.Pen.{placed, Penned};
-ghost use Rattle.emit.specs.Fold.{separators_of};
-ghost use Rattle.emit.specs.Written.{is_own};
+ghost use Rattle.emit.specs.Written.{is_own, tried};
 ghost use Rattle.row_segment.specs.Stream.{Lined};
-ghost use Rattle.row_segment.specs.Notes.{Triable};
 ghost use Rattle.row_segment.specs.Feed.{FromCell, Stood};
+ghost use Rattle.nest.specs.Job.{job_by};
 
 use crate::notes::Tally;
 use crate::parts::{Line, Planned, Source};
@@ -18,6 +17,7 @@ use crate::{notes, parts};
 use column::Cell;
 use emit::findings::Delimiters;
 use emit::{cells, findings, signs};
+use nest::Job;
 use segment::{Pen, Separators};
 
 // The pen behind a part, how many numbers of findings there are then, and how many trace entries.
@@ -54,8 +54,7 @@ fn put_stretch(
 
 // A cell that was read, and whose text is its own: it holds no separator.
 fn put_own(
-    job: &[u8],
-    index: &[u16],
+    job: Job,
     doc: &mut [u8],
     findings: &mut [u64],
     s: Separators,
@@ -67,27 +66,17 @@ fn put_own(
     column: u32,
     cell: Cell,
 ) -> Behind
-    requires { Lined job.now index.now x × (entries < 4294967296) × FromCell p column
-        × Reads job.now cell (Some (cell_of (data_of (job_of job.now) x.t.0) column x.r.0)) × (is_own cell ≡ true) }
-    ensures { Stood s job.now x p pen from entries doc.old findings.old result doc.new findings.new }
+    requires { Lined job.at.bytes.now x × (entries < 4294967296) × FromCell p column
+        × Reads job.at.bytes.now cell (Some (cell_of (data_of (job_by job) x.t.0) column x.r.0)) × (is_own cell ≡ true) }
+    ensures { Stood s job.entry.at.bytes.now x p pen from entries doc.old findings.old result doc.new findings.new }
 {
     let id = x.id;
     let component = p.component;
-    let w = cells::own_text(job, index, id, p.element, component, cell);
+    let w = cells::own_text(job, id, p.element, component, cell);
     let text = cells::text_in(w);
-    let bytes = text.bytes;
     let c = signs::component_of(component);
-    let q = segment::part(
-        doc,
-        &bytes,
-        s,
-        pen,
-        p.element as usize,
-        c as usize,
-        0,
-        text.len,
-    );
-    let f = notes::note_refused(job, findings, from, x, p, column, w.err());
+    let q = cells::put_text(doc, s, pen, p.element, c, text);
+    let f = notes::note_refused(job.at.bytes, findings, from, x, p, column, w.err());
     Behind {
         pen: q,
         findings: f,
@@ -97,8 +86,7 @@ fn put_own(
 
 // Any part, by its text as a value.
 fn put_value(
-    job: &[u8],
-    index: &[u16],
+    job: Job,
     doc: &mut [u8],
     findings: &mut [u64],
     s: Separators,
@@ -108,21 +96,21 @@ fn put_value(
     x: Line,
     p: Planned,
 ) -> Behind
-    requires { Lined job.now index.now x × (s ≡ separators_of (job_of job.now)) × (entries < 4294967296) }
-    ensures { Stood s job.now x p pen from entries doc.old findings.old result doc.new findings.new }
+    requires { Lined job.at.bytes.now x × (entries < 4294967296) }
+    ensures { Stood s job.entry.at.bytes.now x p pen from entries doc.old findings.old result doc.new findings.new }
 {
-    let w = parts::text_of(job, index, x, p);
+    let w = parts::text_of(job, x, p);
     let v = w.value;
     let component = p.component;
     let c = signs::component_of(component);
-    let q = segment::component(doc, job, s, pen, p.element as usize, c as usize, v);
-    let y = notes::tried_of(job, index, x, s);
+    let q = segment::component(doc, job.at.bytes, s, pen, p.element as usize, c as usize, v);
+    let y = notes::tried_of(job, x);
     let t = Tally {
         findings: from,
         entries,
         last: 0,
     };
-    let u = notes::note_text(job, findings, t, x, y, p, w);
+    let u = notes::note_text(job.at.bytes, findings, t, x, y, p, w);
     Behind {
         pen: q,
         findings: u.findings,
@@ -132,8 +120,7 @@ fn put_value(
 
 // A cell: a stretch of the job or a text of its own; one that holds a separator goes by its value.
 fn put_cell(
-    job: &[u8],
-    index: &[u16],
+    job: Job,
     doc: &mut [u8],
     findings: &mut [u64],
     s: Separators,
@@ -145,24 +132,24 @@ fn put_cell(
     p: Planned,
     column: u32,
 ) -> Behind
-    requires { Lined job.now index.now x × Triable job.now s d × (entries < 4294967296) × FromCell p column }
-    ensures { Stood s job.now x p pen from entries doc.old findings.old result doc.new findings.new }
+    requires { Lined job.at.bytes.now x × (tried d ≡ separators (job_by job).envelope) × (entries < 4294967296) × FromCell p column }
+    ensures { Stood s job.entry.at.bytes.now x p pen from entries doc.old findings.old result doc.new findings.new }
 {
     let table = x.t;
     let row = x.r;
-    let cell = tables::data::cell(job, index, table, column, row);
+    let cell = tables::data::cell(job.at, table, column, row);
     let Some(h) = cells::held_in(cell) else {
         return put_own(
-            job, index, doc, findings, s, pen, from, entries, x, p, column, cell,
+            job, doc, findings, s, pen, from, entries, x, p, column, cell,
         );
     };
-    if findings::stretch_holds(job, h.start, h.len, d) {
-        return put_value(job, index, doc, findings, s, pen, from, entries, x, p);
+    if findings::stretch_holds(job.at.bytes, h.start, h.len, d) {
+        return put_value(job, doc, findings, s, pen, from, entries, x, p);
     }
     let component = p.component;
     let c = signs::component_of(component);
     put_stretch(
-        job,
+        job.at.bytes,
         doc,
         s,
         pen,
@@ -177,8 +164,7 @@ fn put_cell(
 
 // A part at its place.
 pub fn put_part(
-    job: &[u8],
-    index: &[u16],
+    job: Job,
     doc: &mut [u8],
     findings: &mut [u64],
     s: Separators,
@@ -189,8 +175,8 @@ pub fn put_part(
     d: Delimiters,
     p: Planned,
 ) -> Behind
-    requires { Lined job.now index.now x × Triable job.now s d × (entries < 4294967296) }
-    ensures { Stood s job.now x p pen from entries doc.old findings.old result doc.new findings.new }
+    requires { Lined job.at.bytes.now x × (tried d ≡ separators (job_by job).envelope) × (entries < 4294967296) }
+    ensures { Stood s job.entry.at.bytes.now x p pen from entries doc.old findings.old result doc.new findings.new }
 {
     let source = p.source;
     let component = p.component;
@@ -198,9 +184,18 @@ pub fn put_part(
         Source::Code(c) => {
             let n = signs::component_of(component);
             put_stretch(
-                job, doc, s, pen, from, entries, p.element, n, c.start, c.len,
+                job.at.bytes,
+                doc,
+                s,
+                pen,
+                from,
+                entries,
+                p.element,
+                n,
+                c.start,
+                c.len,
             )
         }
-        Source::Cell(c) => put_cell(job, index, doc, findings, s, pen, from, entries, x, d, p, c),
+        Source::Cell(c) => put_cell(job, doc, findings, s, pen, from, entries, x, d, p, c),
     }
 }

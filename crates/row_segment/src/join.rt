@@ -1,7 +1,6 @@
 // Row segments whose parts come in any order, in one pass: they are noted and joined, element by element as they come.
 ghost use Rattle.std.specs.Prelude.{◌≡◌, ◌≤◌, ◌<◌};
 ghost use Rattle.lent.specs.Fit.{cap, Stored};
-ghost use Rattle.format.specs.Sections.{job_of};
 ghost use Rattle.segment.specs.Parts.{here, component_text, joined};
 ghost use Rattle.segment.specs.Pen.{value_text, closing};
 ghost use Rattle.segment.specs.Calls.{Group};
@@ -9,11 +8,13 @@ ghost use Rattle.emit.specs.Fold.{separators_of};
 ghost use Rattle.row_segment.specs.Stream.{Lined, Sees, ahead, puts, id_of};
 ghost use Rattle.row_segment.specs.Groups.{Scans, Steps, Rows};
 ghost use Rattle.row_segment.specs.Notes.{Tries, Notes, Between, Room, Totals};
+ghost use Rattle.nest.specs.Job.{job_by};
 
 use crate::notes::{Tally, Tried};
 use crate::parts::{Line, Look};
 use crate::{notes, parts};
 use emit::signs;
+use nest::Job;
 use segment::{Pen, Separators, Value};
 
 // The last filled component of an element, the look behind its parts, and the tally with them.
@@ -25,18 +26,9 @@ pub struct Scanned {
 }
 
 // The parts at element e with which a look begins are noted.
-fn scan(
-    job: &[u8],
-    index: &[u16],
-    findings: &mut [u64],
-    t: Tally,
-    x: Line,
-    y: Tried,
-    n: Look,
-    e: u32,
-) -> Scanned
-    requires { Lined job.now index.now x × Tries job.now x y × Sees job.now x n × Room job.now x t n }
-    ensures { Scans job.now x n e result.last result.after × Between job.now x n result.after t result.tally findings.old findings.new }
+fn scan(job: Job, findings: &mut [u64], t: Tally, x: Line, y: Tried, n: Look, e: u32) -> Scanned
+    requires { Lined job.at.bytes.now x × Tries job.at.bytes.now x y × Sees job.at.bytes.now x n × Room job.at.bytes.now x t n }
+    ensures { Scans job.entry.at.bytes.now x n e result.last result.after × Between job.entry.at.bytes.now x n result.after t result.tally findings.old findings.new }
 {
     let mut a = n;
     let mut s = t;
@@ -50,12 +42,12 @@ fn scan(
                 tally: s,
             };
         }
-        let w = parts::text_of(job, index, x, p);
+        let w = parts::text_of(job, x, p);
         let c = p.component;
         let v = w.value;
-        m = parts::raised(job, m, v, signs::component_of(c));
-        s = notes::note_text(job, findings, s, x, y, p, w);
-        a = parts::next_part(job, index, x, a.k, a.at);
+        m = parts::raised(job.at.bytes, m, v, signs::component_of(c));
+        s = notes::note_text(job.at.bytes, findings, s, x, y, p, w);
+        a = parts::next_part(job, x, a.k, a.at);
     }
     Scanned {
         last: m,
@@ -65,9 +57,9 @@ fn scan(
 }
 
 // The text at component c of element e: that of the first part there.
-fn component_value(job: &[u8], index: &[u16], x: Line, n: Look, e: u32, c: usize) -> Value
-    requires { Lined job.now index.now x × Sees job.now x n }
-    ensures { value_text job.now result ≡ component_text (here e (ahead job.now x n).parts) c }
+fn component_value(job: Job, x: Line, n: Look, e: u32, c: usize) -> Value
+    requires { Lined job.at.bytes.now x × Sees job.at.bytes.now x n }
+    ensures { value_text job.entry.at.bytes.now result ≡ component_text (here e (ahead job.entry.at.bytes.now x n).parts) c }
 {
     let mut a = n;
     // No `for`: the cursor over the planned elements counts itself.
@@ -77,18 +69,17 @@ fn component_value(job: &[u8], index: &[u16], x: Line, n: Look, e: u32, c: usize
         }
         let component = p.component;
         if signs::component_of(component) as usize == c {
-            let w = parts::text_of(job, index, x, p);
+            let w = parts::text_of(job, x, p);
             return w.value;
         }
-        a = parts::next_part(job, index, x, a.k, a.at);
+        a = parts::next_part(job, x, a.k, a.at);
     }
     segment::held(0, 0)
 }
 
 // Element e, whose last filled component is k.
 fn put_group(
-    job: &[u8],
-    index: &[u16],
+    job: Job,
     doc: &mut [u8],
     s: Separators,
     pen: Pen,
@@ -97,13 +88,13 @@ fn put_group(
     e: u32,
     k: usize,
 ) -> Pen
-    requires { Lined job.now index.now x × Sees job.now x n × (k < 4294967296) }
-    ensures { Group s k (component_text (here e (ahead job.now x n).parts)) e 1 pen doc.old result doc.new }
+    requires { Lined job.at.bytes.now x × Sees job.at.bytes.now x n × (k < 4294967296) }
+    ensures { Group s k (component_text (here e (ahead job.entry.at.bytes.now x n).parts)) e 1 pen doc.old result doc.new }
 {
     let mut q = pen;
     for c in 1..=k {
-        let v = component_value(job, index, x, n, e, c);
-        q = segment::component(doc, job, s, q, e as usize, c, v);
+        let v = component_value(job, x, n, e, c);
+        q = segment::component(doc, job.at.bytes, s, q, e as usize, c, v);
     }
     segment::finish(doc, s, q, e as usize, k)
 }
@@ -124,8 +115,7 @@ pub struct Step {
 
 // Element e, at which the parts of a look begin, written and noted.
 fn put_next(
-    job: &[u8],
-    index: &[u16],
+    job: Job,
     doc: &mut [u8],
     findings: &mut [u64],
     s: Separators,
@@ -136,11 +126,11 @@ fn put_next(
     a: Look,
     e: u32,
 ) -> Step
-    requires { Lined job.now index.now x × Tries job.now x y × Sees job.now x a × Room job.now x t a }
-    ensures { Steps s job.now x a e pen doc.old result doc.new × Between job.now x a result.after t result.tally findings.old findings.new }
+    requires { Lined job.at.bytes.now x × Tries job.at.bytes.now x y × Sees job.at.bytes.now x a × Room job.at.bytes.now x t a }
+    ensures { Steps s job.entry.at.bytes.now x a e pen doc.old result doc.new × Between job.entry.at.bytes.now x a result.after t result.tally findings.old findings.new }
 {
-    let g = scan(job, index, findings, t, x, y, a, e);
-    let q = put_group(job, index, doc, s, pen, x, a, e, g.last);
+    let g = scan(job, findings, t, x, y, a, e);
+    let q = put_group(job, doc, s, pen, x, a, e, g.last);
     Step {
         pen: q,
         after: g.after,
@@ -150,8 +140,7 @@ fn put_next(
 
 // The parts of a look, as far as their elements rise.
 fn put_groups(
-    job: &[u8],
-    index: &[u16],
+    job: Job,
     doc: &mut [u8],
     findings: &mut [u64],
     s: Separators,
@@ -161,8 +150,8 @@ fn put_groups(
     y: Tried,
     n: Look,
 ) -> Step
-    requires { Lined job.now index.now x × Tries job.now x y × Sees job.now x n × Room job.now x t n }
-    ensures { Rows s job.now x n pen doc.old result doc.new × Between job.now x n result.after t result.tally findings.old findings.new }
+    requires { Lined job.at.bytes.now x × Tries job.at.bytes.now x y × Sees job.at.bytes.now x n × Room job.at.bytes.now x t n }
+    ensures { Rows s job.entry.at.bytes.now x n pen doc.old result doc.new × Between job.entry.at.bytes.now x n result.after t result.tally findings.old findings.new }
 {
     let mut a = n;
     let mut q = pen;
@@ -178,7 +167,7 @@ fn put_groups(
                 tally: u,
             };
         }
-        let g = put_next(job, index, doc, findings, s, q, u, x, y, a, p.element);
+        let g = put_next(job, doc, findings, s, q, u, x, y, a, p.element);
         a = g.after;
         q = g.pen;
         u = g.tally;
@@ -200,8 +189,7 @@ pub struct Joined {
 
 // The parts that no element takes are noted, and the segment ends behind its last filled element.
 fn end_line(
-    job: &[u8],
-    index: &[u16],
+    job: Job,
     doc: &mut [u8],
     findings: &mut [u64],
     s: Separators,
@@ -209,35 +197,34 @@ fn end_line(
     x: Line,
     y: Tried,
 ) -> Joined
-    requires { Lined job.now index.now x × Tries job.now x y × Sees job.now x g.after × Room job.now x g.tally g.after × (g.tally.findings ≤ cap) }
-    ensures { Stored doc.old g.pen.at (closing s g.pen result.tally.last) result.bytes doc.new × Notes (ahead job.now x g.after) g.tally result.tally findings.old findings.new }
+    requires { Lined job.at.bytes.now x × Tries job.at.bytes.now x y × Sees job.at.bytes.now x g.after × Room job.at.bytes.now x g.tally g.after × (g.tally.findings ≤ cap) }
+    ensures { Stored doc.old g.pen.at (closing s g.pen result.tally.last) result.bytes doc.new × Notes (ahead job.entry.at.bytes.now x g.after) g.tally result.tally findings.old findings.new }
 {
     let t = g.tally;
-    let u = notes::note_rest(job, index, findings, t, x, y, g.after);
+    let u = notes::note_rest(job, findings, t, x, y, g.after);
     let bytes = segment::close(doc, s, g.pen, u.last);
     Joined { bytes, tally: u }
 }
 
 // The bytes of a line from `at` on, and its notes; `from` numbers of findings stand before.
 pub fn join_any(
-    job: &[u8],
-    index: &[u16],
+    job: Job,
     doc: &mut [u8],
     findings: &mut [u64],
     at: usize,
     from: usize,
     x: Line,
 ) -> Joined
-    requires { Lined job.now index.now x }
-    ensures { Stored doc.old at (joined (separators_of (job_of job.now)) (id_of job.now x) (puts job.now x 0).parts) result.bytes doc.new
-        × Totals job.now x from result.tally.findings result.tally.entries findings.old findings.new }
+    requires { Lined job.at.bytes.now x }
+    ensures { Stored doc.old at (joined (separators_of (job_by job.entry)) (id_of job.entry.at.bytes.now x) (puts job.entry.at.bytes.now x 0).parts) result.bytes doc.new
+        × Totals job.entry.at.bytes.now x from result.tally.findings result.tally.entries findings.old findings.new }
 {
-    let s = signs::separators_of(job, index);
-    let y = notes::tried_of(job, index, x, s);
-    let n = parts::first_part(job, index, x);
+    let s = signs::separators_of(job.at);
+    let y = notes::tried_of(job, x);
+    let n = parts::first_part(job, x);
     let id = x.id;
-    let pen = segment::begin(doc, at, job, id.start, id.len);
+    let pen = segment::begin(doc, at, job.at.bytes, id.start, id.len);
     let t = notes::none_noted(from);
-    let g = put_groups(job, index, doc, findings, s, pen, t, x, y, n);
-    end_line(job, index, doc, findings, s, g, x, y)
+    let g = put_groups(job, doc, findings, s, pen, t, x, y, n);
+    end_line(job, doc, findings, s, g, x, y)
 }

@@ -1,22 +1,21 @@
 // What the parts of a row segment are noted for: the findings on their texts, their trace entries, the last filled element.
-ghost use Rattle.std.specs.Prelude.{◌≡◌, List, ℕ, ◌≤◌, ◌<◌};
+ghost use Rattle.std.specs.Prelude.{◌≡◌, ◌≤◌, ◌<◌};
 ghost use Rattle.lent.specs.Fit.{base, cap, more, StoredAt, Noted};
 ghost use Rattle.texts.specs.Reason.{why_in};
 ghost use Rattle.spec.specs.Answers.{Holds};
-ghost use Rattle.nest.specs.Finding.{cell, number_from};
-ghost use Rattle.format.specs.Sections.{job_of};
-ghost use Rattle.emit.specs.Fold.{separators_of};
+ghost use Rattle.nest.specs.Finding.{cell};
 ghost use Rattle.emit.specs.Puts.{place_of, unwritten};
-ghost use Rattle.emit.specs.Written.{Writes, spot_of, words_of};
+ghost use Rattle.emit.specs.Written.{Writes, words_of};
 ghost use Rattle.row_segment.specs.Stream.{id_of, Lined, Sees, ahead, part_put, outcome_of};
 ghost use Rattle.row_segment.specs.Notes.{Tries, Notes, Room};
+ghost use Rattle.row_segment.specs.Feed.{FromCell};
 
 use crate::parts;
 use crate::parts::{Line, Look, Planned, Source};
 use emit::cells::Written;
-use emit::findings::{Delimiters, Spot};
+use emit::findings::Delimiters;
 use emit::{findings, signs};
-use segment::Separators;
+use nest::Job;
 use texts::render::Refused;
 
 // How many numbers of findings there are, how many trace entries, and the last filled element.
@@ -42,66 +41,38 @@ pub struct Tried {
     pub delimiters: Delimiters,
 }
 
-fn spot(x: Line, name: u64, element: u32, component: Option<u32>, column: u32) -> Spot
-    ensures { (id : List ℕ) → name ≡ number_from 0 id → result ≡ spot_of (cell x.t.0 x.r.0 column) (place_of id element component) }
+// What the texts of a line are tried for.
+pub fn tried_of(job: Job, x: Line) -> Tried
+    requires { Lined job.at.bytes.now x }
+    ensures { Tries job.entry.at.bytes.now x result }
 {
-    let t = x.t;
-    let r = x.r;
-    let word = signs::component_word(component);
-    Spot {
-        origin: 0,
-        table: t.0 as u64,
-        row: r.0 as u64,
-        column: column as u64,
-        identifier: name,
-        element: element as u64,
-        component: word,
+    let id = x.id;
+    Tried {
+        name: signs::id_number(job.at.bytes, id),
+        delimiters: signs::delimiters_of(job.at),
     }
 }
 
-// What the texts of a line are tried for; s are the job's separators.
-pub fn tried_of(job: &[u8], index: &[u16], x: Line, s: Separators) -> Tried
-    requires { Lined job.now index.now x × (s ≡ separators_of (job_of job.now)) }
-    ensures { Tries job.now x result }
-{
-    let id = x.id;
-    let name = signs::id_number(job, id);
-    let repetition = signs::repetition_of(job, index);
-    let delimiters = Delimiters {
-        element: s.element,
-        component: s.component,
-        segment: s.segment,
-        repetition,
-    };
-    Tried { name, delimiters }
-}
-
-// The findings on a part's text; a code is not tried.
-fn note_part(
+// The findings on a cell's text.
+fn note_cell(
     job: &[u8],
     findings: &mut [u64],
     at: usize,
     x: Line,
     y: Tried,
     p: Planned,
+    column: u32,
     w: Written,
 ) -> usize
-    requires { Tries job.now x y × Writes job.now w (outcome_of job.now x p) }
+    requires { Tries job.now x y × Writes job.now w (outcome_of job.now x p) × FromCell p column }
     ensures { StoredAt base findings.old at (words_of (part_put job.now x p).findings) result findings.new }
 {
-    let component = p.component;
-    let source = p.source;
     let d = y.delimiters;
-    match source {
-        Source::Cell(column) => {
-            if findings::silent(job, w, d) {
-                return lent::more(at, 0);
-            }
-            let place = spot(x, y.name, p.element, component, column);
-            findings::note_cell(findings, at, job, w, place, d)
-        }
-        Source::Code(s) => lent::more(at, 0),
+    if findings::silent(job, w, d) {
+        return lent::more(at, 0);
     }
+    let place = findings::cell_spot(x.t, x.r, column, y.name, p.element, p.component);
+    findings::note_cell(findings, at, job, w, place, d)
 }
 
 // A finding where a cell's text is refused.
@@ -122,23 +93,11 @@ pub fn note_refused(
     }
     let id = x.id;
     let name = signs::id_number(job, id);
-    let component = p.component;
-    let place = spot(x, name, p.element, component, column);
+    let place = findings::cell_spot(x.t, x.r, column, name, p.element, p.component);
     findings::note_reason(findings, at, place, why)
 }
 
-// A cell has a trace entry, a code has none.
-fn entries_of(p: Planned) -> usize
-    ensures { (b : List ℕ) (x : Line) → result ≡ (part_put b x p).entries }
-{
-    let source = p.source;
-    match source {
-        Source::Cell(column) => 1,
-        Source::Code(s) => 0,
-    }
-}
-
-// A part is noted by its text.
+// A part is noted by its text: a cell has findings and a trace entry, a code has neither.
 pub fn note_text(
     job: &[u8],
     findings: &mut [u64],
@@ -151,14 +110,19 @@ pub fn note_text(
     requires { Tries job.now x y × Writes job.now w (outcome_of job.now x p) × (s.entries < 4294967296) }
     ensures { Notes (part_put job.now x p) s result findings.old findings.new }
 {
-    let n = note_part(job, findings, s.findings, x, y, p, w);
     let v = w.value;
     let last = parts::raised(job, s.last, v, p.element);
-    let entries = entries_of(p);
-    Tally {
-        findings: n,
-        entries: s.entries + entries,
-        last,
+    match p.source {
+        Source::Cell(column) => Tally {
+            findings: note_cell(job, findings, s.findings, x, y, p, column, w),
+            entries: s.entries + 1,
+            last,
+        },
+        Source::Code(_) => Tally {
+            findings: lent::more(s.findings, 0),
+            entries: s.entries,
+            last,
+        },
     }
 }
 
@@ -175,25 +139,17 @@ pub fn none_noted(at: usize) -> Tally
 }
 
 // The parts of a look are noted, behind those that a tally has.
-pub fn note_rest(
-    job: &[u8],
-    index: &[u16],
-    findings: &mut [u64],
-    t: Tally,
-    x: Line,
-    y: Tried,
-    n: Look,
-) -> Tally
-    requires { Lined job.now index.now x × Tries job.now x y × Sees job.now x n × Room job.now x t n × (t.findings ≤ cap) }
-    ensures { Notes (ahead job.now x n) t result findings.old findings.new }
+pub fn note_rest(job: Job, findings: &mut [u64], t: Tally, x: Line, y: Tried, n: Look) -> Tally
+    requires { Lined job.at.bytes.now x × Tries job.at.bytes.now x y × Sees job.at.bytes.now x n × Room job.at.bytes.now x t n × (t.findings ≤ cap) }
+    ensures { Notes (ahead job.entry.at.bytes.now x n) t result findings.old findings.new }
 {
     let mut s = t;
     let mut a = n;
     // No `for`: the cursor over the planned elements counts itself.
     while let Some(p) = a.part {
-        let w = parts::text_of(job, index, x, p);
-        s = note_text(job, findings, s, x, y, p, w);
-        a = parts::next_part(job, index, x, a.k, a.at);
+        let w = parts::text_of(job, x, p);
+        s = note_text(job.at.bytes, findings, s, x, y, p, w);
+        a = parts::next_part(job, x, a.k, a.at);
     }
     s
 }

@@ -1,6 +1,5 @@
 // The planned elements of a row segment as parts, one after the other.
 ghost use Rattle.std.specs.Prelude.{◌≡◌, List, ℕ, ◌<◌, max};
-ghost use Rattle.nest.specs.Ready.{Ready};
 ghost use Rattle.plan.specs.Answers.{element_of};
 ghost use Rattle.plan.specs.Planned.{PlannedIs};
 ghost use Rattle.segment.specs.Parts.{pick, is_empty};
@@ -10,6 +9,7 @@ ghost use Rattle.row_segment.specs.Stream.{Lined, Stands, Looks, element_put, lo
 
 use emit::cells;
 use emit::cells::Written;
+use nest::Job;
 use plan::answers::{ElementPlan, Planned as PlannedSegment, ValueSource};
 use segment::Value;
 use spec::ids::{LoopId, RowId, Stretch, TableId};
@@ -49,19 +49,11 @@ pub struct Look {
 }
 
 // The line of planned segment i of a loop, which is s, and a row.
-pub fn line_of(
-    job: &[u8],
-    index: &[u16],
-    l: LoopId,
-    i: u32,
-    s: PlannedSegment,
-    t: TableId,
-    r: RowId,
-) -> Line
-    requires { Ready job.now index.now × (l.0 < 32) × PlannedIs job.now l.0 i s }
-    ensures { Lined job.now index.now result × (result.l ≡ l) × (result.i ≡ i) × (result.t ≡ t) × (result.r ≡ r) }
+pub fn line_of(job: Job, l: LoopId, i: u32, s: PlannedSegment, t: TableId, r: RowId) -> Line
+    requires { (l.0 < 32) × PlannedIs job.at.bytes.now l.0 i s }
+    ensures { Lined job.entry.at.bytes.now result × (result.l ≡ l) × (result.i ≡ i) × (result.t ≡ t) × (result.r ≡ r) }
 {
-    let id = spec::loops::occurrence(job, index, l, s.occurrence);
+    let id = spec::loops::occurrence(job.at, l, s.occurrence);
     Line {
         l,
         i,
@@ -97,13 +89,13 @@ pub fn seen(e: ElementPlan) -> Option<Planned>
 }
 
 // The first part from planned element k on, which stands at a place.
-pub fn next_part(job: &[u8], index: &[u16], x: Line, k: u32, at: usize) -> Look
-    requires { Lined job.now index.now x × Stands job.now x k at }
-    ensures { Looks job.now x k result }
+pub fn next_part(job: Job, x: Line, k: u32, at: usize) -> Look
+    requires { Lined job.at.bytes.now x × Stands job.at.bytes.now x k at }
+    ensures { Looks job.entry.at.bytes.now x k result }
 {
     let mut p = at;
     for i in k..x.count {
-        let e = plan::read::element_at(job, p);
+        let e = plan::read::element_at(job.at.bytes, p);
         p = e.next;
         if let Some(part) = seen(e) {
             return Look {
@@ -121,17 +113,17 @@ pub fn next_part(job: &[u8], index: &[u16], x: Line, k: u32, at: usize) -> Look
 }
 
 // The first part of all.
-pub fn first_part(job: &[u8], index: &[u16], x: Line) -> Look
-    requires { Lined job.now index.now x }
-    ensures { Looks job.now x 0 result }
+pub fn first_part(job: Job, x: Line) -> Look
+    requires { Lined job.at.bytes.now x }
+    ensures { Looks job.entry.at.bytes.now x 0 result }
 {
-    next_part(job, index, x, 0, x.first)
+    next_part(job, x, 0, x.first)
 }
 
 // The text of a part, and the reason why it has none.
-pub fn text_of(job: &[u8], index: &[u16], x: Line, p: Planned) -> Written
-    requires { Lined job.now index.now x }
-    ensures { Writes job.now result (outcome_of job.now x p) }
+pub fn text_of(job: Job, x: Line, p: Planned) -> Written
+    requires { Lined job.at.bytes.now x }
+    ensures { Writes job.entry.at.bytes.now result (outcome_of job.entry.at.bytes.now x p) }
 {
     let id = x.id;
     let t = x.t;
@@ -139,7 +131,7 @@ pub fn text_of(job: &[u8], index: &[u16], x: Line, p: Planned) -> Written
     let component = p.component;
     let source = p.source;
     match source {
-        Source::Cell(c) => cells::cell_text(job, index, id, t, r, p.element, component, c),
+        Source::Cell(c) => cells::cell_text(job, id, t, r, p.element, component, c),
         Source::Code(s) => cells::code_text(s),
     }
 }

@@ -1,76 +1,20 @@
 -- Steps taken by a loop: those done so far, and those still to come.
 use Prim.Native.Nat.{ℕ, ◌+◌, ◌<◌}
-use mathlib.Core.Path.{◌≡◌, refl, sym, ap, ◌∙◌}
-use mathlib.Core.List.{List, [], ◌∷◌, ◌++◌, map, append_assoc, append-nil}
+use mathlib.Core.Path.{◌≡◌, refl, sym, ◌∙◌}
+use mathlib.Core.List.{List, [], ◌++◌, map, append_assoc, append-nil}
 use native.Mathlib.Omega.{arith}
-use Rattle.std.specs.Prelude.{Option, None, Some}
-use lib.ListN.{length, length-set, length-map}
+use lib.ListN.{length, length-map}
 use Rattle.format.specs.Job.{Job}
-use Rattle.format.specs.Ask.{loop_of}
-use Rattle.nest.specs.Lists.{on}
 use Rattle.lent.specs.Fit.{cap}
-use Rattle.lent.proofs.Laws.{stored_length}
-use Rattle.walk.specs.Tour.{Step, enters, stop, opener, row_segment, fill, chunk, closer, segments_in}
+use Rattle.walk.specs.Tour.{Step, segments_in}
 use Rattle.walk.proofs.Counts.{segments_append}
 use Rattle.emit.specs.declared.state.State.{State}
 use Rattle.emit.specs.declared.state.Taken.{Taken}
-use Rattle.emit.specs.Fold as F
-use Rattle.emit.specs.Fold.{quiet, step_out, steps_out}
-use Rattle.emit.specs.Written.{words_of}
-use Rattle.emit.specs.Did.{mark_of, state_of, traced_words, stop_words, Did, Fit, Small, Took}
+use Rattle.emit.specs.Fold.{steps_out}
+use Rattle.emit.specs.Did.{state_of, Did, Fit, Small, Took}
 use Rattle.emit.proofs.DidLaws.{did_nothing, did_small}
 use Rattle.emit.proofs.TookLaws.{steps_none, did_steps}
 use Rattle.run.specs.Went.{Went}
-
--- ---- what was done keeps the lengths
-
-module _ {o : F.Out} {s r : State} {d d₁ g g₁ f f₁ p p₁ : List ℕ} (x : Did o s r d d₁ g g₁ f f₁ p p₁) where
-  pub same_document : length d₁ ≡ length d
-  same_document = stored_length o.bytes x.document
-
-  pub same_segments : length g₁ ≡ length g
-  same_segments = stored_length (traced_words o.segments) x.segments
-
-  pub same_findings : length f₁ ≡ length f
-  same_findings = stored_length (words_of o.findings) x.findings
-
-  pub same_stops : length p₁ ≡ length p
-  same_stops = stored_length (stop_words o.stops) x.stops
-
--- ---- and as many marks and numbers
-
-abbrev Wide : F.State → F.Out → Type 0
-Wide s o = (length o.state.high ≡ length s.high) × (length o.state.counter ≡ length s.counter)
-
-on_wide : {A : Type 0} (s : F.State) (x : Option A) (f : A → F.Out) (o : F.Out) → ((a : A) → Wide s (f a)) → Wide s o → Wide s (on x f o)
-on_wide s None f o p q = q
-on_wide s (Some a) f o p q = p a
-
-step_wide : (j : Job) (x : Step) (s : F.State) → Wide s (step_out j x s)
-unfolding step_out F.stop_out F.opener_out F.row_out F.fill_out F.chunk_out F.closer_out
-step_wide j (enters l) s = (refl, refl)
-step_wide j (stop l t r) s = (length-set s.high t _, refl)
-step_wide j (opener l) s = on_wide s (loop_of j l).control _ (quiet s) (λ c. (refl, length-set s.counter l _)) (refl, refl)
-step_wide j (row_segment l i t r) s = (refl, refl)
-step_wide j (fill l i t k r) s = (refl, refl)
-step_wide j (chunk l i t rs) s = (refl, refl)
-step_wide j (closer l o n m) s = on_wide s (loop_of j l).control _ (quiet s) (λ c. on_wide s (loop_of j l).end _ (quiet s) (λ k. (refl, refl)) (refl, refl)) (refl, refl)
-
-steps_wide : (j : Job) (xs : List Step) (s : F.State) → Wide s (steps_out j xs s)
-unfolding steps_out
-steps_wide j [] s = (refl, refl)
-steps_wide j (x ∷ xs) s =
-    let a = step_wide j x s in
-    let b = steps_wide j xs (step_out j x s).state in (b.0 ∙ a.0, b.1 ∙ a.1)
-
-module _ {s r : State} {d d₁ g g₁ f f₁ p p₁ : List ℕ} (j : Job) (xs : List Step) (x : Did (steps_out j xs (state_of s)) s r d d₁ g g₁ f f₁ p p₁) where
-  pub same_high : length r.high ≡ length s.high
-  unfolding state_of
-  same_high = sym (length-map r.high mark_of) ∙ ap (λ (z : F.State). length z.high) x.state ∙ (steps_wide j xs (state_of s)).0 ∙ length-map s.high mark_of
-
-  pub same_counter : length r.counter ≡ length s.counter
-  unfolding state_of
-  same_counter = ap (λ (z : F.State). length z.counter) x.state ∙ (steps_wide j xs (state_of s)).1
 
 -- a list is as long as what is made of it
 pub marks_long : (X Y : Type 0) (f : X → Y) (l : List X) (n : ℕ) → length (map f l) ≡ n → length l ≡ n
@@ -117,7 +61,7 @@ module _ {j : Job} {whole : List Step} {total : ℕ} {s t : State} {w n : ℕ} {
   }
 
   pub along_end : Along j whole total [] 0 s t w n d d₁ g g₁ f f₁ p p₁
-      → Went j whole total s (record { taken = record { state = t; written = w }; instances = n }) d d₁ g g₁ f f₁ p p₁
+      → Went j whole total s t (record { written = w; instances = n }) d d₁ g g₁ f f₁ p p₁
   unfolding segments_in
   along_end a = record { took = record { did = far_end j whole a.far; written = omega (arith, a.written) }; instances = omega (arith, a.instances) }
 

@@ -22,7 +22,6 @@ use Rattle.plan.specs.declared.answers.Source.{Source}
 use Rattle.nest.specs.Lists.{on}
 use Rattle.nest.specs.Outline as O
 use Rattle.nest.specs.Outline.{Outline, row_table, kind_of, loop_of, planned, has_occurrence, row_count}
-use Rattle.nest.specs.Found.{found_by}
 use Rattle.std.specs.Prelude.{Option, Some, None}
 use Rattle.nest.specs.Nest.{Row, row_of, repeat_rows}
 use Rattle.nest.specs.OfJob.{outline_of, kind_in, source_in}
@@ -33,52 +32,26 @@ use Rattle.walk.specs.declared.Context.{Context as Kept}
 use Rattle.walk.specs.Instances.{Context}
 use Rattle.walk.specs.Contexts.{context_by}
 use Rattle.walk.specs.Nested.{Sound}
-use Rattle.walk.specs.Tour.{Step, opener, row_segment, stop, closer, segments_in, own_row, stop_at, due_row, repeat_steps, from_source, segment_steps, opened, close_steps}
+use Rattle.walk.specs.Tour.{Step, opener, row_segment, stop, closer, segments_in, own_row, stop_at, repeat_steps, from_source, segment_steps, opened, close_steps}
 use Rattle.walk.proofs.TourLaws.{segment_unplanned}
 use Rattle.emit.specs.declared.state.Counts.{Counts}
 use Rattle.emit.specs.declared.state.State.{State}
-use Rattle.emit.specs.declared.state.Mark.{Mark}
+use Rattle.emit.specs.declared.state.Taken.{Taken}
 use Rattle.emit.specs.Fold.{steps_out, stop_out, opener_out, row_out, closer_out}
-use Rattle.emit.specs.Did.{no_mark, state_of, state_with, Did, DidCounts, DidMark, DidNumber, Small, Took, Within}
+use Rattle.emit.specs.Did.{Mark, state_of, state_with, Did, DidCounts, DidMark, DidNumber, Small, Took}
 use Rattle.emit.proofs.DidLaws.{did_mark, did_number}
 use Rattle.emit.proofs.TookLaws.{step_stop, step_opener, step_row, step_closer, did_step, took_none, took_one}
 use Rattle.repeats.specs.declared.Repeated.{Repeated}
 use Rattle.repeats.specs.Added.{Repeats}
 use Rattle.repeats.proofs.GoingLaws.{repeat_none}
-use Rattle.run.specs.declared.closing.Closed.{Closed}
 use Rattle.run.specs.declared.own.Owner.{Owner}
 use Rattle.std.proofs.lemmas.Option.{same_Some}
 use Rattle.run.specs.declared.segments.Due.{Due}
 use Rattle.run.specs.declared.segments.Due.TheVariants as due
-use Rattle.run.specs.Went.{owner_by, Gives, Closes}
+use Rattle.run.specs.Went.{owner_by, kind_steps, Gives}
 use Rattle.run.proofs.Reading.{source_is, table_small, rows_none}
 
--- ---- the row of a table
-
--- an answer of code, and what it stands for
-found_row : (x : Option ℕ) (r : RowId) → Some r ≡ found_by x → x ≡ Some r.0
-found_row None r e = absurd (let z : ◌≡◌ {A = ℕ} 0 1 = cc in omega arith)
-found_row (Some n) r e = let q : r ≡ record { 0 = n } = cc in ap (λ (i : RowId). Some i.0) (sym q)
-
-found_none : (x : Option ℕ) → None ≡ found_by x → x ≡ None
-found_none None e = refl
-found_none (Some n) e = absurd (let z : ◌≡◌ {A = ℕ} 0 1 = cc in omega arith)
-
-pub there : (x : Option ℕ) (f : Option RowId) (r : RowId) → f ≡ found_by x → f ≡ Some r → x ≡ Some r.0
-there x f r e q = found_row x r (sym q ∙ e)
-
-pub not_there : (x : Option ℕ) (f : Option RowId) → f ≡ found_by x → f ≡ None → x ≡ None
-not_there x f e q = found_none x (sym q ∙ e)
-
 -- ---- the row that opened an instance
-
-pub owner_there : (c : Kept) (t : TableId) (f : Option RowId) (r : RowId) → f ≡ found_by ((context_by c).row t.0) → f ≡ Some r
-    → Some (record { table = t.0; row = r.0 }) ≡ option_map (row_of t.0) ((context_by c).row t.0)
-owner_there c t f r e q = rw (there ((context_by c).row t.0) f r e q) refl
-
-pub owner_not : (c : Kept) (t : TableId) (f : Option RowId) → f ≡ found_by ((context_by c).row t.0) → f ≡ None
-    → None ≡ option_map (row_of t.0) ((context_by c).row t.0)
-owner_not c t f e q = rw (not_there ((context_by c).row t.0) f e q) refl
 
 module _ (j : Job) (l : ℕ) (c : Context) (k : P.Instances) (e : k ≡ (A.plan_of j l).instances) (n : Option ℕ) (q : n ≡ row_table (kind_in k)) where
   kind : kind_of (outline_of j) l ≡ kind_in k
@@ -92,7 +65,7 @@ module _ (j : Job) (l : ℕ) (c : Context) (k : P.Instances) (e : k ≡ (A.plan_
 
 -- its stop, of a state
 module _ (j : Job) (l : ℕ) {own : Option Row} (x : Option Owner) (e : owner_by x ≡ own) where
-  pub stops_there : {s : State} {m n : Mark} {k : Counts} {d g f f' p p' : List ℕ} (o : Owner) → x ≡ Some o → m ≡ get_or s.high o.table.0 no_mark → o.table.0 < length s.high
+  pub stops_there : {s : State} {m n : Mark} {k : Counts} {d g f f' p p' : List ℕ} (o : Owner) → x ≡ Some o → m ≡ get_or s.high o.table.0 None → o.table.0 < length s.high
       → DidMark o.table.0 (stop_out (outline_of j) l o.table.0 o.row.0) m n s.counts k d d g g f f' p p'
       → Did (steps_out j (stop_at l own) (state_of s)) s (state_with (set s.high o.table.0 n) s.counter k) d d g g f f' p p'
   stops_there {s} {m} o q em h y =
@@ -132,20 +105,6 @@ row_few {b} t r R h = omega (arith, rows_few (job_of b) t (few (job_of b) R.pass
 
 -- ---- what a planned segment gives, by its source
 
--- which of the kinds it is
-kind_number : Due → ℕ
-kind_number due.Opener = 0
-kind_number (due.Row t r) = 1
-kind_number (due.Repeat t p) = 2
-
-not_opener : (t : TableId) (p : RowId) → ◌≡◌ {A = Option Due} (Some due.Opener) (Some (due.Repeat t p)) → ⊥
-unfolding kind_number
-not_opener t p z = let y : ◌≡◌ {A = ℕ} 0 2 = ap kind_number (same_Some due.Opener (due.Repeat t p) z) in omega (arith, y)
-
-not_row : (t : TableId) (r : RowId) (u : TableId) (p : RowId) → ◌≡◌ {A = Option Due} (Some (due.Row t r)) (Some (due.Repeat u p)) → ⊥
-unfolding kind_number
-not_row t r u p z = let y : ◌≡◌ {A = ℕ} 1 2 = ap kind_number (same_Some (due.Row t r) (due.Repeat u p) z) in omega (arith, y)
-
 repeat_table_of : TableId → Due → TableId
 repeat_table_of t due.Opener = t
 repeat_table_of t (due.Row u r) = t
@@ -164,47 +123,11 @@ gives_nothing : (o : Outline) (l i : ℕ) (xs : List Step) → xs ≡ [] → Giv
 gives_nothing o l i xs e = record { steps = e; few = λ t p q. absurd (let y : ◌≡◌ {A = ℕ} 0 1 = cc in omega arith) }
 
 module _ (o : Outline) (l i : ℕ) where
-  -- the trigger of a loop with `control`
-  module _ (a : Bool) (e : a ≡ (loop_of o l).controlled) where
-    pub gives_opener : a ≡ true → Gives o l i (cond (loop_of o l).controlled (opener l ∷ []) []) (Some due.Opener)
-    gives_opener q = record { steps = rw (← e) (rw q refl); few = λ t p z. absurd (not_opener t p z) }
-
-    pub gives_no_opener : a ≡ false → Gives o l i (cond (loop_of o l).controlled (opener l ∷ []) []) None
-    gives_no_opener q = gives_nothing o l i _ (rw (← e) (rw q refl))
-
-  -- the segment of a row
-  module _ (t : TableId) (r : RowId) (a : Bool) (ea : a ≡ has_occurrence o l i) where
-    abbrev row : List Step
-    row = cond (has_occurrence o l i && due_row o l i t.0 r.0) (row_segment l i t.0 r.0 ∷ []) []
-
-    pub gives_row : (b : Bool) → b ≡ due_row o l i t.0 r.0 → a ≡ true → b ≡ true → Gives o l i row (Some (due.Row t r))
-    gives_row b eb qa qb = record { steps = rw (← ea, ← eb) (rw (qa, qb) refl); few = λ u p z. absurd (not_row t r u p z) }
-
-    pub gives_no_row : (b : Bool) → b ≡ due_row o l i t.0 r.0 → a ≡ true → b ≡ false → Gives o l i row None
-    gives_no_row b eb qa qb = gives_nothing o l i _ (rw (← ea, ← eb) (rw (qa, qb) refl))
-
-    pub row_nameless : a ≡ false → Gives o l i row None
-    row_nameless qa = gives_nothing o l i _ (rw (← ea) (rw qa refl))
-
-  module _ (t : TableId) (c : Context) (x : Option RowId) (e : x ≡ found_by (c.row t.0)) where
-    pub row_there : (r : RowId) (d : Option Due) → x ≡ Some r
-        → Gives o l i (cond (has_occurrence o l i && due_row o l i t.0 r.0) (row_segment l i t.0 r.0 ∷ []) []) d → Gives o l i (from_source o l i c (O.of_row t.0)) d
-    row_there r d q y = rw (there (c.row t.0) x r e q) y
-
-    pub row_gone : x ≡ None → Gives o l i (from_source o l i c (O.of_row t.0)) None
-    row_gone q = gives_nothing o l i _ (rw (not_there (c.row t.0) x e q) refl)
-
   -- the repeat segments of an instance that a row opened
   module _ (t : TableId) (c : Context) (a : Bool) (ea : a ≡ has_occurrence o l i) where
     module _ (x : Option Owner) (e : owner_by x ≡ own_row (kind_of o l) c) where
       gives_repeat : (w : Owner) → a ≡ true → x ≡ Some w → w.row.0 < 4096 → t.0 < 16 → Gives o l i (from_source o l i c (O.of_repeat t.0)) (Some (due.Repeat t w.row))
       gives_repeat w qa q h k = record { steps = rw (← ea, ← e) (rw (qa, q) refl); few = λ u p z. let y = same_repeat t w.row u p (same_Some _ _ z) in rw (← y.0, ← y.1) (h, k) }
-
-      pub ownerless : a ≡ true → x ≡ None → Gives o l i (from_source o l i c (O.of_repeat t.0)) None
-      ownerless qa q = gives_nothing o l i _ (rw (← ea, ← e) (rw (qa, q) refl))
-
-    pub repeat_nameless : a ≡ false → Gives o l i (from_source o l i c (O.of_repeat t.0)) None
-    repeat_nameless qa = gives_nothing o l i _ (rw (← ea) (rw qa refl))
 
 pub repeat_there : {b idx : List ℕ} (l i : ℕ) (t : TableId) (c : Kept) (a : Bool) (x : Option Owner) (w : Owner) → Ready b idx → Sound (outline_at b) (context_by c)
     → a ≡ has_occurrence (outline_at b) l i → owner_by x ≡ own_row (kind_of (outline_at b) l) (context_by c) → a ≡ true → x ≡ Some w → t.0 < 16
@@ -253,14 +176,8 @@ module _ (j : Job) {l i : ℕ} {xs : List Step} {x : Option Due} (w : Gives (out
   pub takes_nothing : {s : State} {d g f p : List ℕ} → x ≡ None → Small s → Took j xs s (record { state = s; written = 0 }) d d g g f f p p
   takes_nothing {s = s} q h = rw (w.steps, q) (took_none j s h)
 
-  pub takes_opener : {s : State} {a n : ℕ} {k : Counts} {d d' g g' f f' : List ℕ} → x ≡ Some due.Opener → a ≡ get_or s.counter l 0 → l < length s.counter
-      → ((p : List ℕ) → DidNumber l (opener_out j l) a n s.counts k d d' g g' f f' p p)
-      → (p : List ℕ) → Took j xs s (record { state = state_with s.high (set s.counter l n) k; written = 1 }) d d' g g' f f' p p
-  takes_opener {s = s} {a} q e h y p = rw (w.steps, q) (took_one j (opener l) 1 (opener_one l) (rw (step_opener j l (state_of s)) (did_number (opener_out j l) s l a e h (y p))))
-
-  pub takes_row : {n : Counts} {d d' g g' f f' : List ℕ} (s : State) (t : TableId) (r : RowId) → x ≡ Some (due.Row t r) → ((p : List ℕ) → DidCounts (row_out j l i t.0 r.0) s.counts n d d' g g' f f' p p)
-      → (p : List ℕ) → Took j xs s (record { state = state_with s.high s.counter n; written = 1 }) d d' g g' f f' p p
-  takes_row s t r q y p = rw (w.steps, q) (took_one j (row_segment l i t.0 r.0) 1 (row_one l i t.0 r.0) (rw (step_row j l i t.0 r.0 (state_of s)) (y p s.high s.counter)))
+  pub takes : {s : State} {r : Taken} {d d' g g' f f' p p' : List ℕ} (k : Due) → x ≡ Some k → Took j (kind_steps (outline_of j) l i k) s r d d' g g' f f' p p' → Took j xs s r d d' g g' f f' p p'
+  takes k q y = rw (w.steps, q) y
 
   module _ (t : TableId) (p : RowId) (q : x ≡ Some (due.Repeat t p)) where
     pub repeat_few : p.0 < 4096
@@ -272,10 +189,19 @@ module _ (j : Job) {l i : ℕ} {xs : List Step} {x : Option Due} (w : Gives (out
     pub repeat_table_lem : t.0 < 16
     repeat_table_lem = (w.few t p q).1
 
-    pub takes_repeat : {s : State} {m : Mark} {n : Repeated} {d d' g g' f f' v v' : List ℕ} → m ≡ get_or s.high t.0 no_mark → t.0 < length s.high
-        → Repeats j (repeat_steps (outline_of j) l i t.0 p.0) t.0 m s.counts n d d' g g' f f' v v'
-        → Took j xs s (record { state = state_with (set s.high t.0 n.mark) s.counter n.counts; written = n.written }) d d' g g' f f' v v'
-    takes_repeat {s} {m} e h y = rw (w.steps, q) (record { did = did_mark (steps_out j (repeat_steps (outline_of j) l i t.0 p.0)) s t.0 m e h y.did; written = y.written })
+pub trigger_took : {s : State} {a n : ℕ} {k : Counts} {d d' g g' f f' : List ℕ} (j : Job) (l : ℕ) → a ≡ get_or s.counter l 0 → l < length s.counter
+    → ((p : List ℕ) → DidNumber l (opener_out j l) a n s.counts k d d' g g' f f' p p)
+    → (p : List ℕ) → Took j (opener l ∷ []) s (record { state = state_with s.high (set s.counter l n) k; written = 1 }) d d' g g' f f' p p
+trigger_took {s} {a} j l e h y p = took_one j (opener l) 1 (opener_one l) (rw (step_opener j l (state_of s)) (did_number (opener_out j l) s l a e h (y p)))
+
+pub row_took : {n : Counts} {d d' g g' f f' : List ℕ} (j : Job) (l i t r : ℕ) (s : State) → ((p : List ℕ) → DidCounts (row_out j l i t r) s.counts n d d' g g' f f' p p)
+    → (p : List ℕ) → Took j (row_segment l i t r ∷ []) s (record { state = state_with s.high s.counter n; written = 1 }) d d' g g' f f' p p
+row_took j l i t r s y p = took_one j (row_segment l i t r) 1 (row_one l i t r) (rw (step_row j l i t r (state_of s)) (y p s.high s.counter))
+
+pub repeat_took : {s : State} {m : Mark} {n : Repeated} {d d' g g' f f' v v' : List ℕ} (j : Job) (xs : List Step) (t : ℕ) → m ≡ get_or s.high t None → t < length s.high
+    → Repeats j xs t m s.counts n d d' g g' f f' v v'
+    → Took j xs s (record { state = state_with (set s.high t n.mark) s.counter n.counts; written = n.written }) d d' g g' f f' v v'
+repeat_took {s} {m} j xs t e h y = record { did = did_mark (steps_out j xs) s t m e h y.did; written = y.written }
 
 -- ---- the closer
 
@@ -283,25 +209,19 @@ closer_one : (l : ℕ) (o : Bool) (n m : ℕ) → 1 ≡ segments_in (closer l o 
 unfolding segments_in
 closer_one l o n m = refl
 
-module _ (j : Job) (l number : ℕ) (s : Counts) (children count : ℕ) (a : Bool) (ea : a ≡ ((loop_of (outline_of j) l).ends && (loop_of (outline_of j) l).controlled)) where
-  pub takes_closer : {n : Counts} {d d' g g' : List ℕ} (o : Bool) → o ≡ opened (outline_of j) l → a ≡ true
-      → ((f p : List ℕ) → DidNumber l (closer_out j l o children (count + 1)) number number s n d d' g g' f f p p)
-      → (body : List Step) (f p : List ℕ) → count ≡ segments_in body → Closes j (close_steps (outline_of j) l children body) l number s (record { counts = n; written = 1 }) d d' g g' f f p p
+module _ (j : Job) (l children count : ℕ) (a : Bool) (ea : a ≡ ((loop_of (outline_of j) l).ends && (loop_of (outline_of j) l).controlled)) where
+  pub takes_closer : {s : State} {n : Counts} {number : ℕ} {d d' g g' : List ℕ} (o : Bool) → o ≡ opened (outline_of j) l → a ≡ true → number ≡ get_or s.counter l 0 → l < length s.counter
+      → ((f p : List ℕ) → DidNumber l (closer_out j l o children (count + 1)) number number s.counts n d d' g g' f f p p)
+      → (body : List Step) (f p : List ℕ) → count ≡ segments_in body
+      → Took j (close_steps (outline_of j) l children body) s (record { state = state_with s.high s.counter n; written = 1 }) d d' g g' f f p p
   unfolding close_steps
-  takes_closer o eo qa x body f p ec =
+  takes_closer {s} {n} {number} {d} {d'} {g} {g'} o eo qa e h x body f p ec =
+      let y : Did (closer_out j l o children (count + 1) (state_of s)) s (state_with s.high s.counter n) d d' g g' f f p p = rw (e, set-get_or s.counter l 0) at (did_number (closer_out j l o children (count + 1)) s l number e h (x f p)) in
       rw (← ea, ← eo, ← ec)
       (rw (qa, ← add-one count)
-      (record {
-        did = λ high counter h. did_step j (closer l o children (count + 1)) (rw (step_closer j l o children (count + 1) (state_of (state_with high (set counter l number) s))) (x f p high counter h));
-        written = closer_one l o children (count + 1);
-      }))
+      (took_one j (closer l o children (count + 1)) 1 (closer_one l o children (count + 1)) (rw (step_closer j l o children (count + 1) (state_of s)) y)))
 
-  pub leaves_closer : {d g : List ℕ} → a ≡ false → Within s
-      → (body : List Step) (f p : List ℕ) → count ≡ segments_in body → Closes j (close_steps (outline_of j) l children body) l number s (record { counts = s; written = 0 }) d d g g f f p p
-  unfolding close_steps segments_in
-  leaves_closer qa h body f p ec = rw (← ea) (rw qa (record { did = λ high counter k. (took_none j (state_with high (set counter l number) s) h).did; written = refl }))
-
--- what a closer came to, of a state
-pub took_closer : {d d₁ g g₁ f f₁ p p₁ : List ℕ} (j : Job) (xs : List Step) (l a : ℕ) (s : State) (r : Closed) → a ≡ get_or s.counter l 0 → l < length s.counter
-    → Closes j xs l a s.counts r d d₁ g g₁ f f₁ p p₁ → Took j xs s (record { state = state_with s.high s.counter r.counts; written = r.written }) d d₁ g g₁ f f₁ p p₁
-took_closer j xs l a s r e h x = record { did = rw (e, set-get_or s.counter l 0) at (x.did s.high s.counter h); written = x.written }
+  pub leaves_closer : {s : State} {d g : List ℕ} → a ≡ false → Small s
+      → (body : List Step) (f p : List ℕ) → count ≡ segments_in body → Took j (close_steps (outline_of j) l children body) s (record { state = s; written = 0 }) d d g g f f p p
+  unfolding close_steps
+  leaves_closer {s} qa h body f p ec = rw (← ea) (rw qa (took_none j s h))

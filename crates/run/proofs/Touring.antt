@@ -5,6 +5,7 @@ use mathlib.Core.List.{List, ◌++◌}
 use native.Mathlib.Omega.{arith}
 use lib.ListN.{length, get_or, drop}
 use Rattle.format.specs.Job.{Job}
+use Rattle.format.specs.Passed.{Passed}
 use Rattle.format.specs.Sections.{job_of}
 use Rattle.lent.specs.Fit.{cap}
 use Rattle.nest.specs.Lists.{each}
@@ -15,7 +16,6 @@ use Rattle.nest.proofs.Scan.{each_at, each_past}
 use Rattle.walk.specs.declared.Context.{Context as Kept}
 use Rattle.walk.specs.Instances.{outside}
 use Rattle.walk.specs.Contexts.{context_by, kept_outside}
-use Rattle.walk.specs.Nested.{Nested}
 use Rattle.walk.specs.Tour.{Step, segments_in, visits, tour_to, tour}
 use Rattle.walk.proofs.TourLaws.{tour_roots}
 use Rattle.walk.proofs.Counts.{segments_append}
@@ -34,13 +34,12 @@ unfolding outline_of
 roots_are j = refl
 
 -- a loop of the list of roots, outside of all loops
-pub walks_root : {b idx n : List ℕ} {s : State} (c : Kept) (k l : ℕ) → c ≡ kept_outside → Nested b idx n → Small s → k < length (job_of b).spec.roots → l ≡ get_or (job_of b).spec.roots k 0
-    → Walks b idx n s l c
-walks_root {b} c k l e N h q y = record {
-  nested = N;
+pub walks_root : {b : List ℕ} {s : State} (c : Kept) (k l : ℕ) → c ≡ kept_outside → Passed b → Small s → k < length (job_of b).spec.roots → l ≡ get_or (job_of b).spec.roots k 0
+    → Walks (outline_at b) s l c
+walks_root {b} c k l e w h q y = record {
   small = h;
   sound = rw (e, stands_outside) (sound_outside (outline_at b));
-  loop = rw y (root_small b N.ready.passed k q);
+  loop = rw y (root_small b w k q);
 }
 
 module _ (j : Job) (h : ℕ) where
@@ -77,6 +76,6 @@ module _ (j : Job) (h : ℕ) where
             segments_append (visits (outline_of j) h l (context_by c)) (each one (drop (k + 1) (outline_of j).roots)),
           )
 
-      pub tour_next : {v : Visited} {d₂ g₂ f₂ p₂ : List ℕ} {n : ℕ} → Went j (visits (outline_of j) h l (context_by c)) n t v d₁ d₂ g₁ g₂ f₁ f₂ p₁ p₂ → Fit d g f p
-          → RootsTo (k + 1) s v.taken.state d d₂ g g₂ f f₂ p p₂
+      pub tour_next : {u : State} {v : Visited} {d₂ g₂ f₂ p₂ : List ℕ} {n : ℕ} → Went j (visits (outline_of j) h l (context_by c)) n t u v d₁ d₂ g₁ g₂ f₁ f₂ p₁ p₂ → Fit d g f p
+          → RootsTo (k + 1) s u d d₂ g g₂ f f₂ p p₂
       tour_next w fit = far_next j (tour_to (outline_of j) h) (visits (outline_of j) h l (context_by c)) _ fit split w.took.did

@@ -10,7 +10,7 @@ use Rattle.format.specs.Layout as L
 use Rattle.format.specs.Job.{Job}
 use Rattle.format.specs.Sections.{job_of}
 use Rattle.format.specs.Ask as A
-use Rattle.format.specs.Passed.{few}
+use Rattle.format.specs.Passed.{Passed, few}
 use Rattle.lent.specs.Fit.{cap}
 use Rattle.spec.specs.declared.ids.LoopId.{LoopId}
 use Rattle.plan.specs.Answers.{item_of}
@@ -24,7 +24,6 @@ use Rattle.nest.specs.Ready.{outline_at}
 use Rattle.nest.proofs.Scan.{each_at, each_past}
 use Rattle.nest.proofs.Placing.{rows_few}
 use Rattle.walk.specs.Instances.{Context, instances}
-use Rattle.walk.specs.Nested.{Nested}
 use Rattle.walk.specs.Tour.{Step, enters, segments_in, own_row, stop_at, segment_steps, item_steps, body_steps, children, close_steps, instance_steps, visits}
 use Rattle.walk.proofs.TourLaws.{steps_of, instance_steps_lem, no_item, children_from, children_all, children_segment, children_loop, children_end, visits_deep, inst_deep}
 use Rattle.walk.proofs.Counts.{segments_append}
@@ -39,9 +38,6 @@ use Rattle.run.specs.Went.{Went, item_loop, item_count}
 use Rattle.nest.proofs.Bridge.{order_length, order_item}
 use Rattle.run.proofs.Few.{instances_few, children_few}
 use Rattle.run.proofs.Along.{Along, along_none, along_next, along_end, along_room}
-
-pub went_as : {j : Job} {xs : List Step} {n : ℕ} {s : State} {r v : Visited} {d d₁ g g₁ f f₁ p p₁ : List ℕ} → r ≡ v → Went j xs n s v d d₁ g g₁ f f₁ p p₁ → Went j xs n s r d d₁ g g₁ f f₁ p p₁
-went_as e x = rw e x
 
 -- a count that is that of some steps
 pub within : {w : ℕ} (xs : List Step) → w ≡ segments_in xs → segments_in xs < cap → w < cap
@@ -91,19 +87,19 @@ module _ (j : Job) (h l : ℕ) (c : Context) where
   pub items_within : segments_in whole < cap → segments_in its < cap
   items_within r = omega (arith, whole_count)
 
-  module _ {b : State} {v : Visited} {last : Taken} {d d₁ d₂ g g₁ g₂ f₁ f₂ p₁ p₂ : List ℕ}
-      (w : Went j its (children (instances (outline_of j) h) (outline_of j) l c) b v d d₁ g g₁ f₁ f₂ p₁ p₂)
-      (x : (xs : List Step) (f p : List ℕ) → v.taken.written ≡ segments_in xs → Took j (close_steps (outline_of j) l v.instances xs) v.taken.state last d₁ d₂ g₁ g₂ f f p p) where
-    closed : Took j closing v.taken.state last d₁ d₂ g₁ g₂ f₂ f₂ p₂ p₂
+  module _ {b t : State} {v : Visited} {last : Taken} {d d₁ d₂ g g₁ g₂ f₁ f₂ p₁ p₂ : List ℕ}
+      (w : Went j its (children (instances (outline_of j) h) (outline_of j) l c) b t v d d₁ g g₁ f₁ f₂ p₁ p₂)
+      (x : (xs : List Step) (f p : List ℕ) → v.written ≡ segments_in xs → Took j (close_steps (outline_of j) l v.instances xs) t last d₁ d₂ g₁ g₂ f f p p) where
+    closed : Took j closing t last d₁ d₂ g₁ g₂ f₂ f₂ p₂ p₂
     closed = rw w.instances at (x body f₂ p₂ (w.took.written ∙ sym body_count))
 
-    pub instance_within : segments_in whole < cap → v.taken.written + last.written < cap
+    pub instance_within : segments_in whole < cap → v.written + last.written < cap
     instance_within r = omega (arith, whole_count, w.took.written, closed.written)
 
     pub instance_took : {s : State} {f p : List ℕ} → Fit d g f p → Did (steps_out j (stop_at l (own_row (kind_of (outline_of j) l) c)) (state_of s)) s b d d g g f f₁ p p₁
-        → Took j whole s (record { state = last.state; written = v.taken.written + last.written }) d d₂ g g₂ f f₂ p p₂
+        → Took j whole s (record { state = last.state; written = v.written + last.written }) d d₂ g g₂ f f₂ p p₂
     instance_took {s} {f} {p} fit e =
-        let y : Did (steps_out j body (state_of s)) s v.taken.state d d₁ g g₁ f f₂ p p₂ = rw body_is (did_steps j (stop_at l (own_row (kind_of (outline_of j) l) c)) its fit e w.took.did) in
+        let y : Did (steps_out j body (state_of s)) s t d d₁ g g₁ f f₂ p p₂ = rw body_is (did_steps j (stop_at l (own_row (kind_of (outline_of j) l) c)) its fit e w.took.did) in
         let z : Did (steps_out j (body ++ closing) (state_of s)) s last.state d d₂ g g₂ f f₂ p p₂ = did_steps j body closing fit y closed.did in
         record { did = rw (whole_is, enters_first j l (body ++ closing) (state_of s)) z; written = omega (arith, whole_count, w.took.written, closed.written) }
 
@@ -118,11 +114,11 @@ module _ (o : Outline) (h l : ℕ) (c : Context) (x : asked.Item) where
 
   module _ {j : Job} {s : State} {d d₁ g g₁ f f₁ p p₁ : List ℕ} where
     segment_went : {r : Taken} (i : ℕ) → x ≡ item.Segment i → Took j (segment_steps o l c i) s r d d₁ g g₁ f f₁ p p₁
-        → Went j steps (item_count (instances o h) c (item_in (item_of x))) s (record { taken = r; instances = 0 }) d d₁ g g₁ f f₁ p p₁
+        → Went j steps (item_count (instances o h) c (item_in (item_of x))) s r.state (record { written = r.written; instances = 0 }) d d₁ g g₁ f f₁ p p₁
     segment_went i e t = rw e (record { took = t; instances = refl })
 
-    loop_went : {r : Visited} (k : LoopId) → x ≡ item.Loop k → Went j (visits o h k.0 c) (length (instances o h k.0 c)) s r d d₁ g g₁ f f₁ p p₁
-        → Went j steps (item_count (instances o h) c (item_in (item_of x))) s r d d₁ g g₁ f f₁ p p₁
+    loop_went : {t : State} {r : Visited} (k : LoopId) → x ≡ item.Loop k → Went j (visits o h k.0 c) (length (instances o h k.0 c)) s t r d d₁ g g₁ f f₁ p p₁
+        → Went j steps (item_count (instances o h) c (item_in (item_of x))) s t r d d₁ g g₁ f f₁ p p₁
     loop_went k e t = rw e t
 
 -- ---- the items of an order, from place k on
@@ -148,7 +144,7 @@ module _ (j : Job) (h l : ℕ) (c : Context) where
 
   module _ {s t : State} {w n : ℕ} {d d₁ g g₁ f f₁ p p₁ : List ℕ} (count k : ℕ) (e : count ≡ length (A.order_of j l)) (a : ItemsTo k s t w n d d₁ g g₁ f f₁ p p₁) where
     pub items_end : count ≤ k
-        → Went j (each one (order_of (outline_of j) l)) (children inner (outline_of j) l c) s (record { taken = record { state = t; written = w }; instances = n }) d d₁ g g₁ f f₁ p p₁
+        → Went j (each one (order_of (outline_of j) l)) (children inner (outline_of j) l c) s t (record { written = w; instances = n }) d d₁ g g₁ f f₁ p p₁
     items_end b =
         let q : length (order_of (outline_of j) l) ≤ k = omega (arith, order_length j l, e) in
         along_end (rw (each_past one (order_of (outline_of j) l) k q, children_end inner (outline_of j) l c k q) at a)
@@ -164,11 +160,11 @@ module _ (j : Job) (h l : ℕ) (c : Context) where
       item_within : segments_in (each one (order_of (outline_of j) l)) < cap → segments_in (one (item_in (item_of x))) < cap
       item_within r = omega (arith, along_room (one (item_in (item_of x))) _ _ split r)
 
-      module _ {v : Visited} {d₂ g₂ f₂ p₂ : List ℕ} (u : Went j (one (item_in (item_of x))) (item_count inner c (item_in (item_of x))) t v d₁ d₂ g₁ g₂ f₁ f₂ p₁ p₂) where
-        written_within : segments_in (each one (order_of (outline_of j) l)) < cap → w + v.taken.written < cap
+      module _ {z : State} {v : Visited} {d₂ g₂ f₂ p₂ : List ℕ} (u : Went j (one (item_in (item_of x))) (item_count inner c (item_in (item_of x))) t z v d₁ d₂ g₁ g₂ f₁ f₂ p₁ p₂) where
+        written_within : segments_in (each one (order_of (outline_of j) l)) < cap → w + v.written < cap
         written_within r = omega (arith, along_room (one (item_in (item_of x))) _ _ split r, u.took.written)
 
-        items_next : Fit d g f p → ItemsTo (k + 1) s v.taken.state (w + v.taken.written) (n + v.instances) d d₂ g g₂ f f₂ p p₂
+        items_next : Fit d g f p → ItemsTo (k + 1) s z (w + v.written) (n + v.instances) d d₂ g g₂ f f₂ p p₂
         items_next fit = rw u.instances (along_next (one (item_in (item_of x))) _ (item_count inner c (item_in (item_of x))) _ fit split u.took)
 
       -- a planned segment
@@ -183,22 +179,19 @@ module _ (j : Job) (h l : ℕ) (c : Context) where
           pub segment_next : Fit d g f p → ItemsTo (k + 1) s r.state (w + r.written) n d d₂ g g₂ f f₂ p p₂
           segment_next fit = let q : n + 0 ≡ n = omega arith in rw q at (items_next (segment_went (outline_of j) h l c x i z u) fit)
 
-        pub segment_passed : Took j (segment_steps (outline_of j) l c i) t (record { state = t; written = 0 }) d₁ d₁ g₁ g₁ f₁ f₁ p₁ p₁ → Fit d g f p → ItemsTo (k + 1) s t w n d d₁ g g₁ f f₁ p p₁
-        segment_passed u fit = let q : w + 0 ≡ w = omega arith in rw q at (segment_next u fit)
-
       -- a child loop
       module _ (m : LoopId) (z : x ≡ item.Loop m) where
         pub loop_within : segments_in (each one (order_of (outline_of j) l)) < cap → segments_in (visits (outline_of j) h m.0 c) < cap
         loop_within r = rw z at (item_within r)
 
-        module _ {v : Visited} {d₂ g₂ f₂ p₂ : List ℕ} (u : Went j (visits (outline_of j) h m.0 c) (length (inner m.0 c)) t v d₁ d₂ g₁ g₂ f₁ f₂ p₁ p₂) where
-          pub loop_written : segments_in (each one (order_of (outline_of j) l)) < cap → w + v.taken.written < cap
+        module _ {a₂ : State} {v : Visited} {d₂ g₂ f₂ p₂ : List ℕ} (u : Went j (visits (outline_of j) h m.0 c) (length (inner m.0 c)) t a₂ v d₁ d₂ g₁ g₂ f₁ f₂ p₁ p₂) where
+          pub loop_written : segments_in (each one (order_of (outline_of j) l)) < cap → w + v.written < cap
           loop_written = written_within (loop_went (outline_of j) h l c x m z u)
 
           pub loop_count : n + v.instances ≤ children inner (outline_of j) l c
           loop_count = omega (arith, split.instances, (loop_went (outline_of j) h l c x m z u).instances)
 
-          pub loop_next : Fit d g f p → ItemsTo (k + 1) s v.taken.state (w + v.taken.written) (n + v.instances) d d₂ g g₂ f f₂ p p₂
+          pub loop_next : Fit d g f p → ItemsTo (k + 1) s a₂ (w + v.written) (n + v.instances) d d₂ g g₂ f f₂ p p₂
           loop_next = items_next (loop_went (outline_of j) h l c x m z u)
 
 -- ---- the instances of a loop
@@ -217,7 +210,7 @@ module _ (j : Job) (h l : ℕ) where
   VisitsTo cs left = Along j (each_of cs) (length cs) (each_of left) (length left)
 
   pub visits_low : {s : State} {d g f p : List ℕ} (c : Context) → h ≡ 0 → Small s
-      → Went j (visits (outline_of j) h l c) (length (instances (outline_of j) h l c)) s (record { taken = record { state = s; written = 0 }; instances = 0 }) d d g g f f p p
+      → Went j (visits (outline_of j) h l c) (length (instances (outline_of j) h l c)) s s (record { written = 0; instances = 0 }) d d g g f f p p
   visits_low {s = s} c z q = rw z (rw (visits_deep (outline_of j) l c, inst_deep (outline_of j) l c) (record { took = took_none j s q; instances = refl }))
 
 module _ (j : Job) (h l : ℕ) (c : Context) (cs : List Context) (e : cs ≡ instances (outline_of j) h l c) where
@@ -232,7 +225,7 @@ module _ (j : Job) (h l : ℕ) (c : Context) (cs : List Context) (e : cs ≡ ins
     visits_within r = rw visits_are at r
 
     pub visits_end : {s t : State} {w n : ℕ} {d d₁ g g₁ f f₁ p p₁ : List ℕ} (left : List Context) → left ≡ [] → VisitsTo j h l cs left s t w n d d₁ g g₁ f f₁ p p₁
-        → Went j (visits (outline_of j) h l c) (length (instances (outline_of j) h l c)) s (record { taken = record { state = t; written = w }; instances = n }) d d₁ g g₁ f f₁ p p₁
+        → Went j (visits (outline_of j) h l c) (length (instances (outline_of j) h l c)) s t (record { written = w; instances = n }) d d₁ g g₁ f f₁ p p₁
     visits_end left y a = rw (visits_are, ← e) (along_end (rw y at a))
 
   module _ {s t : State} {w n : ℕ} {d d₁ g g₁ f f₁ p p₁ : List ℕ} (left rest : List Context) (x : Context) (y : left ≡ x ∷ rest) (a : VisitsTo j h l cs left s t w n d d₁ g g₁ f f₁ p p₁) where
@@ -257,9 +250,9 @@ module _ (j : Job) (h l : ℕ) (c : Context) (cs : List Context) (e : cs ≡ ins
 
 -- ---- few instances
 
-module _ {b idx n : List ℕ} (N : Nested b idx n) (h l : ℕ) (c : Context) where
+module _ {b : List ℕ} (w : Passed b) (h l : ℕ) (c : Context) where
   rows_in_lem : (t : ℕ) → row_count (outline_at b) t ≤ 4096
-  rows_in_lem t = rows_few (job_of b) t (few (job_of b) N.ready.passed.limits).rows
+  rows_in_lem t = rows_few (job_of b) t (few (job_of b) w.limits).rows
 
   pub few_instances : length (instances (outline_at b) h l c) ≤ 4096
   few_instances = instances_few (outline_at b) 4096 (omega arith) rows_in_lem h l c

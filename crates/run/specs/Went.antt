@@ -5,32 +5,27 @@ use Rattle.spec.specs.declared.ids.RowId.{RowId}
 use Rattle.spec.specs.declared.ids.TableId.{TableId}
 use Rattle.nest.specs.Outline.{Outline, Item, segment, loop}
 use Rattle.nest.specs.Nest.{Row}
-use Rattle.nest.specs.Ready.{outline_at}
 use Rattle.walk.specs.declared.Context.{Context as Kept}
 use Rattle.walk.specs.Instances.{Context}
 use Rattle.walk.specs.Contexts.{context_by}
-use Rattle.walk.specs.Nested.{Nested, Sound}
-use Rattle.walk.specs.Tour.{Step, opener, row_segment, segments_in, repeat_steps}
-use Rattle.emit.specs.declared.state.Counts.{Counts}
+use Rattle.walk.specs.Nested.{Sound}
+use Rattle.walk.specs.Tour.{Step, opener, row_segment, repeat_steps}
 use Rattle.emit.specs.declared.state.State.{State}
-use Rattle.emit.specs.Fold.{steps_out}
-use Rattle.emit.specs.Did.{DidNumber, Small, Took}
+use Rattle.emit.specs.Did.{Small, Took}
 use Rattle.run.specs.declared.Visited.{Visited}
-use Rattle.run.specs.declared.closing.Closed.{Closed}
 use Rattle.run.specs.declared.own.Owner.{Owner}
 use Rattle.run.specs.declared.segments.Due.{Due}
 use Rattle.run.specs.declared.segments.Due.TheVariants as due
 
--- a job that passed with its index and nest's array, a state whose counts are within the cap, a context whose rows are there, and a loop of the job
-pub record Walks (b idx n : List ℕ) (s : State) (l : ℕ) (c : Kept) : Type 0 where
-  pub nested : Nested b idx n
+-- a state whose counts are within the cap, a context whose rows are there, and a loop by its number
+pub record Walks (o : Outline) (s : State) (l : ℕ) (c : Kept) : Type 0 where
   pub small : Small s
-  pub sound : Sound (outline_at b) (context_by c)
+  pub sound : Sound o (context_by c)
   pub loop : l < 32
 
--- these steps were taken from the state s on, with n instances of the loops directly below
-pub record Went (j : Job) (xs : List Step) (n : ℕ) (s : State) (r : Visited) (d d' g g' f f' p p' : List ℕ) : Type 0 where
-  pub took : Took j xs s r.taken d d' g g' f f' p p'
+-- these steps were taken from the state s to the state t, with n instances of the loops directly below
+pub record Went (j : Job) (xs : List Step) (n : ℕ) (s t : State) (r : Visited) (d d' g g' f f' p p' : List ℕ) : Type 0 where
+  pub took : Took j xs s (record { state = t; written = r.written }) d d' g g' f f' p p'
   pub instances : r.instances ≡ n
 
 -- the loop that an item enters
@@ -62,8 +57,3 @@ due_steps o l i (Some x) = kind_steps o l i x
 pub record Gives (o : Outline) (l i : ℕ) (xs : List Step) (x : Option Due) : Type 0 where
   pub steps : xs ≡ due_steps o l i x
   pub few : (t : TableId) (p : RowId) → x ≡ Some (due.Repeat t p) → (p.0 < 4096) × (t.0 < 16)
-
--- these steps were taken from the counts s on, where the next number of loop l is a
-pub record Closes (j : Job) (xs : List Step) (l a : ℕ) (s : Counts) (r : Closed) (d d' g g' f f' p p' : List ℕ) : Type 0 where
-  pub did : DidNumber l (steps_out j xs) a a s r.counts d d' g g' f f' p p'
-  pub written : r.written ≡ segments_in xs

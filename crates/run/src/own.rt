@@ -1,21 +1,20 @@
 // The row that opened an instance of a `Rows` loop.
 ghost use Rattle.std.specs.Prelude.{◌≡◌, List, ℕ, ◌<◌};
 ghost use Rattle.std.specs.Option.{option_map};
-ghost use Rattle.format.specs.Sections.{job_of};
 ghost use Rattle.nest.specs.Found.{found_by};
 ghost use Rattle.nest.specs.Outline.{kind_of};
 ghost use Rattle.nest.specs.Nest.{row_of};
-ghost use Rattle.nest.specs.Ready.{Ready, outline_at};
 ghost use Rattle.walk.specs.Contexts.{context_by};
-ghost use Rattle.walk.specs.Nested.{Nested, Sound};
 ghost use Rattle.walk.specs.Tour.{own_row, stop_at};
 ghost use Rattle.emit.specs.Fold.{steps_out};
-ghost use Rattle.emit.specs.Did.{state_of, Did, Small};
-ghost use Rattle.run.specs.Went.{owner_by};
+ghost use Rattle.emit.specs.Did.{state_of, Did};
+ghost use Rattle.run.specs.Went.{owner_by, Walks};
+ghost use Rattle.nest.specs.Job.{outline_by, job_by};
 
 use emit::state::State;
+use nest::Job;
 use spec::ids::{LoopId, RowId, TableId};
-use walk::Context;
+use walk::{Context, Nest};
 
 // The row that opened an instance.
 #[derive(Clone, Copy)]
@@ -45,11 +44,11 @@ fn owner_in(c: Context, t: TableId) -> Option<Owner>
 }
 
 // The row that opened an instance of loop l.
-pub fn own_row(job: &[u8], index: &[u16], l: LoopId, c: Context) -> Option<Owner>
-    requires { Ready job.now index.now × (l.0 < 32) }
-    ensures { owner_by result ≡ own_row (kind_of (outline_at job.now) l.0) (context_by c) }
+pub fn own_row(job: Job, l: LoopId, c: Context) -> Option<Owner>
+    requires { l.0 < 32 }
+    ensures { owner_by result ≡ own_row (kind_of (outline_by job.entry) l.0) (context_by c) }
 {
-    let kind = plan::planned::instances(job, index, l);
+    let kind = plan::planned::instances(job.at, l);
     let table = nest::hang::row_table(kind);
     match table {
         Some(t) => owner_in(c, TableId(t)),
@@ -59,25 +58,21 @@ pub fn own_row(job: &[u8], index: &[u16], l: LoopId, c: Context) -> Option<Owner
 
 // An instance of a `Rows` loop stops at the row that opened it.
 pub fn enter_own(
-    job: &[u8],
-    index: &[u16],
-    nest: &[u32],
+    nest: Nest,
     findings: &mut [u64],
     stops: &mut [u64],
     s: &mut State,
     l: LoopId,
     c: Context,
 )
-    requires { Nested job.now index.now nest.now × Small s.old × Sound (outline_at job.now) (context_by c) × (l.0 < 32) }
-    ensures { (d g : List ℕ) → Did (steps_out (job_of job.now) (stop_at l.0 (own_row (kind_of (outline_at job.now) l.0) (context_by c))) (state_of s.old)) s.old s.new d d g g
+    requires { Walks (outline_by nest.job) s.old l.0 c }
+    ensures { (d g : List ℕ) → Did (steps_out (job_by nest.entry.job) (stop_at l.0 (own_row (kind_of (outline_by nest.entry.job) l.0) (context_by c))) (state_of s.old)) s.old s.new d d g g
         findings.old findings.new stops.old stops.new }
 {
-    if let Some(own) = own_row(job, index, l, c) {
+    if let Some(own) = own_row(nest.job, l, c) {
         let i = own.table.0 as usize;
         let m = s.high[i];
-        let e = enter::enter(
-            job, index, nest, findings, stops, m, s.counts, l, own.table, own.row,
-        );
+        let e = enter::enter(nest, findings, stops, m, s.counts, l, own.table, own.row);
         s.high[i] = e.mark;
         s.counts = e.counts;
     }

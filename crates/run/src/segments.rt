@@ -2,13 +2,14 @@
 ghost use Rattle.std.specs.Prelude.{◌≡◌, cond, ◌&&◌, [], ◌∷◌, ℕ, ◌<◌};
 ghost use Rattle.nest.specs.Outline.{of_row, of_repeat, loop_of, has_occurrence};
 ghost use Rattle.plan.specs.Planned.{PlannedIs};
-ghost use Rattle.nest.specs.Ready.{Ready, outline_at};
 ghost use Rattle.walk.specs.Contexts.{context_by};
 ghost use Rattle.walk.specs.Nested.{Sound};
 ghost use Rattle.walk.specs.Tour.{opener, row_segment, due_row, from_source, segment_steps};
 ghost use Rattle.run.specs.Went.{Gives};
+ghost use Rattle.nest.specs.Job.{outline_by};
 
 use crate::own;
+use nest::Job;
 use plan::answers::{Planned, Source};
 use spec::ids::{ControlRule, LoopId, RowId, TableId};
 use walk::Context;
@@ -22,11 +23,10 @@ pub enum Due {
 }
 
 // Whether a loop has `control`.
-pub fn controlled(job: &[u8], index: &[u16], l: LoopId) -> bool
-    requires { Ready job.now index.now }
-    ensures { result ≡ (loop_of (outline_at job.now) l.0).controlled }
+pub fn controlled(job: Job, l: LoopId) -> bool
+    ensures { result ≡ (loop_of (outline_by job.entry) l.0).controlled }
 {
-    let rule = spec::loops::control(job, index, l);
+    let rule = spec::loops::control(job.at, l);
     match rule {
         Some(_) => true,
         None => false,
@@ -34,31 +34,22 @@ pub fn controlled(job: &[u8], index: &[u16], l: LoopId) -> bool
 }
 
 // The trigger of a loop with `control`.
-fn opener_due(job: &[u8], index: &[u16], l: LoopId) -> Option<Due>
-    requires { Ready job.now index.now }
-    ensures { (i : ℕ) → Gives (outline_at job.now) l.0 i (cond (loop_of (outline_at job.now) l.0).controlled (opener l.0 ∷ []) []) result }
+fn opener_due(job: Job, l: LoopId) -> Option<Due>
+    ensures { (i : ℕ) → Gives (outline_by job.entry) l.0 i (cond (loop_of (outline_by job.entry) l.0).controlled (opener l.0 ∷ []) []) result }
 {
-    if controlled(job, index, l) {
+    if controlled(job, l) {
         return Some(Due::Opener);
     }
     None
 }
 
 // The segment of a row.
-fn due_at(
-    job: &[u8],
-    index: &[u16],
-    l: LoopId,
-    i: u32,
-    s: Planned,
-    t: TableId,
-    r: RowId,
-) -> Option<Due>
-    requires { Ready job.now index.now × (l.0 < 32) × PlannedIs job.now l.0 i s }
-    ensures { Gives (outline_at job.now) l.0 i (cond (has_occurrence (outline_at job.now) l.0 i && due_row (outline_at job.now) l.0 i t.0 r.0) (row_segment l.0 i t.0 r.0 ∷ []) []) result }
+fn due_at(job: Job, l: LoopId, i: u32, s: Planned, t: TableId, r: RowId) -> Option<Due>
+    requires { (l.0 < 32) × PlannedIs job.at.bytes.now l.0 i s }
+    ensures { Gives (outline_by job.entry) l.0 i (cond (has_occurrence (outline_by job.entry) l.0 i && due_row (outline_by job.entry) l.0 i t.0 r.0) (row_segment l.0 i t.0 r.0 ∷ []) []) result }
 {
-    if due::has_occurrence(job, index, l, i, s) {
-        if due::due_row(job, index, l, i, s, t, r) {
+    if due::has_occurrence(job, l, i, s) {
+        if due::due_row(job, l, i, s, t, r) {
             return Some(Due::Row(t, r));
         }
     }
@@ -66,71 +57,48 @@ fn due_at(
 }
 
 // A segment of a table's row, in an instance that sits in one.
-fn row_due(
-    job: &[u8],
-    index: &[u16],
-    l: LoopId,
-    i: u32,
-    s: Planned,
-    t: TableId,
-    c: Context,
-) -> Option<Due>
-    requires { Ready job.now index.now × (l.0 < 32) × PlannedIs job.now l.0 i s }
-    ensures { Gives (outline_at job.now) l.0 i (from_source (outline_at job.now) l.0 i (context_by c) (of_row t.0)) result }
+fn row_due(job: Job, l: LoopId, i: u32, s: Planned, t: TableId, c: Context) -> Option<Due>
+    requires { (l.0 < 32) × PlannedIs job.at.bytes.now l.0 i s }
+    ensures { Gives (outline_by job.entry) l.0 i (from_source (outline_by job.entry) l.0 i (context_by c) (of_row t.0)) result }
 {
     let f = own::row_of(c, t);
     match f {
-        Some(r) => due_at(job, index, l, i, s, t, r),
+        Some(r) => due_at(job, l, i, s, t, r),
         None => None,
     }
 }
 
 // The repeat segments of an instance that a row opened.
-fn repeat_due(
-    job: &[u8],
-    index: &[u16],
-    l: LoopId,
-    i: u32,
-    s: Planned,
-    t: TableId,
-    c: Context,
-) -> Option<Due>
-    requires { Ready job.now index.now × Sound (outline_at job.now) (context_by c) × (l.0 < 32) × PlannedIs job.now l.0 i s }
-    ensures { Gives (outline_at job.now) l.0 i (from_source (outline_at job.now) l.0 i (context_by c) (of_repeat t.0)) result }
+fn repeat_due(job: Job, l: LoopId, i: u32, s: Planned, t: TableId, c: Context) -> Option<Due>
+    requires { Sound (outline_by job) (context_by c) × (l.0 < 32) × PlannedIs job.at.bytes.now l.0 i s }
+    ensures { Gives (outline_by job.entry) l.0 i (from_source (outline_by job.entry) l.0 i (context_by c) (of_repeat t.0)) result }
 {
     if 16 <= t.0 {
         return None;
     }
-    if due::has_occurrence(job, index, l, i, s) {
-        let own = own::own_row(job, index, l, c)?;
+    if due::has_occurrence(job, l, i, s) {
+        let own = own::own_row(job, l, c)?;
         return Some(Due::Repeat(t, own.row));
     }
     None
 }
 
 // What planned segment i of loop l, which is s, gives by its source.
-pub fn segment_due(
-    job: &[u8],
-    index: &[u16],
-    l: LoopId,
-    i: u32,
-    s: Planned,
-    c: Context,
-) -> Option<Due>
-    requires { Ready job.now index.now × Sound (outline_at job.now) (context_by c) × (l.0 < 32) × PlannedIs job.now l.0 i s }
-    ensures { Gives (outline_at job.now) l.0 i (segment_steps (outline_at job.now) l.0 (context_by c) i) result }
+pub fn segment_due(job: Job, l: LoopId, i: u32, s: Planned, c: Context) -> Option<Due>
+    requires { Sound (outline_by job) (context_by c) × (l.0 < 32) × PlannedIs job.at.bytes.now l.0 i s }
+    ensures { Gives (outline_by job.entry) l.0 i (segment_steps (outline_by job.entry) l.0 (context_by c) i) result }
 {
     if s.there {
         let source = s.source;
         match source {
             Source::Envelope => {
-                return opener_due(job, index, l);
+                return opener_due(job, l);
             }
             Source::Row(t) => {
-                return row_due(job, index, l, i, s, t, c);
+                return row_due(job, l, i, s, t, c);
             }
             Source::Repeat(t) => {
-                return repeat_due(job, index, l, i, s, t, c);
+                return repeat_due(job, l, i, s, t, c);
             }
         }
     }

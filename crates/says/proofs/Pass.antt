@@ -15,13 +15,6 @@ use Rattle.std.proofs.lemmas.Option.{same_Some}
 use Rattle.says.specs.Says.{Says, Clears, Rest}
 use Rattle.says.proofs.Walk.{Some_of, rest_start, rest_again, rest_found, rest_done}
 
--- ---- tests joined
--- the tests behind the first are made only where it does not hold
-pub both_then : (r x y s : Bool) (ts : List Bool) → r ≡ pick x true y → x ≡ s → (x ≡ false → y ≡ any ts) → r ≡ any (s ∷ ts)
-unfolding any
-both_then r true y s ts h i j = h ∙ rw (← i)
-both_then r false y s ts h i j = h ∙ rw (← i) (j refl)
-
 -- what stands where a section begins
 pub section_is : {A : Type 0} (C : Codec A) (b : List ℕ) (at e at' e' : ℕ) (v : A) → at ≡ at' → e ≡ e' → C.read b at' e' ≡ got v e' → Is C b e at v
 unfolding skip

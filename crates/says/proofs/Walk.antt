@@ -160,13 +160,20 @@ present_says C b e at t h (Some v) k =
     let l : at + 1 ≤ e = is_in C b e (at + 1) v m.1 in
     eq-eqb t 1 (h ∙ tag_in b at e (omega arith) ∙ m.0)
 
+-- the same where the mark was asked for
+pub present_by : {A : Type 0} (C : Codec A) (b : List ℕ) (e at : ℕ) (u : Bool) → (u ≡ true → 1 ≡ tag_at b at e) → (u ≡ false → tag_at b at e ≡ 1 → ⊥) → Says (opt_c C) b e at present u
+present_by C b e at u f g v i = go u f g ∙ present_says C b e at (tag_at b at e) refl v i
+  where
+    go : (t : Bool) → (t ≡ true → 1 ≡ tag_at b at e) → (t ≡ false → tag_at b at e ≡ 1 → ⊥) → t ≡ eqb (tag_at b at e) 1
+    go true f g = sym (eq-eqb _ _ (sym (f refl)))
+    go false f g = sym (ne_eqb _ _ (g refl))
+
 -- ---- bytes
-pub byte_is : (b : List ℕ) (e n p q v : ℕ) → n ≡ tag_at b p e → p ≡ q → Is byte_c b e q v → n ≡ v
+pub byte_is : (b : List ℕ) (e n p q v : ℕ) → n ≡ get_or b p 0 → p ≡ q → Is byte_c b e q v → n ≡ v
 unfolding le
 byte_is b e n p q v h i j =
     let l = is_le 1 b e q v j in
-    let m : q < e = omega (arith, l.0) in
-    h ∙ rw i (tag_in b q e m ∙ omega (arith, l.1))
+    h ∙ rw i (omega (arith, l.1))
 
-pub byte_says : {B : Type 0} (b : List ℕ) (e at n : ℕ) (f : ℕ → B) (r : B) → n ≡ tag_at b at e → r ≡ f n → Says byte_c b e at f r
+pub byte_says : {B : Type 0} (b : List ℕ) (e at n : ℕ) (f : ℕ → B) (r : B) → n ≡ get_or b at 0 → r ≡ f n → Says byte_c b e at f r
 byte_says b e at n f r h i v j = let z : n ≡ v = byte_is b e n at at v h refl j in i ∙ rw z

@@ -29,7 +29,7 @@ pub fn opt_at<F: Form, T: Fn(usize) -> bool>(s: Section, at: usize, test: T) -> 
     requires { T.IsAlwaysCallable test }
     ensures { (f : F.Value → Bool) → Tests F.codec s.entry.bytes.now s.entry.end (T.post test) f → Says (opt_c F.codec) s.entry.bytes.now s.entry.end at (if_some f) result }
 {
-    if s.tag_at(at) == 1 {
+    if s.case(at) == Some(1) {
         return test(s.le_at(1, at));
     }
     false

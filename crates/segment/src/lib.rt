@@ -86,74 +86,78 @@ pub fn own(bytes: [u8; 48], count: usize) -> Value
     }
 }
 
-fn one_of(x: u8, a: u8, b: u8, c: u8, d: u8) -> bool
-    ensures { result ≡ one_of a b c d x }
+// Four bytes that a text is tried for.
+#[derive(Clone, Copy)]
+pub struct Signs(pub u8, pub u8, pub u8, pub u8);
+
+fn one_of(x: u8, s: Signs) -> bool
+    ensures { result ≡ one_of s.0 s.1 s.2 s.3 x }
 {
-    if x == a {
+    if x == s.0 {
         return true;
     }
-    if x == b {
+    if x == s.1 {
         return true;
     }
-    if x == c {
+    if x == s.2 {
         return true;
     }
-    x == d
+    x == s.3
 }
 
-fn run_holds(n: usize, x: u8, a: u8, b: u8, c: u8, d: u8) -> bool
-    ensures { result ≡ holds_any (one_of a b c d) (replicate n x) }
+fn run_holds(n: usize, x: u8, s: Signs) -> bool
+    ensures { result ≡ holds_any (one_of s.0 s.1 s.2 s.3) (replicate n x) }
 {
     if n == 0 {
         return false;
     }
-    one_of(x, a, b, c, d)
+    one_of(x, s)
 }
 
 // Whether one of four bytes is in a stretch.
-pub fn stretch_holds(source: &[u8], start: usize, len: usize, a: u8, b: u8, c: u8, d: u8) -> bool
-    ensures { result ≡ holds_any (one_of a b c d) (stretch source.now start len) }
+pub fn stretch_holds(source: &[u8], start: usize, len: usize, s: Signs) -> bool
+    ensures { result ≡ holds_any (one_of s.0 s.1 s.2 s.3) (stretch source.now start len) }
 {
     let n = lent::stretch_len(source, start, len);
     for i in 0..n {
-        if one_of(source[start + i], a, b, c, d) {
+        if one_of(source[start + i], s) {
             return true;
         }
     }
     false
 }
 
-fn own_holds(v: Value, a: u8, b: u8, c: u8, d: u8) -> bool
-    ensures { result ≡ holds_any (one_of a b c d) (take v.count v.bytes) }
+fn own_holds(v: Value, s: Signs) -> bool
+    ensures { result ≡ holds_any (one_of s.0 s.1 s.2 s.3) (take v.count v.bytes) }
 {
     if v.count == 0 {
         return false;
     }
     let bytes = v.bytes;
-    stretch_holds(&bytes, 0, v.count, a, b, c, d)
+    stretch_holds(&bytes, 0, v.count, s)
 }
 
 // Whether one of four bytes is in a text.
-pub fn holds_any(job: &[u8], v: Value, a: u8, b: u8, c: u8, d: u8) -> bool
-    ensures { result ≡ holds_any (one_of a b c d) (value_text job.now v) }
+pub fn holds_any(job: &[u8], v: Value, s: Signs) -> bool
+    ensures { result ≡ holds_any (one_of s.0 s.1 s.2 s.3) (value_text job.now v) }
 {
-    if run_holds(v.zeros, b'0', a, b, c, d) {
+    if run_holds(v.zeros, b'0', s) {
         return true;
     }
-    if run_holds(v.spaces, b' ', a, b, c, d) {
+    if run_holds(v.spaces, b' ', s) {
         return true;
     }
-    if own_holds(v, a, b, c, d) {
+    if own_holds(v, s) {
         return true;
     }
-    stretch_holds(job, v.start, v.len, a, b, c, d)
+    stretch_holds(job, v.start, v.len, s)
 }
 
 // Whether a byte is in a text.
 pub fn holds(job: &[u8], v: Value, b: u8) -> bool
     ensures { result ≡ holds b (value_text job.now v) }
 {
-    holds_any(job, v, b, b, b, b)
+    holds_any(job, v, Signs(b, b, b, b))
 }
 
 fn put_front(doc: &mut [u8], at: usize, v: Value) -> usize

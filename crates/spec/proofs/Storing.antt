@@ -1,6 +1,6 @@
 -- Storing the places of a list and of its items.
 use Prim.Native.Nat.{ℕ, suc, zero, ◌+◌, ◌*◌, ◌≤◌, ◌<◌}
-use mathlib.Core.Path.{◌≡◌, refl, sym, subst, ◌∙◌}
+use mathlib.Core.Path.{◌≡◌, refl, sym, ◌∙◌}
 use mathlib.Core.List.{List}
 use mathlib.Core.Logic.{◌⊎◌, inl, inr}
 use mathlib.Core.Bool.{Bool, true, false}
@@ -13,14 +13,8 @@ use Rattle.codec.specs.Codec.{Codec, le_c, list_c}
 use Rattle.codec.specs.Skip.{skip, steps, count_at, Is, skip_le, skip_list}
 use Rattle.codec.specs.Field.{ListIs, is_list, count_list}
 use Rattle.codec.specs.Rows.{small, is_small}
-use Rattle.spec.specs.declared.region.Part.{Part}
-use Rattle.spec.specs.Parts.{part_c}
 use Rattle.spec.specs.Kept.{Kept, kept_same, kept_set, kept_then, kept_wide}
 use Rattle.spec.specs.Region.{Stored, Listed, Lists, put_item}
-
--- the part by its case
-pub part_is : (p q : Part) (b : List ℕ) (at e r : ℕ) → p ≡ q → r ≡ skip (part_c q) b at e → r ≡ skip (part_c p) b at e
-part_is p q b at e r h k = subst (λ (s : Part). r ≡ skip (part_c s) b at e) (sym h) k
 
 -- ---- the items of a list, stored one after the other
 pub put_item_in : (l : List ℕ) (k i p : ℕ) → i < 32 → put_item l k i p ≡ set l (k + 1 + i) (small p)

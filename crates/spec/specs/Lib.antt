@@ -6,7 +6,6 @@ pub mod Filling
 pub mod Found
 pub mod Index
 pub mod Kept
-pub mod Parts
 pub mod Reads
 pub mod Region
 pub mod Rows

@@ -1,5 +1,6 @@
 // The numbers of loops, tables and rows, and the answers that stand for parts of a job.
 
+// A loop's number. No field says that it is below 32: it is read from the job, readers answer for any, and such a field would ask more of whoever makes one.
 #[derive(Clone, Copy)]
 pub struct LoopId(pub u32);
 

@@ -11,3 +11,11 @@ pub mod region;
 pub mod segments;
 pub mod tables;
 pub mod version;
+
+// A job's bytes and the index of its parts. No ghost field says what the index holds: while it is filled only parts of it do, and a
+// reader asks for its own part alone.
+#[derive(Clone, Copy)]
+pub struct Indexed<'a> {
+    pub bytes: &'a [u8],
+    pub index: &'a [u16],
+}

@@ -5,118 +5,126 @@ ghost use Rattle.format.specs.Ask.{loop_of};
 ghost use Rattle.spec.specs.Answers.{Holds, HoldsText, control_of, is_required};
 ghost use Rattle.spec.specs.Index.{SpecIndexed, row_place};
 
+use crate::Indexed;
 use crate::ids::{ControlRule, LoopId, Stretch};
 use crate::read::{
     control_at, flag_at, item_at, number_at, row_place, spec_end, stretch_at, string_at, text_at,
 };
 use codec::Section;
 
-pub fn loop_count(job: &[u8], index: &[u16]) -> u32
-    requires { SpecIndexed job.now index.now }
-    ensures { result ≡ length (job_of job.now).spec.loops }
+pub fn loop_count(job: Indexed) -> u32
+    requires { SpecIndexed job.bytes.now job.index.now }
+    ensures { result ≡ length (job_of job.entry.bytes.now).spec.loops }
 {
-    let p = codec::place(index, 0);
-    codec::num(job, p) as u32
+    let p = codec::place(job.index, 0);
+    codec::num(job.bytes, p) as u32
 }
 
-pub fn root_count(job: &[u8], index: &[u16]) -> u32
-    requires { SpecIndexed job.now index.now }
-    ensures { result ≡ length (job_of job.now).spec.roots }
+pub fn root_count(job: Indexed) -> u32
+    requires { SpecIndexed job.bytes.now job.index.now }
+    ensures { result ≡ length (job_of job.entry.bytes.now).spec.roots }
 {
-    let p = codec::place(index, 1);
-    codec::num(job, p) as u32
+    let p = codec::place(job.index, 1);
+    codec::num(job.bytes, p) as u32
 }
 
-pub fn root(job: &[u8], index: &[u16], k: u32) -> LoopId
-    requires { SpecIndexed job.now index.now }
-    ensures { result.0 ≡ get_or (job_of job.now).spec.roots k 0 }
+pub fn root(job: Indexed, k: u32) -> LoopId
+    requires { SpecIndexed job.bytes.now job.index.now }
+    ensures { result.0 ≡ get_or (job_of job.entry.bytes.now).spec.roots k 0 }
 {
-    let p = codec::place(index, 1);
-    LoopId(item_at(job, p, k))
+    let p = codec::place(job.index, 1);
+    LoopId(item_at(job.bytes, p, k))
 }
 
 // Where field f of a loop stands.
-pub fn loop_field(job: &[u8], index: &[u16], l: LoopId, f: u32) -> usize
-    ensures { (result ≡ row_place job.now index.now 0 8 7 l.0 f) × (result < 4294967296) }
+pub fn loop_field(job: Indexed, l: LoopId, f: u32) -> usize
+    ensures { (result ≡ row_place job.entry.bytes.now job.entry.index.now 0 8 7 l.0 f) × (result < 4294967296) }
 {
-    row_place(job, index, 0, 8, 7, l.0, f)
+    row_place(job, 0, 8, 7, l.0, f)
 }
 
-pub fn loop_parent(job: &[u8], index: &[u16], l: LoopId) -> Option<u32>
-    requires { SpecIndexed job.now index.now }
-    ensures { result ≡ (loop_of (job_of job.now) l.0).parent }
+pub fn loop_parent(job: Indexed, l: LoopId) -> Option<u32>
+    requires { SpecIndexed job.bytes.now job.index.now }
+    ensures { result ≡ (loop_of (job_of job.entry.bytes.now) l.0).parent }
 {
-    let p = loop_field(job, index, l, 0);
-    number_at(job, p)
+    let p = loop_field(job, l, 0);
+    number_at(job.bytes, p)
 }
 
-pub fn trigger(job: &[u8], index: &[u16], l: LoopId) -> Stretch
-    requires { SpecIndexed job.now index.now }
-    ensures { Holds job.now result (loop_of (job_of job.now) l.0).trigger }
+pub fn trigger(job: Indexed, l: LoopId) -> Stretch
+    requires { SpecIndexed job.bytes.now job.index.now }
+    ensures { Holds job.entry.bytes.now result (loop_of (job_of job.entry.bytes.now) l.0).trigger }
 {
-    let p = loop_field(job, index, l, 1);
-    stretch_at(job, p)
+    let p = loop_field(job, l, 1);
+    stretch_at(job.bytes, p)
 }
 
-pub fn occurrence_count(job: &[u8], index: &[u16], l: LoopId) -> u32
-    requires { SpecIndexed job.now index.now }
-    ensures { result ≡ length (loop_of (job_of job.now) l.0).occurrences }
+pub fn occurrence_count(job: Indexed, l: LoopId) -> u32
+    requires { SpecIndexed job.bytes.now job.index.now }
+    ensures { result ≡ length (loop_of (job_of job.entry.bytes.now) l.0).occurrences }
 {
-    let p = loop_field(job, index, l, 2);
-    codec::num(job, p) as u32
+    let p = loop_field(job, l, 2);
+    codec::num(job.bytes, p) as u32
 }
 
 // The identifier of segment k of a loop, empty past its last.
-pub fn occurrence(job: &[u8], index: &[u16], l: LoopId, k: u32) -> Stretch
-    requires { SpecIndexed job.now index.now }
-    ensures { Holds job.now result (get_or (loop_of (job_of job.now) l.0).occurrences k []) }
+pub fn occurrence(job: Indexed, l: LoopId, k: u32) -> Stretch
+    requires { SpecIndexed job.bytes.now job.index.now }
+    ensures { Holds job.entry.bytes.now result (get_or (loop_of (job_of job.entry.bytes.now) l.0).occurrences k []) }
 {
-    let p = loop_field(job, index, l, 2);
-    let n = codec::num(job, p);
+    let p = loop_field(job, l, 2);
+    let n = codec::num(job.bytes, p);
     if n <= k as usize {
         return Stretch { start: 0, len: 0 };
     }
-    let e = spec_end(job);
-    let q = string_at(Section { bytes: job, end: e }, p, k);
-    stretch_at(job, q)
+    let e = spec_end(job.bytes);
+    let q = string_at(
+        Section {
+            bytes: job.bytes,
+            end: e,
+        },
+        p,
+        k,
+    );
+    stretch_at(job.bytes, q)
 }
 
-pub fn required(job: &[u8], index: &[u16], l: LoopId) -> bool
-    requires { SpecIndexed job.now index.now }
-    ensures { result ≡ is_required (loop_of (job_of job.now) l.0).usage }
+pub fn required(job: Indexed, l: LoopId) -> bool
+    requires { SpecIndexed job.bytes.now job.index.now }
+    ensures { result ≡ is_required (loop_of (job_of job.entry.bytes.now) l.0).usage }
 {
-    let p = loop_field(job, index, l, 3);
-    !flag_at(job, p)
+    let p = loop_field(job, l, 3);
+    !flag_at(job.bytes, p)
 }
 
-pub fn loop_end(job: &[u8], index: &[u16], l: LoopId) -> Option<Stretch>
-    requires { SpecIndexed job.now index.now }
-    ensures { HoldsText job.now result (loop_of (job_of job.now) l.0).end }
+pub fn loop_end(job: Indexed, l: LoopId) -> Option<Stretch>
+    requires { SpecIndexed job.bytes.now job.index.now }
+    ensures { HoldsText job.entry.bytes.now result (loop_of (job_of job.entry.bytes.now) l.0).end }
 {
-    let p = loop_field(job, index, l, 4);
-    text_at(job, p)
+    let p = loop_field(job, l, 4);
+    text_at(job.bytes, p)
 }
 
-pub fn control(job: &[u8], index: &[u16], l: LoopId) -> Option<ControlRule>
-    requires { SpecIndexed job.now index.now }
-    ensures { control_of result ≡ (loop_of (job_of job.now) l.0).control }
+pub fn control(job: Indexed, l: LoopId) -> Option<ControlRule>
+    requires { SpecIndexed job.bytes.now job.index.now }
+    ensures { control_of result ≡ (loop_of (job_of job.entry.bytes.now) l.0).control }
 {
-    let p = loop_field(job, index, l, 5);
-    control_at(job, p)
+    let p = loop_field(job, l, 5);
+    control_at(job.bytes, p)
 }
 
-pub fn child_count(job: &[u8], index: &[u16], l: LoopId) -> u32
-    requires { SpecIndexed job.now index.now }
-    ensures { result ≡ length (loop_of (job_of job.now) l.0).children }
+pub fn child_count(job: Indexed, l: LoopId) -> u32
+    requires { SpecIndexed job.bytes.now job.index.now }
+    ensures { result ≡ length (loop_of (job_of job.entry.bytes.now) l.0).children }
 {
-    let p = loop_field(job, index, l, 6);
-    codec::num(job, p) as u32
+    let p = loop_field(job, l, 6);
+    codec::num(job.bytes, p) as u32
 }
 
-pub fn child(job: &[u8], index: &[u16], l: LoopId, k: u32) -> LoopId
-    requires { SpecIndexed job.now index.now }
-    ensures { result.0 ≡ get_or (loop_of (job_of job.now) l.0).children k 0 }
+pub fn child(job: Indexed, l: LoopId, k: u32) -> LoopId
+    requires { SpecIndexed job.bytes.now job.index.now }
+    ensures { result.0 ≡ get_or (loop_of (job_of job.entry.bytes.now) l.0).children k 0 }
 {
-    let p = loop_field(job, index, l, 6);
-    LoopId(item_at(job, p, k))
+    let p = loop_field(job, l, 6);
+    LoopId(item_at(job.bytes, p, k))
 }

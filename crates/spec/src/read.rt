@@ -10,6 +10,7 @@ ghost use Rattle.spec.specs.Answers.{Holds, HoldsByte, HoldsText, control_of};
 ghost use Rattle.spec.specs.Reads.{Reads, ByteSays};
 ghost use Rattle.spec.specs.Index.{row_place};
 
+use crate::Indexed;
 use crate::ids::{ControlRule, Stretch};
 use codec::Section;
 
@@ -121,16 +122,16 @@ pub fn spec_end(b: &[u8]) -> u32
 
 // The place of field f of row i, past every job where the list has no such row. No Option: a place past the job reads as none, empty, false or 0,
 // which is the answer for a row that is not there, so that an Option would make each caller say it again.
-pub fn row_place(b: &[u8], index: &[u16], list: u32, from: u32, width: u8, i: u32, f: u32) -> usize
-    ensures { (result ≡ row_place b.now index.now list from width i f) × (result < 4294967296) }
+pub fn row_place(job: Indexed, list: u32, from: u32, width: u8, i: u32, f: u32) -> usize
+    ensures { (result ≡ row_place job.entry.bytes.now job.entry.index.now list from width i f) × (result < 4294967296) }
 {
-    let p = codec::place(index, list as usize);
-    let n = codec::num(b, p);
+    let p = codec::place(job.index, list as usize);
+    let n = codec::num(job.bytes, p);
     if n <= i as usize {
         return 65536;
     }
     codec::place(
-        index,
+        job.index,
         from as usize + i as usize * width as usize + f as usize,
     )
 }

@@ -3,37 +3,9 @@ ghost use Rattle.std.specs.Prelude.{◌≡◌, length, ◌+◌, ◌<◌, ◌≤�
 ghost use Rattle.codec.specs.Codec.{list_c};
 ghost use Rattle.codec.specs.Skip.{skip};
 ghost use Rattle.spec.specs.Kept.{Kept};
-ghost use Rattle.spec.specs.Parts.{part_c};
 ghost use Rattle.spec.specs.Region.{put_item, Stored};
 
-use codec::forms::{Flag, Items, Opt};
 use codec::{Form, Section};
-use format::{Column, Item, SegmentPlan};
-
-// The lists whose places are stored, by what their items are.
-#[derive(Clone, Copy)]
-pub enum Part {
-    SegmentPlan,
-    Order,
-    Forced,
-    Columns,
-    Depth,
-    Column,
-}
-
-// The place behind the part that stands at a place.
-pub fn part_at(s: Section, part: Part, at: usize) -> usize
-    ensures { result ≡ skip (part_c part) s.entry.bytes.now at s.entry.end }
-{
-    match part {
-        Part::SegmentPlan => SegmentPlan::ends_at(s, at),
-        Part::Order => Items::<Item>::ends_at(s, at),
-        Part::Forced => Items::<Flag>::ends_at(s, at),
-        Part::Columns => s.les_at(4, at),
-        Part::Depth => s.opt_num_at(at),
-        Part::Column => Opt::<Column>::ends_at(s, at),
-    }
-}
 
 // Stores the place of item i of the list whose numbers begin at k, if it is among the first 32.
 pub fn put_item(index: &mut [u16], k: usize, i: usize, p: usize)
@@ -45,16 +17,16 @@ pub fn put_item(index: &mut [u16], k: usize, i: usize, p: usize)
     }
 }
 
-// Stores the place of a list and those of its items; answers the place behind it.
-pub fn list_into(s: Section, index: &mut [u16], part: Part, k: usize, at: usize) -> usize
+// Stores the place of a list of F and those of its items; answers the place behind it.
+pub fn list_into<F: Form>(s: Section, index: &mut [u16], k: usize, at: usize) -> usize
     requires { k < 4294967296 }
-    ensures { (result ≡ skip (list_c (part_c part)) s.entry.bytes.now at s.entry.end) × Kept k (k + 33) index.old index.new × Stored (part_c part) s.entry.bytes.now s.entry.end at k index.new }
+    ensures { (result ≡ skip (list_c F.codec) s.entry.bytes.now at s.entry.end) × Kept k (k + 33) index.old index.new × Stored F.codec s.entry.bytes.now s.entry.end at k index.new }
 {
     let n = s.count_at(at);
     let mut p = s.le_at(4, at);
     for i in 0..n {
         put_item(index, k, i, p);
-        p = part_at(s, part, p);
+        p = F::ends_at(s, p);
     }
     codec::put(index, k, at);
     p

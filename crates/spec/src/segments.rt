@@ -10,12 +10,13 @@ ghost use Rattle.spec.specs.Answers.{stretch_of};
 ghost use Rattle.spec.specs.Segments.{SegmentsIndexed};
 ghost use Rattle.spec.specs.Found.{PlaceOf, max_in, same_at};
 
+use crate::Indexed;
 use crate::ids::Stretch;
 use crate::read::{number_at, spec_end};
 use codec::{Form, Section};
 use format::{Component, Element, Kind};
 
-// Whether the n bytes at p are those at q.
+// Whether the n bytes at p are those at q. No slices: either may reach past the last byte, where a byte reads as 0.
 pub fn same_at(b: &[u8], p: usize, q: usize, n: usize) -> bool
     requires { (p < 8589934592) × (q < 8589934592) × (n < 8589934592) }
     ensures { result ≡ same_at b.now p q n }
@@ -58,30 +59,30 @@ pub fn map_place<F: Form>(s: Section, at: usize, number: u32) -> Option<usize>
 }
 
 // Where the elements of a segment stand.
-pub fn elements_of(job: &[u8], index: &[u16], identifier: Stretch) -> Option<usize>
-    requires { SegmentsIndexed job.now index.now × (identifier.start + identifier.len ≤ length job.now) }
-    ensures { PlaceOf segment_c job.now (plan_start job.now) result (segment_def (job_of job.now) (stretch_of job.now identifier)) }
+pub fn elements_of(job: Indexed, identifier: Stretch) -> Option<usize>
+    requires { SegmentsIndexed job.bytes.now job.index.now × (identifier.start + identifier.len ≤ length job.bytes.now) }
+    ensures { PlaceOf segment_c job.entry.bytes.now (plan_start job.entry.bytes.now) result (segment_def (job_of job.entry.bytes.now) (stretch_of job.entry.bytes.now identifier)) }
 {
-    let m = codec::place(index, 4096);
-    let n = codec::num(job, m);
+    let m = codec::place(job.index, 4096);
+    let n = codec::num(job.bytes, m);
     for k in 0..n {
-        let p = codec::place(index, 4097 + k);
-        if key_is(job, identifier, p) {
-            return Some(p + 4 + codec::num(job, p));
+        let p = codec::place(job.index, 4097 + k);
+        if key_is(job.bytes, identifier, p) {
+            return Some(p + 4 + codec::num(job.bytes, p));
         }
     }
     None
 }
 
 // Where the definition of an element of a segment stands.
-pub fn element_of(job: &[u8], index: &[u16], identifier: Stretch, element: u32) -> Option<usize>
-    requires { SegmentsIndexed job.now index.now × (identifier.start + identifier.len ≤ length job.now) }
-    ensures { PlaceOf element_c job.now (plan_start job.now) result (element_def (job_of job.now) (stretch_of job.now identifier) element) }
+pub fn element_of(job: Indexed, identifier: Stretch, element: u32) -> Option<usize>
+    requires { SegmentsIndexed job.bytes.now job.index.now × (identifier.start + identifier.len ≤ length job.bytes.now) }
+    ensures { PlaceOf element_c job.entry.bytes.now (plan_start job.entry.bytes.now) result (element_def (job_of job.entry.bytes.now) (stretch_of job.entry.bytes.now identifier) element) }
 {
-    let at = elements_of(job, index, identifier)?;
+    let at = elements_of(job, identifier)?;
     let s = Section {
-        bytes: job,
-        end: spec_end(job),
+        bytes: job.bytes,
+        end: spec_end(job.bytes),
     };
     map_place::<Element>(s, at, element)
 }
@@ -147,31 +148,30 @@ pub fn max_in(s: Section, at: usize, component: Option<u32>) -> Option<u32>
 }
 
 pub fn max_of(
-    job: &[u8],
-    index: &[u16],
+    job: Indexed,
     identifier: Stretch,
     element: u32,
     component: Option<u32>,
 ) -> Option<u32>
-    requires { SegmentsIndexed job.now index.now × (identifier.start + identifier.len ≤ length job.now) }
-    ensures { result ≡ max_of (job_of job.now) (stretch_of job.now identifier) element component }
+    requires { SegmentsIndexed job.bytes.now job.index.now × (identifier.start + identifier.len ≤ length job.bytes.now) }
+    ensures { result ≡ max_of (job_of job.entry.bytes.now) (stretch_of job.entry.bytes.now identifier) element component }
 {
-    let at = element_of(job, index, identifier, element)?;
+    let at = element_of(job, identifier, element)?;
     let s = Section {
-        bytes: job,
-        end: spec_end(job),
+        bytes: job.bytes,
+        end: spec_end(job.bytes),
     };
     max_in(s, at, component)
 }
 
-pub fn min_of(job: &[u8], index: &[u16], identifier: Stretch, element: u32) -> Option<u32>
-    requires { SegmentsIndexed job.now index.now × (identifier.start + identifier.len ≤ length job.now) }
-    ensures { result ≡ min_of (job_of job.now) (stretch_of job.now identifier) element }
+pub fn min_of(job: Indexed, identifier: Stretch, element: u32) -> Option<u32>
+    requires { SegmentsIndexed job.bytes.now job.index.now × (identifier.start + identifier.len ≤ length job.bytes.now) }
+    ensures { result ≡ min_of (job_of job.entry.bytes.now) (stretch_of job.entry.bytes.now identifier) element }
 {
-    let at = element_of(job, index, identifier, element)?;
+    let at = element_of(job, identifier, element)?;
     let s = Section {
-        bytes: job,
-        end: spec_end(job),
+        bytes: job.bytes,
+        end: spec_end(job.bytes),
     };
     element_min(s, at)
 }

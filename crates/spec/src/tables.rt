@@ -4,86 +4,87 @@ ghost use Rattle.format.specs.Sections.{job_of};
 ghost use Rattle.format.specs.Ask.{table_of, step_of};
 ghost use Rattle.spec.specs.Index.{SpecIndexed, row_place};
 
+use crate::Indexed;
 use crate::ids::{LoopId, TableId};
 use crate::read::{flag_at, item_at, number_at, row_place, step_at};
 
-pub fn table_count(job: &[u8], index: &[u16]) -> u32
-    requires { SpecIndexed job.now index.now }
-    ensures { result ≡ length (job_of job.now).spec.tables }
+pub fn table_count(job: Indexed) -> u32
+    requires { SpecIndexed job.bytes.now job.index.now }
+    ensures { result ≡ length (job_of job.entry.bytes.now).spec.tables }
 {
-    let p = codec::place(index, 2);
-    codec::num(job, p) as u32
+    let p = codec::place(job.index, 2);
+    codec::num(job.bytes, p) as u32
 }
 
 // Where field f of a table stands.
-pub fn table_field(job: &[u8], index: &[u16], t: TableId, f: u32) -> usize
-    ensures { (result ≡ row_place job.now index.now 2 232 6 t.0 f) × (result < 4294967296) }
+pub fn table_field(job: Indexed, t: TableId, f: u32) -> usize
+    ensures { (result ≡ row_place job.entry.bytes.now job.entry.index.now 2 232 6 t.0 f) × (result < 4294967296) }
 {
-    row_place(job, index, 2, 232, 6, t.0, f)
+    row_place(job, 2, 232, 6, t.0, f)
 }
 
-pub fn table_loop_count(job: &[u8], index: &[u16], t: TableId) -> u32
-    requires { SpecIndexed job.now index.now }
-    ensures { result ≡ length (table_of (job_of job.now) t.0).loops }
+pub fn table_loop_count(job: Indexed, t: TableId) -> u32
+    requires { SpecIndexed job.bytes.now job.index.now }
+    ensures { result ≡ length (table_of (job_of job.entry.bytes.now) t.0).loops }
 {
-    let p = table_field(job, index, t, 0);
-    codec::num(job, p) as u32
+    let p = table_field(job, t, 0);
+    codec::num(job.bytes, p) as u32
 }
 
-pub fn table_loop(job: &[u8], index: &[u16], t: TableId, k: u32) -> LoopId
-    requires { SpecIndexed job.now index.now }
-    ensures { result.0 ≡ get_or (table_of (job_of job.now) t.0).loops k 0 }
+pub fn table_loop(job: Indexed, t: TableId, k: u32) -> LoopId
+    requires { SpecIndexed job.bytes.now job.index.now }
+    ensures { result.0 ≡ get_or (table_of (job_of job.entry.bytes.now) t.0).loops k 0 }
 {
-    let p = table_field(job, index, t, 0);
-    LoopId(item_at(job, p, k))
+    let p = table_field(job, t, 0);
+    LoopId(item_at(job.bytes, p, k))
 }
 
 // Whether the table is one of repeat segments.
-pub fn repeats(job: &[u8], index: &[u16], t: TableId) -> bool
-    requires { SpecIndexed job.now index.now }
-    ensures { result ≡ (table_of (job_of job.now) t.0).segment }
+pub fn repeats(job: Indexed, t: TableId) -> bool
+    requires { SpecIndexed job.bytes.now job.index.now }
+    ensures { result ≡ (table_of (job_of job.entry.bytes.now) t.0).segment }
 {
-    let p = table_field(job, index, t, 1);
-    flag_at(job, p)
+    let p = table_field(job, t, 1);
+    flag_at(job.bytes, p)
 }
 
-pub fn step(job: &[u8], index: &[u16], t: TableId) -> u32
-    requires { SpecIndexed job.now index.now }
-    ensures { result ≡ step_of (job_of job.now) t.0 }
+pub fn step(job: Indexed, t: TableId) -> u32
+    requires { SpecIndexed job.bytes.now job.index.now }
+    ensures { result ≡ step_of (job_of job.entry.bytes.now) t.0 }
 {
-    let p = table_field(job, index, t, 2);
-    step_at(job, p)
+    let p = table_field(job, t, 2);
+    step_at(job.bytes, p)
 }
 
-pub fn column_count(job: &[u8], index: &[u16], t: TableId) -> u32
-    requires { SpecIndexed job.now index.now }
-    ensures { result ≡ (table_of (job_of job.now) t.0).columns }
+pub fn column_count(job: Indexed, t: TableId) -> u32
+    requires { SpecIndexed job.bytes.now job.index.now }
+    ensures { result ≡ (table_of (job_of job.entry.bytes.now) t.0).columns }
 {
-    let p = table_field(job, index, t, 3);
-    codec::num(job, p) as u32
+    let p = table_field(job, t, 3);
+    codec::num(job.bytes, p) as u32
 }
 
-pub fn table_parent(job: &[u8], index: &[u16], t: TableId) -> Option<u32>
-    requires { SpecIndexed job.now index.now }
-    ensures { result ≡ (table_of (job_of job.now) t.0).parent }
+pub fn table_parent(job: Indexed, t: TableId) -> Option<u32>
+    requires { SpecIndexed job.bytes.now job.index.now }
+    ensures { result ≡ (table_of (job_of job.entry.bytes.now) t.0).parent }
 {
-    let p = table_field(job, index, t, 4);
-    number_at(job, p)
+    let p = table_field(job, t, 4);
+    number_at(job.bytes, p)
 }
 
-pub fn ancestor_count(job: &[u8], index: &[u16], t: TableId) -> u32
-    requires { SpecIndexed job.now index.now }
-    ensures { result ≡ length (table_of (job_of job.now) t.0).ancestors }
+pub fn ancestor_count(job: Indexed, t: TableId) -> u32
+    requires { SpecIndexed job.bytes.now job.index.now }
+    ensures { result ≡ length (table_of (job_of job.entry.bytes.now) t.0).ancestors }
 {
-    let p = table_field(job, index, t, 5);
-    codec::num(job, p) as u32
+    let p = table_field(job, t, 5);
+    codec::num(job.bytes, p) as u32
 }
 
 // The number of ancestor k, which may be no table's.
-pub fn ancestor(job: &[u8], index: &[u16], t: TableId, k: u32) -> u32
-    requires { SpecIndexed job.now index.now }
-    ensures { result ≡ get_or (table_of (job_of job.now) t.0).ancestors k 0 }
+pub fn ancestor(job: Indexed, t: TableId, k: u32) -> u32
+    requires { SpecIndexed job.bytes.now job.index.now }
+    ensures { result ≡ get_or (table_of (job_of job.entry.bytes.now) t.0).ancestors k 0 }
 {
-    let p = table_field(job, index, t, 5);
-    item_at(job, p, k)
+    let p = table_field(job, t, 5);
+    item_at(job.bytes, p, k)
 }

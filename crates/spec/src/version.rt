@@ -7,6 +7,7 @@ ghost use Rattle.spec.specs.VersionIs.{HoldsVersion, OptVersion};
 ghost use Rattle.spec.specs.Reads.{Reads};
 ghost use Rattle.spec.specs.Index.{SpecIndexed};
 
+use crate::Indexed;
 use crate::ids::VersionRule;
 use crate::read::stretch_at;
 
@@ -29,10 +30,10 @@ pub fn version_at(b: &[u8], at: usize) -> Option<VersionRule>
     })
 }
 
-pub fn version(job: &[u8], index: &[u16]) -> Option<VersionRule>
-    requires { SpecIndexed job.now index.now }
-    ensures { HoldsVersion job.now result (job_of job.now).spec.version }
+pub fn version(job: Indexed) -> Option<VersionRule>
+    requires { SpecIndexed job.bytes.now job.index.now }
+    ensures { HoldsVersion job.entry.bytes.now result (job_of job.entry.bytes.now).spec.version }
 {
-    let p = codec::place(index, 3);
-    version_at(job, p)
+    let p = codec::place(job.index, 3);
+    version_at(job.bytes, p)
 }

@@ -9,103 +9,104 @@ ghost use Rattle.tables.specs.Index.{TablesIndexed};
 
 use column::Cell;
 use column::data::after_opt;
+use spec::Indexed;
 use spec::ids::{RowId, TableId};
 
 // How many tables data has.
-pub fn data_count(job: &[u8], index: &[u16]) -> u32
-    requires { TablesIndexed job.now index.now }
-    ensures { result ≡ length (job_of job.now).tables }
+pub fn data_count(job: Indexed) -> u32
+    requires { TablesIndexed job.bytes.now job.index.now }
+    ensures { result ≡ length (job_of job.entry.bytes.now).tables }
 {
-    codec::place(index, 3202) as u32
+    codec::place(job.index, 3202) as u32
 }
 
 // Where a table stands.
-pub fn table_at(job: &[u8], index: &[u16], t: TableId) -> Option<usize>
-    requires { TablesIndexed job.now index.now }
-    ensures { TableAt job.now result (data_of (job_of job.now) t.0) × (place_of result < 4294967296) }
+pub fn table_at(job: Indexed, t: TableId) -> Option<usize>
+    requires { TablesIndexed job.bytes.now job.index.now }
+    ensures { TableAt job.entry.bytes.now result (data_of (job_of job.entry.bytes.now) t.0) × (place_of result < 4294967296) }
 {
-    let n = data_count(job, index);
+    let n = data_count(job);
     if n <= t.0 {
         return None;
     }
-    Some(codec::place(index, 2625 + t.0 as usize))
+    Some(codec::place(job.index, 2625 + t.0 as usize))
 }
 
-pub fn row_count(job: &[u8], index: &[u16], t: TableId) -> u32
-    requires { TablesIndexed job.now index.now }
-    ensures { result ≡ (data_of (job_of job.now) t.0).rows }
+pub fn row_count(job: Indexed, t: TableId) -> u32
+    requires { TablesIndexed job.bytes.now job.index.now }
+    ensures { result ≡ (data_of (job_of job.entry.bytes.now) t.0).rows }
 {
-    let found = table_at(job, index, t);
+    let found = table_at(job, t);
     match found {
-        Some(p) => codec::num(job, p) as u32,
+        Some(p) => codec::num(job.bytes, p) as u32,
         None => 0,
     }
 }
 
 // How many rows stand in the tables before t: the number of its first row, the rows of all tables numbered through.
-pub fn first_row(job: &[u8], index: &[u16], t: TableId) -> u32
-    requires { TablesIndexed job.now index.now }
-    ensures { result ≡ rows_before (job_of job.now).tables t.0 }
+pub fn first_row(job: Indexed, t: TableId) -> u32
+    requires { TablesIndexed job.bytes.now job.index.now }
+    ensures { result ≡ rows_before (job_of job.entry.bytes.now).tables t.0 }
 {
-    let n = data_count(job, index);
+    let n = data_count(job);
     if n <= t.0 {
-        return codec::place(index, 2657 + n as usize) as u32;
+        return codec::place(job.index, 2657 + n as usize) as u32;
     }
-    codec::place(index, 2657 + t.0 as usize) as u32
+    codec::place(job.index, 2657 + t.0 as usize) as u32
 }
 
 // The cell of a row; no answer reads as null.
-pub fn cell(job: &[u8], index: &[u16], t: TableId, column: u32, row: RowId) -> Cell
-    requires { TablesIndexed job.now index.now }
-    ensures { Reads job.now result (Some (cell_of (data_of (job_of job.now) t.0) column row.0)) }
+pub fn cell(job: Indexed, t: TableId, column: u32, row: RowId) -> Cell
+    requires { TablesIndexed job.bytes.now job.index.now }
+    ensures { Reads job.entry.bytes.now result (Some (cell_of (data_of (job_of job.entry.bytes.now) t.0) column row.0)) }
 {
-    let n = data_count(job, index);
+    let n = data_count(job);
     if n <= t.0 {
         return Cell::Null;
     }
     let k = 2674 + t.0 as usize * 33;
-    let columns = codec::place(index, k);
-    let width = codec::num(job, columns);
+    let columns = codec::place(job.index, k);
+    let width = codec::num(job.bytes, columns);
     if width <= column as usize {
         return Cell::Null;
     }
-    let p = codec::place(index, k + 1 + column as usize);
-    column::data::cell(job, p, row.0)
+    let p = codec::place(job.index, k + 1 + column as usize);
+    column::data::cell(job.bytes, p, row.0)
 }
 
 // The cell of the `segment` column, which keeps that there is no answer.
-pub fn segment_cell(job: &[u8], index: &[u16], t: TableId, row: RowId) -> Cell
-    requires { TablesIndexed job.now index.now }
-    ensures { Reads job.now result (segment_cell (data_of (job_of job.now) t.0) row.0) }
+pub fn segment_cell(job: Indexed, t: TableId, row: RowId) -> Cell
+    requires { TablesIndexed job.bytes.now job.index.now }
+    ensures { Reads job.entry.bytes.now result (segment_cell (data_of (job_of job.entry.bytes.now) t.0) row.0) }
 {
-    let found = table_at(job, index, t);
+    let found = table_at(job, t);
     match found {
-        Some(p) => column::data::opt_get(job, after_opt(job, p + 4), row.0),
+        Some(p) => column::data::opt_get(job.bytes, after_opt(job.bytes, p + 4), row.0),
         None => Cell::None,
     }
 }
 
 // The key of a row, by its 64 bits.
-pub fn key(job: &[u8], index: &[u16], t: TableId, row: RowId) -> u64
-    requires { TablesIndexed job.now index.now }
-    ensures { result ≡ key_of (data_of (job_of job.now) t.0) row.0 }
+pub fn key(job: Indexed, t: TableId, row: RowId) -> u64
+    requires { TablesIndexed job.bytes.now job.index.now }
+    ensures { result ≡ key_of (data_of (job_of job.entry.bytes.now) t.0) row.0 }
 {
-    let found = table_at(job, index, t);
+    let found = table_at(job, t);
     match found {
-        Some(p) => column::data::key(job, p + 4, row.0),
+        Some(p) => column::data::key(job.bytes, p + 4, row.0),
         None => row.0 as u64,
     }
 }
 
 // The reference of a row to a table above, by its 64 bits.
-pub fn reference(job: &[u8], index: &[u16], t: TableId, above: u32, row: RowId) -> Option<u64>
-    requires { TablesIndexed job.now index.now }
-    ensures { result ≡ reference_of (data_of (job_of job.now) t.0) above row.0 }
+pub fn reference(job: Indexed, t: TableId, above: u32, row: RowId) -> Option<u64>
+    requires { TablesIndexed job.bytes.now job.index.now }
+    ensures { result ≡ reference_of (data_of (job_of job.entry.bytes.now) t.0) above row.0 }
 {
-    let n = data_count(job, index);
+    let n = data_count(job);
     if n <= t.0 {
         return None;
     }
-    let p = codec::place(index, 3203 + t.0 as usize);
-    column::data::reference(job, p, above, row.0)
+    let p = codec::place(job.index, 3203 + t.0 as usize);
+    column::data::reference(job.bytes, p, above, row.0)
 }

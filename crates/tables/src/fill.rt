@@ -10,7 +10,7 @@ ghost use Rattle.tables.specs.Index.{DataLists, DataInto, RefsStored, TablesFill
 use codec::forms::{Items, Le, Opt};
 use codec::{Form, Section};
 use format::Column;
-use spec::region::{Part, list_into};
+use spec::region::list_into;
 
 // Stores the place of table t and those of its columns; answers the place behind it.
 pub fn table_into(s: Section, index: &mut [u16], t: u32, p: usize) -> usize
@@ -22,7 +22,7 @@ pub fn table_into(s: Section, index: &mut [u16], t: u32, p: usize) -> usize
     let segment = Opt::<Column>::ends_at(s, row);
     let refs = Opt::<Column>::ends_at(s, segment);
     let columns = Items::<(Le<4>, Opt<Column>)>::ends_at(s, refs);
-    list_into(s, index, Part::Column, 2674 + t as usize * 33, columns)
+    list_into::<Opt<Column>>(s, index, 2674 + t as usize * 33, columns)
 }
 
 // Stores the place of the list of n tables, those of the tables and those of their columns.

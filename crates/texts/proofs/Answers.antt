@@ -8,7 +8,7 @@ use Rattle.texts.specs.Calendar as Calendar
 use Rattle.texts.specs.Calendar.{or, civil_of, near}
 use Rattle.texts.specs.Reason.{Width, Outcome, gives, refuses, pick, reason_of, text_of, why_of, why_in, Says, shorter}
 use Rattle.texts.specs.DateText.{between, long_date, short_date, day_text, date_text, without_century, envelope_date}
-use Rattle.texts.specs.Clock.{within_day, hours_minutes, hours_minutes_seconds, clock, time_text, short_clock, envelope_time}
+use Rattle.texts.specs.Clock.{within_day, hours_minutes, hours_minutes_seconds, short_clock, envelope_time}
 
 -- the case of a reason
 abbrev pub refused_of : ℕ → Refused
@@ -68,12 +68,6 @@ short_text low high reason t = go (between low high t.year) refl
     go true e = rw e (lit≤ tt)
     go false e = rw e (lit≤ tt)
 
-clock_text : (n : ℕ) (max : Width) → length (clock n max).text ≤ 6
-unfolding clock
-clock_text n max =
-    either 6 (eqb (n % 60) 0) (gives (hours_minutes n)) (pick (shorter max 6) (refuses 4) (gives (hours_minutes_seconds n))) (lit≤ tt)
-    (either 6 (shorter max 6) (refuses 4) (gives (hours_minutes_seconds n)) (lit≤ tt) (lit≤ tt))
-
 short_clock_text : (n : ℕ) (max : Width) → length (short_clock n max).text ≤ 6
 unfolding short_clock
 short_clock_text n max =
@@ -93,10 +87,6 @@ envelope_date_length d max = go (shorter max 8)
     go : (b : Bool) → length (without_century b (date_text d None)).text ≤ 8
     go true = simp length-drop (omega (arith, date_length d None))
     go false = date_length d None
-
-pub time_length : (s : ℤ) (max : Width) → length (time_text s max).text ≤ 6
-unfolding time_text
-time_length s max = either 6 (within_day s) (clock (nat_abs s) max) (refuses 3) (clock_text (nat_abs s) max) (lit≤ tt)
 
 pub envelope_time_length : (s : ℤ) (max : Width) → length (envelope_time s max).text ≤ 6
 unfolding envelope_time

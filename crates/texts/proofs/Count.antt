@@ -3,7 +3,7 @@
 use Rattle.std.proofs.Common.{◌≡◌, ℕ, zero, suc, ◌+◌, ◌-◌, ◌<◌, ◌≤◌, Bool, true, false, ℤ, pos, negsuc, ◌+ℤ◌, ◌-ℤ◌, neg_ℤ, sym, refl, ap, ◌∙◌, subst, ⊎_elim, add-one, arith}
 use lib.IntN.{suc_ℤ, pred_ℤ, suc-pred, pred-suc, +ℤ-suc_ℤ, suc_ℤ-+ℤ, +ℤ_idr, +ℤ_invr, -ℤ-+ℤ_cancel}
 use Rattle.texts.specs.Calendar.{Day, day_of, leap, month_length, Valid, tomorrow, yesterday, civil_of, days_before, year_length, new_year, day_number}
-use Rattle.texts.proofs.Tested.{le_or_lt}
+use Rattle.std.proofs.lemmas.Bool.{cases_lt}
 use Rattle.texts.proofs.Dates.{month_long, day_on, month_on, year_on, december, yesterday_tomorrow, civil_valid, civil_next}
 
 year_after : (y : ℤ) → new_year (suc_ℤ y) ≡ new_year y +ℤ pos (year_length (leap y))
@@ -39,7 +39,7 @@ later y j k e = ap (numbered y) e ∙ numbered_suc y k
 
 pub number_next : (t : Day) → Valid t → day_number (tomorrow t) ≡ suc_ℤ (day_number t)
 unfolding day_number
-number_next t v = ⊎_elim last_day not_last (le_or_lt (month_length l t.month) t.day)
+number_next t v = ⊎_elim not_last last_day (cases_lt t.day (month_length l t.month))
   where
     l : Bool
     l = leap t.year
@@ -51,7 +51,7 @@ number_next t v = ⊎_elim last_day not_last (le_or_lt (month_length l t.month) 
     not_last h = ap day_number (day_on _ _ _ h) ∙ later t.year (days_before l t.month + (t.day + 1 - 1)) k (omega (arith, v.from_first))
 
     last_day : month_length l t.month ≤ t.day → day_number (tomorrow t) ≡ suc_ℤ (day_number t)
-    last_day h = ⊎_elim year month (le_or_lt 12 t.month)
+    last_day h = ⊎_elim month year (cases_lt t.month 12)
       where
         month : t.month < 12 → day_number (tomorrow t) ≡ suc_ℤ (day_number t)
         month q =

@@ -4,7 +4,7 @@ use lib.IntN.{suc_ℤ, sub_ℕ, +ℤ_idr, +ℤ_assoc, suc_ℤ-*ℤ}
 use borrow.Author.Tests.{eqb-false}
 use Rattle.texts.specs.Floor.{floor_div, floor_rem}
 use Rattle.texts.specs.Calendar.{Day, leap, february, Valid, tomorrow}
-use Rattle.texts.proofs.Tested.{le_or_lt}
+use Rattle.std.proofs.lemmas.Bool.{cases_lt}
 use Rattle.texts.proofs.Years.{year_of, start, first_start, last_start, year_long, year_small, year_start, year_end, year_is}
 use Rattle.texts.proofs.Months.{md_of, date_of, inside, over, valid}
 
@@ -73,7 +73,7 @@ pub record Over (s : ℤ) : Type 0 where
   pub rem : floor_rem (suc_ℤ s) 146097 ≡ 0
 
 pub divided : (s : ℤ) → Inside s ⊎ Over s
-divided (pos n) = ⊎_elim there here (le_or_lt 146096 (n % 146097))
+divided (pos n) = ⊎_elim here there (cases_lt (n % 146097) 146096)
   where
     there : 146096 ≤ n % 146097 → Inside (pos n) ⊎ Over (pos n)
     there h = inr (record { full = omega arith; div = ap pos (omega arith); rem = omega arith })
@@ -81,7 +81,7 @@ divided (pos n) = ⊎_elim there here (le_or_lt 146096 (n % 146097))
     here : n % 146097 < 146096 → Inside (pos n) ⊎ Over (pos n)
     here h = inl (record { more = omega arith; div = ap pos (omega arith); rem = omega arith })
 divided (negsuc zero) = inr (record { full = refl; div = refl; rem = refl })
-divided (negsuc (suc n)) = ⊎_elim here there (le_or_lt 1 (suc n % 146097))
+divided (negsuc (suc n)) = ⊎_elim there here (cases_lt (suc n % 146097) 1)
   where
     here : 1 ≤ suc n % 146097 → Inside (negsuc (suc n)) ⊎ Over (negsuc (suc n))
     here h = inl (record { more = omega arith; div = ap negsuc (omega arith); rem = omega arith })
@@ -135,7 +135,7 @@ turns era y t k q =
     over b t (f ∙ ap (λ (l : Bool). 336 + february l) (sym (leap_on era y))) ∙ ap (λ (z : ℤ). date_of z (md_of 0)) (on era y)
 
 pub era_next : (era : ℤ) (e : ℕ) → suc e < 146097 → tomorrow (era_date era e) ≡ era_date era (suc e)
-era_next era e h = ⊎_elim turn stay (le_or_lt (start (suc y)) (suc e))
+era_next era e h = ⊎_elim stay turn (cases_lt (suc e) (start (suc y)))
   where
     y : ℕ
     y = year_of e

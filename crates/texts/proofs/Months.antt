@@ -1,8 +1,9 @@
 -- The days of a year from March to February: their month and day, and that each is the day after the one before it.
-use Rattle.std.proofs.Common.{◌≡◌, ℕ, suc, ◌+◌, ◌-◌, ◌*◌, ◌/◌, ◌<◌, ◌≤◌, Bool, true, false, T, eqb, ltb, leb, ℤ, pos, ◌+ℤ◌, sym, refl, ap, ◌∙◌, ⊎_elim, arith, eqb→eq, leb→le, le-ltb, lt-ltb}
+use Rattle.std.proofs.Common.{◌≡◌, ℕ, suc, ◌+◌, ◌-◌, ◌*◌, ◌/◌, ◌<◌, ◌≤◌, Bool, true, false, T, eqb, ltb, leb, ℤ, pos, ◌+ℤ◌, sym, refl, ap, ◌∙◌, ⊎_elim, arith, eqb→eq, leb→le, le-ltb}
 use lib.IntN.{+ℤ-suc_ℤ, +ℤ_idr}
 use Rattle.texts.specs.Calendar.{Day, day_of, and, leap, february, month_length, Valid, pick_day, tomorrow}
-use Rattle.texts.proofs.Tested.{below, below_at, both, le_or_lt}
+use Rattle.texts.proofs.Tested.{below, below_at, both}
+use Rattle.std.proofs.lemmas.Bool.{cases_lt}
 
 -- a month and day, and how many years after that of its first of March
 pub record Md : Type 0 where
@@ -89,10 +90,6 @@ unfolding below held md_of month_of day_in month_length
 all_held true = tt
 all_held false = tt
 
-before_january : (t : ℕ) → t < 306 → (md_of t).more ≡ 0
-unfolding md_of month_of
-before_january t h = let q : (5 * t + 2) / 153 < 10 = omega arith in simp (lt-ltb _ _ q)
-
 from_january : (t : ℕ) → 306 ≤ t → (md_of t).more ≡ 1
 unfolding md_of month_of
 from_january t h = let q : 10 ≤ (5 * t + 2) / 153 = omega arith in simp (le-ltb _ _ q)
@@ -103,7 +100,7 @@ short false = omega arith
 
 -- the length of February does not matter before January
 reach : (b : ℤ) (j t : ℕ) → 278 ≤ j → t < j + february (leap (b +ℤ pos 1)) → t < j + february (leap (b +ℤ pos (md_of t).more))
-reach b j t k h = ⊎_elim late early (le_or_lt 306 t)
+reach b j t k h = ⊎_elim early late (cases_lt t 306)
   where
     late : 306 ≤ t → t < j + february (leap (b +ℤ pos (md_of t).more))
     late q = rw (from_january t q) h

@@ -9,20 +9,17 @@ use Rattle.texts.specs.declared.parse.Date.{Date}
 use Rattle.texts.specs.declared.render.Refused.{Refused}
 use Rattle.texts.specs.Calendar.{Day, day_of, dated, leap, civil_of, civil_from, near}
 use Rattle.texts.specs.Held.{held, added}
-use Rattle.texts.specs.Reason.{Width, Outcome, gives, refuses, reason_of, Says, shorter}
-use Rattle.texts.specs.DateText.{two, between, long_date, short_date, date_text, without_century, envelope_date}
+use Rattle.texts.specs.Reason.{Width, Outcome, gives, refuses, pick, reason_of, Says, shorter}
+use Rattle.texts.specs.DateText.{two, between, long_date, short_date, date_by, date_text, without_century, envelope_date}
 use Rattle.texts.specs.Clock.{hours_minutes, hours_minutes_seconds, clock, time_text, short_clock, envelope_time}
 use Rattle.texts.proofs.Sums.{Back}
 use Rattle.texts.proofs.Ranges.{Inside, within}
-use Rattle.texts.proofs.Texts.{added_held, held_len}
+use Rattle.texts.proofs.Texts.{added_held}
 use Rattle.texts.proofs.Dates.{month_long, civil_valid}
 
 -- two more digits behind a text that has at most 46 bytes
 pub paired : (t : Text) (xs : List ℕ) (n : ℕ) → t ≡ held xs → length xs ≤ 46 → added t (two n) ≡ held (xs ++ two n)
 paired t xs n e h = ap (λ (u : Text). added u (two n)) e ∙ added_held xs (two n) (omega arith)
-
-pub room : (t : Text) (xs : List ℕ) → t ≡ held xs → length xs ≤ 46 → t.len ≤ 46
-room t xs e h = let q : t.len ≡ length xs = ap (λ (u : Text). u.len) e ∙ held_len xs in omega arith
 
 pub text_says : (t : Text) (xs : List ℕ) (o : Outcome) → t ≡ held xs → o ≡ gives xs → Says (Ok t) o
 text_says t xs o e p = rw p (record { text = e; reason = refl })
@@ -112,32 +109,36 @@ nothing_less : (b : Bool) → without_century b (refuses 1) ≡ refuses 1
 nothing_less true = refl
 nothing_less false = refl
 
--- a date by the element's max
-module _ {d y : ℤ} {m n : ℕ} (max : Width) (h : Told d y m n) where
-  pub date_short : shorter max 8 ≡ true → date_text d max ≡ short_date 1950 2049 2 (day_of y m n)
-  unfolding date_text
-  date_short e = simp (h.in_reach, e) (ap (short_date 1950 2049 2) h.date)
+-- a date whose six digits are read as years from low to high
+module _ (low high reason : ℕ) {d y : ℤ} {m n : ℕ} (max : Width) (h : Told d y m n) where
+  pub years_short : shorter max 8 ≡ true → date_by low high reason d max ≡ short_date low high reason (day_of y m n)
+  unfolding date_by
+  years_short e = simp (h.in_reach, e) (ap (short_date low high reason) h.date)
 
-  pub date_long : shorter max 8 ≡ false → date_text d max ≡ long_date (day_of y m n)
-  unfolding date_text
-  date_long e = simp (h.in_reach, e) (ap long_date h.date)
+  pub years_long : shorter max 8 ≡ false → date_by low high reason d max ≡ long_date (day_of y m n)
+  unfolding date_by
+  years_long e = simp (h.in_reach, e) (ap long_date h.date)
 
-  pub envelope_short : shorter max 8 ≡ true → envelope_date d max ≡ short_date 1 9999 1 (day_of y m n)
-  unfolding envelope_date date_text
-  envelope_short e = simp (h.in_reach, e) (ap (λ (t : Day). without_century true (long_date t)) h.date ∙ no_century (day_of y m n))
+pub years_far : (low high reason : ℕ) (d : ℤ) (max : Width) → near d ≡ false → date_by low high reason d max ≡ refuses 1
+unfolding date_by
+years_far low high reason d max h = simp h
 
-  pub envelope_long : shorter max 8 ≡ false → envelope_date d max ≡ long_date (day_of y m n)
-  unfolding envelope_date date_text
-  envelope_long e = simp (h.in_reach, e) (ap long_date h.date)
+-- a cell's date, and an envelope's
+pub cell_years : (d : ℤ) (max : Width) → SFits w32 d → date_text d max ≡ date_by 1950 2049 2 (Back d) max
+unfolding date_text date_by
+cell_years d max f = rw (to_z-of_z f) refl
 
-module _ (d : ℤ) (max : Width) (h : near d ≡ false) where
-  pub date_far : date_text d max ≡ refuses 1
-  unfolding date_text
-  date_far = simp h
+pub envelope_years : (d : ℤ) (max : Width) → SFits w32 d → envelope_date d max ≡ date_by 1 9999 1 (Back d) max
+unfolding envelope_date date_text date_by
+envelope_years d max f = rw (to_z-of_z f) (go (shorter max 8) (near d))
+  where
+    t : Day
+    t = civil_of d
 
-  pub envelope_far : envelope_date d max ≡ refuses 1
-  unfolding envelope_date date_text
-  envelope_far = simp h (nothing_less (shorter max 8))
+    go : (s r : Bool) → without_century s (pick r (long_date t) (refuses 1)) ≡ pick r (pick s (short_date 1 9999 1 t) (long_date t)) (refuses 1)
+    go true true = no_century t
+    go false true = refl
+    go s false = nothing_less s
 
 -- a time within one day, and outside it
 module _ (z : ℤ) (max : Width) (h : between 0 86399 z ≡ false) where

@@ -1,5 +1,5 @@
 -- Tests that antt computes, over all numbers below one, and the rule at each.
-use Rattle.std.proofs.Common.{◌≡◌, ℕ, zero, suc, ◌<◌, ◌≤◌, Bool, true, false, T, leb, ◌⊎◌, sym, refl, subst, inl, inr, ⊎_elim, eq-or-lt_of_le, arith, leb-false, leb-true}
+use Rattle.std.proofs.Common.{ℕ, zero, suc, ◌<◌, ◌≤◌, Bool, true, false, T, sym, subst, ⊎_elim, eq-or-lt_of_le, arith}
 use Rattle.texts.specs.Calendar.{and}
 
 -- p holds of each number below n
@@ -19,10 +19,3 @@ below_at (suc n) p h k q =
     let q' : k ≤ n = omega arith in
     let rest : k < n → T (p k) = below_at n p b.1 k in
     ⊎_elim (λ e. subst (λ (j : ℕ). T (p j)) (sym e) b.0) rest (eq-or-lt_of_le q')
-
-pub le_or_lt : (a b : ℕ) → (a ≤ b) ⊎ (b < a)
-le_or_lt a b = go (leb a b) refl
-  where
-    go : (t : Bool) → leb a b ≡ t → (a ≤ b) ⊎ (b < a)
-    go true e = inl (leb-true a b e)
-    go false e = inr (leb-false a b e)

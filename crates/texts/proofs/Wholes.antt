@@ -1,5 +1,5 @@
 -- Laws of whole numbers, whose digits are put in their places from the last on.
-use Rattle.std.proofs.Common.{◌≡◌, ℕ, suc, ◌+◌, ◌-◌, ◌*◌, ◌/◌, ◌%◌, ◌^◌, ◌<◌, ◌≤◌, List, [], ◌∷◌, ◌++◌, length, set, sym, refl, ap, ◌∙◌, ap₂, append-nil, add-zero, div-one, arith, below_more}
+use Rattle.std.proofs.Common.{◌≡◌, ℕ, suc, ◌+◌, ◌-◌, ◌*◌, ◌/◌, ◌%◌, ◌^◌, ◌<◌, ◌≤◌, List, [], ◌∷◌, ◌++◌, length, set, sym, refl, ap, ◌∙◌, ap₂, append-nil, add-zero, arith, below_more}
 use lib.Seq.{sets, set_comm}
 use Rattle.texts.specs.declared.Text.{Text}
 use Rattle.texts.specs.Held.{held, added}
@@ -7,37 +7,19 @@ use Rattle.texts.specs.declared.number.Shortened.{Shortened}
 use Rattle.texts.specs.Number.{digit, figures, size, count_text, fixed_text}
 use Rattle.texts.specs.Digits.{Shortens}
 use Rattle.texts.proofs.Texts.{added_held}
-use Rattle.texts.proofs.Numbers.{ten_mono, ten_next, ten_below, next_place, size_is, figures_length, figures_last, trim_none}
+use Rattle.texts.proofs.Numbers.{ten_next, ten_below, next_place, size_is, figures_length, figures_last, trim_none}
 
--- a number's size, found by powers of ten up to the highest of 64 bits
-pub size_more : (n p k : ℕ) → p ≡ 10 ^ k → p ≤ n → (j : ℕ) → 1 ≤ j → n < 10 ^ j → k + 1 ≤ j
-size_more n p k e h j one l = omega (arith, ten_below n k j (rw (← e) h) l)
+-- a number's size by the power of ten below it
+pub size_next : (n k : ℕ) → 10 ^ k ≤ n → n < 10 * 10 ^ k → k + 1 ≡ size n
+size_next n k h l =
+    let t : 10 ^ k * 10 ≡ 10 ^ (k + 1) = ten_next (10 ^ k) k refl in
+    let b : n < 10 ^ (k + 1) = omega arith in
+    sym (size_is n (k + 1) (omega arith) b (λ j one m. omega (arith, ten_below n k j h m)))
 
-pub size_room : (n p k : ℕ) → p ≡ 10 ^ k → p ≤ n → n < 10 ^ 19 → k < 19
-size_room n p k e h l = ten_below n k 19 (rw (← e) h) l
-
-pub power_fits : (n p k : ℕ) → p ≡ 10 ^ k → p ≤ n → n < 10 ^ 19 → p * 10 < 2 ^ 64
-power_fits n p k e h l =
-    let r : k < 19 = size_room n p k e h l in
-    let m : 10 ^ (k + 1) ≤ 10 ^ 19 = ten_mono {i = k + 1} {j = 19} (omega arith) in
-    let t : p * 10 ≡ 10 ^ (k + 1) = ten_next p k e in
-    omega arith
-
-pub size_top : (n : ℕ) → n < 2 ^ 64 → 10 ^ 19 ≤ n → 20 ≡ size n
-size_top n h l = sym (size_is n 20 (omega arith) (omega arith) (size_more n (10 ^ 19) 19 refl l))
-
-pub size_found : (n p k : ℕ) → 1 ≤ k → p ≡ 10 ^ k → n < p → ((j : ℕ) → 1 ≤ j → n < 10 ^ j → k ≤ j) → k ≡ size n
-size_found n p k one e h least = sym (size_is n k one (rw (← e) h) least)
+pub size_none : (n : ℕ) → n ≡ 0 → 1 ≡ size n
+size_none n e = sym (size_is n 1 (omega arith) (omega arith) (λ j one m. one))
 
 -- zeros of a fraction go one by one
-pub shortens_none : (n scale : ℕ) → Shortens n scale (record { rest = n; scale = scale })
-shortens_none n scale =
-    let z : scale - scale ≡ 0 = omega arith in
-    record {
-      rest = sym (ap (λ (k : ℕ). n / 10 ^ k) z ∙ div-one n);
-      zeros = λ i h. absurd (omega arith);
-    }
-
 pub shortens_more : (n scale rest left : ℕ) → Shortens n scale (record { rest = rest; scale = left }) → 0 < left → left ≤ scale → rest % 10 ≡ 0
     → Shortens n scale (record { rest = rest / 10; scale = left - 1 })
 shortens_more n scale rest left s h l z =

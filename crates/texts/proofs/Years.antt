@@ -2,7 +2,8 @@
 -- and the rule at each day.
 use Rattle.std.proofs.Common.{◌≡◌, ℕ, zero, suc, ◌+◌, ◌-◌, ◌*◌, ◌/◌, ◌<◌, ◌≤◌, min, Bool, T, eqb, pos, refl, ap, ◌∙◌, ⊎_elim, suc-le-suc, le_trans, eq-or-lt_of_le, arith, eqb→eq}
 use Rattle.texts.specs.Calendar.{leap, february}
-use Rattle.texts.proofs.Tested.{below, below_at, le_or_lt}
+use Rattle.texts.proofs.Tested.{below, below_at}
+use Rattle.std.proofs.lemmas.Bool.{cases_lt}
 
 -- days, without those of leap years: 365 of them a year
 unfoldable pub common : ℕ → ℕ
@@ -101,7 +102,7 @@ year_start e h = go (year_of e) refl
   where
     go : (y : ℕ) → year_of e ≡ y → start y ≤ e
     go zero p = omega (arith, first_start)
-    go (suc y) p = ⊎_elim (λ l. l) (λ l. absurd (late l)) (le_or_lt (start (suc y)) e)
+    go (suc y) p = ⊎_elim (λ l. absurd (late l)) (λ l. l) (cases_lt e (start (suc y)))
       where
         late : e < start (suc y) → ⊥
         late l =
@@ -116,7 +117,7 @@ year_start e h = go (year_of e) refl
 
 -- and before the start of the next
 pub year_end : (e : ℕ) → e < 146097 → e < start (suc (year_of e))
-year_end e h = ⊎_elim (λ l. absurd (early l)) (λ l. l) (le_or_lt (start (suc (year_of e))) e)
+year_end e h = ⊎_elim (λ l. l) (λ l. absurd (early l)) (cases_lt e (start (suc (year_of e))))
   where
     early : start (suc (year_of e)) ≤ e → ⊥
     early l = ⊎_elim (λ q. full q) (λ q. next q) (eq-or-lt_of_le (year_small e h))

@@ -71,7 +71,7 @@ fn positive(w: Wide) -> bool
     0 < w.hi || 0 < w.lo
 }
 
-// The digits of a number as bytes of text, the lowest first, and how many there are; zeros stand behind them.
+// The digits of a number as bytes of text, the lowest first, and how many there are; zeros stand behind them. An array, since there is no heap.
 #[derive(Clone, Copy)]
 struct Places {
     bytes: [u8; 48],
@@ -107,43 +107,30 @@ fn first_filled(places: [u8; 48], scale: usize) -> usize
     scale
 }
 
-// The text with the places from `top` down to `low` behind it.
-fn with_places(t: Text, places: [u8; 48], low: usize, top: usize) -> Text
-    requires { (low ≤ top) × (top ≤ 48) × (t.len + (top - low) ≤ 48) }
-    ensures { (result ≡ added t (down places low (top - low))) × (result.len ≡ t.len + (top - low)) }
-{
-    let mut bytes = t.bytes;
-    let mut len = t.len;
-    for i in (low..top).rev() {
-        bytes[len] = places[i];
-        len += 1;
+impl Text {
+    // A minus sign, or nothing.
+    fn sign(negative: bool) -> Text
+        ensures { (result ≡ held (minus negative)) × (result.len ≤ 1) }
+    {
+        if negative {
+            return Text::empty().with(b'-');
+        }
+        Text::empty()
     }
-    Text { bytes, len }
-}
 
-fn with_point(t: Text) -> Text
-    requires { t.len < 48 }
-    ensures { (result ≡ added t (46 ∷ [])) × (result.len ≡ t.len + 1) }
-{
-    let mut bytes = t.bytes;
-    let len = t.len;
-    bytes[len] = 46;
-    Text {
-        bytes,
-        len: len + 1,
+    // The text with the places from `top` down to `low` behind it, stored in place: `with` would copy the text for each.
+    fn with_places(self, places: [u8; 48], low: usize, top: usize) -> Text
+        requires { (low ≤ top) × (top ≤ 48) × (self.len + (top - low) ≤ 48) }
+        ensures { (result ≡ added self (down places low (top - low))) × (result.len ≡ self.len + (top - low)) }
+    {
+        let mut bytes = self.bytes;
+        let mut len = self.len;
+        for i in (low..top).rev() {
+            bytes[len] = places[i];
+            len += 1;
+        }
+        Text { bytes, len }
     }
-}
-
-// A minus sign, or nothing.
-fn sign_text(negative: bool) -> Text
-    ensures { (result ≡ held (minus negative)) × (result.len ≤ 1) }
-{
-    let mut bytes = [0u8; 48];
-    if negative {
-        bytes[0] = 45;
-        return Text { bytes, len: 1 };
-    }
-    Text { bytes, len: 0 }
 }
 
 // A number in fixed point by its places: those down to the point, then those below up to the last that is no zero.
@@ -155,11 +142,11 @@ fn placed_text(negative: bool, w: Wide, scale: usize) -> Text
     let places = p.bytes;
     let top = p.count.max(scale + 1);
     let low = first_filled(places, scale);
-    let whole = with_places(sign_text(negative), places, scale, top);
+    let whole = Text::sign(negative).with_places(places, scale, top);
     if low == scale {
         return whole;
     }
-    with_places(with_point(whole), places, low, scale)
+    whole.with(b'.').with_places(places, low, scale)
 }
 
 // A number less trailing zeros of its fraction, and how many places of that are left.
@@ -189,24 +176,17 @@ fn without_zeros(n: u64, scale: usize) -> Shortened
 fn size_of(n: u64) -> usize
     ensures { (result ≡ size n) × (result ≤ 20) }
 {
-    if 10000000000000000000 <= n {
-        return 20;
+    match n.checked_ilog10() {
+        Some(highest) => highest as usize + 1,
+        None => 1,
     }
-    let mut count: usize = 1;
-    let mut power: u64 = 10;
-    // No `for`: a last turn too many would overflow the power.
-    while power <= n {
-        power *= 10;
-        count += 1;
-    }
-    count
 }
 
 // The sign and a whole number, its digits put in their places from the last on.
 fn whole_text(negative: bool, n: u64) -> Text
     ensures { result ≡ held (minus negative ++ count_text n) }
 {
-    let t = sign_text(negative);
+    let t = Text::sign(negative);
     let first = t.len;
     let mut bytes = t.bytes;
     let len = first + size_of(n);

@@ -3,7 +3,7 @@ ghost use Rattle.std.specs.Prelude.{◌≡◌, ℕ, ◌%◌, ◌<◌, ◌≤◌,
 ghost use Rattle.texts.specs.Calendar.{day_of};
 ghost use Rattle.texts.specs.Held.{held, added};
 ghost use Rattle.texts.specs.Reason.{refuses, reason_of, Says, shorter};
-ghost use Rattle.texts.specs.DateText.{two, long_date, short_date, date_text, envelope_date};
+ghost use Rattle.texts.specs.DateText.{two, long_date, short_date, date_by, date_text, envelope_date};
 ghost use Rattle.texts.specs.Clock.{time_text, envelope_time};
 
 use crate::parse::Date;
@@ -13,10 +13,19 @@ use crate::{Text, parse, signed};
 // one day, its seconds find no room.
 #[derive(Clone, Copy)]
 pub enum Refused {
-    Year,
-    Window,
-    Day,
-    Seconds,
+    Year = 1,
+    Window = 2,
+    Day = 3,
+    Seconds = 4,
+}
+
+impl Refused {
+    // The number of the reason.
+    pub fn number(self) -> u64
+        ensures { result ≡ reason_of self }
+    {
+        self as u64
+    }
 }
 
 // Whether an element takes fewer than n bytes.
@@ -26,48 +35,40 @@ fn is_below(max: Option<usize>, n: usize) -> bool
     matches!(max, Some(m) if m < n)
 }
 
-// No text.
-pub fn empty() -> Text
-    ensures { result ≡ held [] }
-{
-    Text {
-        bytes: [0u8; 48],
-        len: 0,
+impl Text {
+    // Two more digits.
+    fn pair(self, n: u32) -> Text
+        requires { (self.len ≤ 46) × (n < 100) }
+        ensures { result ≡ added self (two n) }
+    {
+        let at = self.len;
+        let mut bytes = self.bytes;
+        bytes[at] = (48 + n / 10) as u8;
+        bytes[at + 1] = (48 + n % 10) as u8;
+        Text { bytes, len: at + 2 }
     }
-}
 
-// Two more digits.
-fn pair(t: Text, n: u32) -> Text
-    requires { (t.len ≤ 46) × (n < 100) }
-    ensures { result ≡ added t (two n) }
-{
-    let at = t.len;
-    let mut bytes = t.bytes;
-    bytes[at] = (48 + n / 10) as u8;
-    bytes[at + 1] = (48 + n % 10) as u8;
-    Text { bytes, len: at + 2 }
-}
+    // Two pairs of digits, three, and four.
+    fn four(a: u32, b: u32) -> Text
+        requires { (a < 100) × (b < 100) }
+        ensures { result ≡ held (two a ++ two b) }
+    {
+        Text::empty().pair(a).pair(b)
+    }
 
-// Two pairs of digits, three, and four.
-fn four(a: u32, b: u32) -> Text
-    requires { (a < 100) × (b < 100) }
-    ensures { result ≡ held (two a ++ two b) }
-{
-    pair(pair(empty(), a), b)
-}
+    fn six(a: u32, b: u32, c: u32) -> Text
+        requires { (a < 100) × (b < 100) × (c < 100) }
+        ensures { result ≡ held (two a ++ two b ++ two c) }
+    {
+        Text::four(a, b).pair(c)
+    }
 
-fn six(a: u32, b: u32, c: u32) -> Text
-    requires { (a < 100) × (b < 100) × (c < 100) }
-    ensures { result ≡ held (two a ++ two b ++ two c) }
-{
-    pair(four(a, b), c)
-}
-
-fn eight(a: u32, b: u32, c: u32, d: u32) -> Text
-    requires { (a < 100) × (b < 100) × (c < 100) × (d < 100) }
-    ensures { result ≡ held (two a ++ two b ++ two c ++ two d) }
-{
-    pair(six(a, b, c), d)
+    fn eight(a: u32, b: u32, c: u32, d: u32) -> Text
+        requires { (a < 100) × (b < 100) × (c < 100) × (d < 100) }
+        ensures { result ≡ held (two a ++ two b ++ two c ++ two d) }
+    {
+        Text::six(a, b, c).pair(d)
+    }
 }
 
 // CCYYMMDD.
@@ -76,7 +77,7 @@ fn long_date(d: Date) -> Result<Text, Refused>
     ensures { Says result (long_date (day_of d.year d.month d.day)) }
 {
     let y = signed::in_range(d.year, 1, 9999).ok_or(Refused::Year)?;
-    Ok(eight(y / 100, y % 100, d.month as u32, d.day as u32))
+    Ok(Text::eight(y / 100, y % 100, d.month as u32, d.day as u32))
 }
 
 // YYMMDD of the years from low to high, refused for `why` otherwise.
@@ -85,29 +86,38 @@ fn short_date(d: Date, low: u32, high: u32, why: Refused) -> Result<Text, Refuse
     ensures { Says result (short_date low high (reason_of why) (day_of d.year d.month d.day)) }
 {
     let y = signed::in_range(d.year, low, high).ok_or(why)?;
-    Ok(six(y % 100, d.month as u32, d.day as u32))
+    Ok(Text::six(y % 100, d.month as u32, d.day as u32))
 }
 
-// A cell's date: CCYYMMDD, or YYMMDD of the years 1950 to 2049 where the element holds fewer than eight bytes.
+// CCYYMMDD, or where the element holds fewer than eight bytes YYMMDD of the years from low to high, refused for `why` otherwise.
+fn date_by(
+    days: i32,
+    max: Option<usize>,
+    low: u32,
+    high: u32,
+    why: Refused,
+) -> Result<Text, Refused>
+    ensures { Says result (date_by low high (reason_of why) days max) }
+{
+    let date = parse::civil_from_days(days).ok_or(Refused::Year)?;
+    if is_below(max, 8) {
+        return short_date(date, low, high, why);
+    }
+    long_date(date)
+}
+
+// A cell's date: its six digits are of the years 1950 to 2049.
 pub fn date_text(days: i32, max: Option<usize>) -> Result<Text, Refused>
     ensures { Says result (date_text days max) }
 {
-    let date = parse::civil_from_days(days).ok_or(Refused::Year)?;
-    if is_below(max, 8) {
-        return short_date(date, 1950, 2049, Refused::Window);
-    }
-    long_date(date)
+    date_by(days, max, 1950, 2049, Refused::Window)
 }
 
-// An envelope's date: CCYYMMDD, or YYMMDD of any century.
+// An envelope's date: its six digits are of any century.
 pub fn envelope_date(days: i32, max: Option<usize>) -> Result<Text, Refused>
     ensures { Says result (envelope_date days max) }
 {
-    let date = parse::civil_from_days(days).ok_or(Refused::Year)?;
-    if is_below(max, 8) {
-        return short_date(date, 1, 9999, Refused::Year);
-    }
-    long_date(date)
+    date_by(days, max, 1, 9999, Refused::Year)
 }
 
 // A cell's time: HHMM, or HHMMSS where it has seconds and the element holds them.
@@ -116,12 +126,12 @@ pub fn time_text(seconds: i32, max: Option<usize>) -> Result<Text, Refused>
 {
     let n = signed::in_range(seconds, 0, 86399).ok_or(Refused::Day)?;
     if n % 60 == 0 {
-        return Ok(four(n / 3600, n / 60 % 60));
+        return Ok(Text::four(n / 3600, n / 60 % 60));
     }
     if is_below(max, 6) {
         return Err(Refused::Seconds);
     }
-    Ok(six(n / 3600, n / 60 % 60, n % 60))
+    Ok(Text::six(n / 3600, n / 60 % 60, n % 60))
 }
 
 // An envelope's time: HHMM, or HHMMSS where it has seconds; a short one loses them.
@@ -130,7 +140,7 @@ pub fn envelope_time(seconds: i32, max: Option<usize>) -> Result<Text, Refused>
 {
     let n = signed::in_range(seconds, 0, 86399).ok_or(Refused::Day)?;
     if n % 60 == 0 || is_below(max, 6) {
-        return Ok(four(n / 3600, n / 60 % 60));
+        return Ok(Text::four(n / 3600, n / 60 % 60));
     }
-    Ok(six(n / 3600, n / 60 % 60, n % 60))
+    Ok(Text::six(n / 3600, n / 60 % 60, n % 60))
 }

@@ -87,7 +87,7 @@ fn tables_outside(s: Section, at: usize, n: usize) -> bool
 fn item_outside(s: Section, at: usize, n: usize) -> bool
     ensures { Says item_c s.entry.bytes.now s.entry.end at (on_loop (outside n)) result }
 {
-    if s.tag_at(at) == 1 {
+    if s.case(at) == Some(1) {
         let p = s.le_at(1, at);
         return outside_at(s, p, n);
     }

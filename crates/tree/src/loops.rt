@@ -57,7 +57,7 @@ impl<'a, 'p> Loops<'a, 'p> {
             return None;
         }
         let p = self.place_of(c);
-        if s.tag_at(p) == 1 {
+        if s.case(p) == Some(1) {
             let q = s.le_at(1, p);
             return Some(s.count_at(q));
         }

@@ -29,11 +29,10 @@ use Rattle.nest.specs.Lists.{on}
 use Rattle.nest.specs.Finding.{field, number_from}
 use Rattle.emit.specs.declared.findings.Spot.{Spot}
 use Rattle.emit.specs.declared.findings.Delimiters.{Delimiters}
-use Rattle.emit.specs.Table.{held_field}
 use Rattle.emit.specs.Puts as P
-use Rattle.emit.specs.Puts.{Put, and_put, put_all, part_at, place_of, held_in, unwritten, delimited, max_in}
+use Rattle.emit.specs.Puts.{Put, and_put, put_all, part_at, place_of, held_in, unwritten, delimited}
 use Rattle.emit.specs.Written.{spot_of, words_of, tried}
-use Rattle.emit.specs.Envelope.{Given, Sourced, is_numeric, min_in, padded_to, plainly, field_findings, put_sourced, source_at, put_element, control_in}
+use Rattle.emit.specs.Envelope.{Given, Sourced, is_numeric, padded_to, plainly, field_findings, put_sourced, source_at, put_element, control_in}
 use Rattle.emit.proofs.FindingLaws.{stored_findings}
 use Rattle.trigger.specs.declared.given.Source.{Source}
 use Rattle.trigger.specs.declared.opener.Drawn.{Drawn}
@@ -107,7 +106,7 @@ numeric_is (kind_r n) = refl
 numeric_is kind_dt = refl
 numeric_is kind_tm = refl
 
-pub padded_is : {b : List ℕ} {x : Element} (y : ℕ × ElementDef) (reason : ℕ) (text whole : List ℕ) (min : Width) (max : Width) → ElementSays b x y → reason ≤ 0 → min ≡ min_in x.min → max ≡ max_in x.max
+pub padded_is : {b : List ℕ} {x : Element} (y : ℕ × ElementDef) (reason : ℕ) (text whole : List ℕ) (min : Width) (max : Width) → ElementSays b x y → reason ≤ 0 → min ≡ x.min → max ≡ x.max
     → whole ≡ padded x.numeric min max text → whole ≡ padded_to y.1 reason text
 padded_is y zero text whole min max h k e f q = q ∙ rw (e, f, h.numeric, h.min, h.max, numeric_is y.1.kind)
 padded_is y (suc n) text whole min max h k e f q = absurd (omega arith)
@@ -122,10 +121,10 @@ put_as j trigger p d (Some f) g text e = rw e
 
 module _ (j : Job) (trigger : List ℕ) (b : List ℕ) (o : Option Sourced) (n : ℕ) (y : ℕ × ElementDef) (k : n ≡ y.0) where
   pub source_put_lem : (src : Source) → Tells b (Some src) o → (text : List ℕ) → text ≡ padded_to y.1 (why_in src.reason) (text_in b src)
-      → put_by j trigger n (held_field src.field) (why_in src.reason) src.checked text ≡ on o (put_sourced j trigger y.0 y.1) P.nothing
+      → put_by j trigger n src.field (why_in src.reason) src.checked text ≡ on o (put_sourced j trigger y.0 y.1) P.nothing
   source_put_lem src h text q =
       let s = h.says in
-      rw (← s, k) (put_as j trigger y.0 y.1 (held_field src.field) (record { text = text_in b src; reason = why_in src.reason; checked = src.checked }) text q)
+      rw (← s, k) (put_as j trigger y.0 y.1 src.field (record { text = text_in b src; reason = why_in src.reason; checked = src.checked }) text q)
 
   pub source_none : Tells b None o → P.nothing ≡ on o (put_sourced j trigger y.0 y.1) P.nothing
   source_none h = let s = h.says in rw (← s)
@@ -153,8 +152,8 @@ unfolding put_element source_at control_in control_text
 control_put j l number k y n text e f g h =
     let m : min_of j (loop_of j l).trigger k.opener ≡ y.1.min = rw (← f, e) h in
     rw (g, m, e, eq-eqb y.0 k.opener (sym e ∙ f))
-    (put_as j (loop_of j l).trigger y.0 y.1 (Some 9) (plainly (zero_padded (min_in y.1.min) (count_text number))) (zero_padded (min_in y.1.min) (count_text number))
-    (sym (pad_again (is_numeric y.1.kind) (min_in y.1.min) (max_in y.1.max) (count_text number))))
+    (put_as j (loop_of j l).trigger y.0 y.1 (Some 9) (plainly (zero_padded y.1.min (count_text number))) (zero_padded y.1.min (count_text number))
+    (sym (pad_again (is_numeric y.1.kind) y.1.min y.1.max (count_text number))))
 
 pub other_put : (j : Job) (trigger control : List ℕ) (depth opener : ℕ) (y : ℕ × ElementDef) → (y.0 ≡ opener → ⊥)
     → on (otherwise j trigger depth y.0 y.1) (put_sourced j trigger y.0 y.1) P.nothing ≡ put_element j trigger depth opener control y

@@ -31,23 +31,20 @@ use Rattle.texts.specs.DateText.{envelope_date}
 use Rattle.texts.specs.Clock.{envelope_time}
 use Rattle.texts.specs.Floor.{signed32}
 use Rattle.nest.specs.Lists.{on, first}
-use Rattle.emit.specs.Table.{held_field}
-use Rattle.emit.specs.Puts.{max_in}
 use Rattle.emit.specs.Envelope.{Sourced, plainly, outcome, separator, is_white, unless_last, trim_end, field_given, field_at, fielded, version_at, versioned, unsourced}
 use Rattle.emit.proofs.TextLaws.{held_text, why_err}
-use Rattle.emit.specs.Written.{repetition_of}
 use Rattle.trigger.specs.declared.given.Source.{Source}
 use Rattle.trigger.specs.Source.{Tells, otherwise}
 
 -- ---- the forms of a text
 
 pub told_stretch : (job v : List ℕ) (f : Rust.Option ℕ) (s : Stretch) → Holds job s v
-    → Tells job (Some (record { field = f; bytes = replicate 48 0; count = 0; start = s.start; len = s.len; reason = None; checked = true })) (Some (record { field = held_field f; given = plainly v }))
+    → Tells job (Some (record { field = f; bytes = replicate 48 0; count = 0; start = s.start; len = s.len; reason = None; checked = true })) (Some (record { field = f; given = plainly v }))
 unfolding stretch_of
 told_stretch job v f s h = record { says = rw h.bytes; short = omega arith }
 
 pub told_said : (job : List ℕ) (o : Outcome) (f : Rust.Option ℕ) (said : Result Text Refused) (t : Text) (e : Rust.Option Refused) → length o.text ≤ 48 → Says said o → t ≡ text_of said → e ≡ result_err said
-    → Tells job (Some (record { field = f; bytes = t.bytes; count = t.len; start = 0; len = 0; reason = e; checked = true })) (Some (record { field = held_field f; given = outcome o }))
+    → Tells job (Some (record { field = f; bytes = t.bytes; count = t.len; start = 0; len = 0; reason = e; checked = true })) (Some (record { field = f; given = outcome o }))
 unfolding held
 told_said job o f said t e h s x y =
     let z : t ≡ held o.text = x ∙ s.text in
@@ -145,11 +142,11 @@ module _ (e : E.Envelope) (d : ElementDef) (f : ℕ) where
   unfolding field_given
   field_5 q = rw q
 
-  pub field_6 : f ≡ 6 → fielded e d f ≡ Some (record { field = Some f; given = outcome (envelope_date (signed32 e.date) (max_in d.max)) })
+  pub field_6 : f ≡ 6 → fielded e d f ≡ Some (record { field = Some f; given = outcome (envelope_date (signed32 e.date) d.max) })
   unfolding field_given
   field_6 q = rw q
 
-  pub field_7 : f ≡ 7 → fielded e d f ≡ Some (record { field = Some f; given = outcome (envelope_time (signed32 e.time) (max_in d.max)) })
+  pub field_7 : f ≡ 7 → fielded e d f ≡ Some (record { field = Some f; given = outcome (envelope_time (signed32 e.time) d.max) })
   unfolding field_given
   field_7 q = rw q
 
@@ -196,7 +193,7 @@ module _ {b : List ℕ} {x : Element} {y : ℕ × ElementDef} (h : ElementSays b
   pub code_holds : (s : Stretch) → x.code ≡ Some s → Holds b s (stretch_of b s)
   code_holds s q = record { bytes = refl; within = let w = h.code.within in rw q at w }
 
-module _ (r : Rust.Option ℕ) (v : Option ℕ) (e : repetition_of r ≡ v) where
+module _ (r : Rust.Option ℕ) (v : Option ℕ) (e : r ≡ v) where
   pub again_there : (b : ℕ) → r ≡ Some b → v ≡ Some b
   again_there b q = sym e ∙ rw q
 
@@ -266,7 +263,7 @@ field_none e d f h k l = go (dec_lt 9 f)
     go (yes q) = field_more e d f (omega arith)
     go (no q) = field_9 e d f (omega arith)
 
-module _ (depth n m : ℕ) (r : Rust.Option ℕ) (e : held_field r ≡ field_at depth n) (k : n ≡ m) where
+module _ (depth n m : ℕ) (r : Rust.Option ℕ) (e : r ≡ field_at depth n) (k : n ≡ m) where
   pub field_there : (f : ℕ) → r ≡ Some f → field_at depth m ≡ Some f
   field_there f q = rw (← k, ← e, q)
 

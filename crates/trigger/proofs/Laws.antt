@@ -13,11 +13,11 @@ use Rattle.spec.specs.declared.ids.ControlRule.{ControlRule}
 use Rattle.spec.specs.Answers.{stretch_of, text_of, rule_of, control_of}
 use Rattle.segment.specs.Parts.{pick}
 use Rattle.texts.specs.Pad.{control_text}
-use Rattle.emit.specs.Envelope.{min_in, closer_put, control_in}
+use Rattle.emit.specs.Envelope.{closer_put, control_in}
 use Rattle.emit.specs.Fold as F
 use Rattle.emit.specs.Fold.{Out, quiet, segment_out, closer_out, opener_out, previous, count_of}
 
-pub control_is : (j : Job) (l opener number : ℕ) (trigger text : List ℕ) (min : Option ℕ) → trigger ≡ (loop_of j l).trigger → min ≡ min_of j trigger opener → text ≡ control_text number (min_in min)
+pub control_is : (j : Job) (l opener number : ℕ) (trigger text : List ℕ) (min : Option ℕ) → trigger ≡ (loop_of j l).trigger → min ≡ min_of j trigger opener → text ≡ control_text number min
     → (k : Control) → k.opener ≡ opener → text ≡ control_in j l k number
 unfolding control_in
 control_is j l opener number trigger text min e f g k h = g ∙ rw (f, e, h)

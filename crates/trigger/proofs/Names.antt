@@ -14,13 +14,12 @@ use Rattle.lent.specs.Fit.{more}
 use Rattle.spec.specs.declared.ids.Stretch.{Stretch}
 use Rattle.spec.specs.Answers.{Holds}
 use Rattle.emit.specs.declared.state.Counts.{Counts}
-use Rattle.emit.specs.declared.state.Mark.{Mark}
 use Rattle.emit.specs.declared.state.State.{State}
 use Rattle.emit.specs.declared.state.From.TheVariants.{Envelope}
 use Rattle.emit.specs.Envelope.{opener_put}
 use Rattle.emit.specs.Fold as F
 use Rattle.emit.specs.Fold.{quiet, counter_up, segment_out, opener_out, next}
-use Rattle.emit.specs.Did.{state_of, state_with, Did, DidNumber, Within, Finished}
+use Rattle.emit.specs.Did.{Mark, state_of, state_with, Did, DidNumber, Within, Finished}
 use Rattle.emit.proofs.NameLaws.{trigger_short, holds_length}
 use Rattle.emit.proofs.StateLaws.{number_in, number_up}
 use Rattle.emit.proofs.StepLaws.{did_segment}

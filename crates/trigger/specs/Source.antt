@@ -7,7 +7,6 @@ use Rattle.format.specs.Spec.{ElementDef}
 use Rattle.format.specs.Job.{Job}
 use Rattle.texts.specs.Reason.{why_in}
 use Rattle.nest.specs.Lists.{on}
-use Rattle.emit.specs.Table.{held_field}
 use Rattle.emit.specs.Envelope.{Sourced, field_at, fielded, version_at, versioned, unsourced}
 use Rattle.trigger.specs.declared.given.Source.{Source}
 
@@ -16,7 +15,7 @@ abbrev pub text_in : List ℕ → Source → List ℕ
 text_in job s = take s.count s.bytes ++ stretch job s.start s.len
 
 abbrev pub sourced_by : List ℕ → Source → Sourced
-sourced_by job s = record { field = held_field s.field; given = record { text = text_in job s; reason = why_in s.reason; checked = s.checked } }
+sourced_by job s = record { field = s.field; given = record { text = text_in job s; reason = why_in s.reason; checked = s.checked } }
 
 abbrev pub sourced : List ℕ → Rust.Option Source → Option Sourced
 sourced job None = None

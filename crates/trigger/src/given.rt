@@ -1,18 +1,17 @@
 // What an element of a trigger takes: a field of the envelope, the version, its first code.
 ghost use Rattle.std.specs.Prelude.{◌≡◌, List, [], ℕ, ◌+◌, ◌≤◌, ◌<◌, length, get_or, Option, None, Some};
 ghost use Rattle.format.specs.Spec.{ElementDef};
-ghost use Rattle.format.specs.Sections.{job_of};
 ghost use Rattle.format.specs.Ask.{same_bytes};
 ghost use Rattle.spec.specs.Answers.{stretch_of, Holds, HoldsText};
 ghost use Rattle.spec.specs.Cursor.{ElementSays};
 ghost use Rattle.texts.specs.Reason.{Outcome, Says};
 ghost use Rattle.nest.specs.Lists.{on};
-ghost use Rattle.nest.specs.Ready.{Ready};
-ghost use Rattle.emit.specs.Table.{held_field};
 ghost use Rattle.emit.specs.Envelope.{plainly, outcome, separator, trim_end, is_white, fielded, version_at, versioned, unsourced};
 ghost use Rattle.trigger.specs.Source.{Tells, otherwise};
+ghost use Rattle.nest.specs.Job.{job_by};
 
 use emit::{cells, envelope, signs};
+use nest::Job;
 use spec::envelope as caller;
 use spec::ids::{Element, Stretch, VersionRule};
 use spec::segments::same_at;
@@ -35,7 +34,7 @@ pub struct Source {
 // ---- the forms of a text
 
 fn of_stretch(field: Option<u8>, s: Stretch) -> Source
-    ensures { (job v : List ℕ) → Holds job s v → Tells job (Some result) (Some (record { field = held_field field; given = plainly v })) }
+    ensures { (job v : List ℕ) → Holds job s v → Tells job (Some result) (Some (record { field = field; given = plainly v })) }
 {
     Source {
         field,
@@ -49,7 +48,7 @@ fn of_stretch(field: Option<u8>, s: Stretch) -> Source
 }
 
 fn of_said(field: Option<u8>, said: Result<texts::Text, Refused>) -> Source
-    ensures { (job : List ℕ) (o : Outcome) → length o.text ≤ 48 → Says said o → Tells job (Some result) (Some (record { field = held_field field; given = outcome o })) }
+    ensures { (job : List ℕ) (o : Outcome) → length o.text ≤ 48 → Says said o → Tells job (Some result) (Some (record { field = field; given = outcome o })) }
 {
     let text = cells::text_in(said);
     let bytes = text.bytes;
@@ -66,7 +65,7 @@ fn of_said(field: Option<u8>, said: Result<texts::Text, Refused>) -> Source
 
 // A separator as the value itself.
 fn of_byte(field: Option<u8>, b: u8) -> Source
-    ensures { (job : List ℕ) → Tells job (Some result) (Some (record { field = held_field field; given = separator b })) }
+    ensures { (job : List ℕ) → Tells job (Some result) (Some (record { field = field; given = separator b })) }
 {
     let mut bytes = [0u8; 48];
     bytes[0] = b;
@@ -123,90 +122,56 @@ fn application(job: &[u8], code: Option<Stretch>, id: Stretch) -> Stretch
     }
 }
 
-// The sender, the receiver and the usage indicator.
-fn named(job: &[u8], index: &[u16], f: u8) -> Source
-    requires { Ready job.now index.now × (f < 6) }
-    ensures { (d : ElementDef) → Tells job.now (Some result) (fielded (job_of job.now).envelope d f) }
-{
-    if f == 0 {
-        return of_stretch(Some(f), caller::sender_qualifier(job, index));
-    }
-    if f == 1 {
-        return of_stretch(Some(f), caller::sender_id(job, index));
-    }
-    if f == 2 {
-        return of_stretch(Some(f), caller::receiver_qualifier(job, index));
-    }
-    if f == 3 {
-        return of_stretch(Some(f), caller::receiver_id(job, index));
-    }
-    applied(job, index, f)
-}
-
-fn applied(job: &[u8], index: &[u16], f: u8) -> Source
-    requires { Ready job.now index.now × (4 ≤ f) × (f < 6) }
-    ensures { (d : ElementDef) → Tells job.now (Some result) (fielded (job_of job.now).envelope d f) }
-{
-    if f == 4 {
-        let id = caller::sender_id(job, index);
-        let code = caller::application_sender(job, index);
-        return of_stretch(Some(f), application(job, code, id));
-    }
-    let id = caller::receiver_id(job, index);
-    let code = caller::application_receiver(job, index);
-    of_stretch(Some(f), application(job, code, id))
-}
-
 // The repetition element's own code, or else the separator where there is one.
-fn repetition_source(job: &[u8], index: &[u16], f: u8, x: Element) -> Option<Source>
-    requires { Ready job.now index.now × (f ≡ 10) }
-    ensures { (y : ℕ × ElementDef) → ElementSays job.now x y → Tells job.now result (fielded (job_of job.now).envelope y.1 f) }
+fn repetition_source(job: Job, f: u8, x: Element) -> Option<Source>
+    requires { f ≡ 10 }
+    ensures { (y : ℕ × ElementDef) → ElementSays job.entry.at.bytes.now x y → Tells job.entry.at.bytes.now result (fielded (job_by job.entry).envelope y.1 f) }
 {
     let code = x.code;
     match code {
         Some(s) => Some(of_stretch(Some(f), s)),
-        None => match signs::repetition_of(job, index) {
+        None => match signs::repetition_of(job.at) {
             Some(b) => Some(of_byte(Some(f), b)),
             None => None,
         },
     }
 }
 
-// The date, the time and the usage indicator.
-fn dated(job: &[u8], index: &[u16], f: u8, x: Element) -> Source
-    requires { Ready job.now index.now × (6 ≤ f) × (f < 9) }
-    ensures { (y : ℕ × ElementDef) → ElementSays job.now x y → Tells job.now (Some result) (fielded (job_of job.now).envelope y.1 f) }
-{
-    let most = x.max;
-    if f == 6 {
-        let days = parse::from_bits(caller::date(job, index));
-        return of_said(Some(f), render::envelope_date(days, cells::max_by(most)));
-    }
-    if f == 7 {
-        let seconds = parse::from_bits(caller::time(job, index));
-        return of_said(Some(f), render::envelope_time(seconds, cells::max_by(most)));
-    }
-    of_stretch(Some(f), caller::usage_indicator(job, index))
-}
-
 // What a field gives an element. Fields stay numbers: the layout and the findings have them so, and an enum would be made of its number and turned back into it.
-fn field_source(job: &[u8], index: &[u16], f: u8, x: Element) -> Option<Source>
-    requires { Ready job.now index.now }
-    ensures { (y : ℕ × ElementDef) → ElementSays job.now x y → Tells job.now result (fielded (job_of job.now).envelope y.1 f) }
+fn field_source(job: Job, f: u8, x: Element) -> Option<Source>
+    ensures { (y : ℕ × ElementDef) → ElementSays job.entry.at.bytes.now x y → Tells job.entry.at.bytes.now result (fielded (job_by job.entry).envelope y.1 f) }
 {
-    if f < 6 {
-        return Some(named(job, index, f));
+    match f {
+        0 => Some(of_stretch(Some(f), caller::sender_qualifier(job.at))),
+        1 => Some(of_stretch(Some(f), caller::sender_id(job.at))),
+        2 => Some(of_stretch(Some(f), caller::receiver_qualifier(job.at))),
+        3 => Some(of_stretch(Some(f), caller::receiver_id(job.at))),
+        4 => {
+            let code = caller::application_sender(job.at);
+            let id = caller::sender_id(job.at);
+            Some(of_stretch(Some(f), application(job.at.bytes, code, id)))
+        }
+        5 => {
+            let code = caller::application_receiver(job.at);
+            let id = caller::receiver_id(job.at);
+            Some(of_stretch(Some(f), application(job.at.bytes, code, id)))
+        }
+        6 => {
+            let days = parse::from_bits(caller::date(job.at));
+            Some(of_said(Some(f), render::envelope_date(days, cells::max_by(x.max))))
+        }
+        7 => {
+            let seconds = parse::from_bits(caller::time(job.at));
+            Some(of_said(
+                Some(f),
+                render::envelope_time(seconds, cells::max_by(x.max)),
+            ))
+        }
+        8 => Some(of_stretch(Some(f), caller::usage_indicator(job.at))),
+        10 => repetition_source(job, f, x),
+        11 => Some(of_byte(Some(f), caller::component_separator(job.at))),
+        _ => None,
     }
-    if f < 9 {
-        return Some(dated(job, index, f, x));
-    }
-    if f == 10 {
-        return repetition_source(job, index, f, x);
-    }
-    if f == 11 {
-        return Some(of_byte(Some(f), caller::component_separator(job, index)));
-    }
-    None
 }
 
 // ---- the spec
@@ -238,17 +203,17 @@ fn code_source(x: Element) -> Source
 }
 
 // The version where it names this element, or else the first code.
-fn spec_source(job: &[u8], index: &[u16], id: Stretch, x: Element) -> Source
-    requires { Ready job.now index.now × (id.start + id.len ≤ length job.now) }
-    ensures { (y : ℕ × ElementDef) → ElementSays job.now x y
-        → Tells job.now (Some result) (Some (on (version_at (job_of job.now) (stretch_of job.now id) y.0) versioned (unsourced y.1))) }
+fn spec_source(job: Job, id: Stretch, x: Element) -> Source
+    requires { id.start + id.len ≤ length job.at.bytes.now }
+    ensures { (y : ℕ × ElementDef) → ElementSays job.entry.at.bytes.now x y
+        → Tells job.entry.at.bytes.now (Some result) (Some (on (version_at (job_by job.entry) (stretch_of job.entry.at.bytes.now id) y.0) versioned (unsourced y.1))) }
 {
-    let version = spec::version::version(job, index);
+    let version = spec::version::version(job.at);
     match version {
         Some(v) => {
             let named = v.segment;
             let first = v.first;
-            let here = same(job, named, id);
+            let here = same(job.at.bytes, named, id);
             if here {
                 if v.element == x.number {
                     return of_stretch(Some(12), first);
@@ -264,14 +229,14 @@ fn spec_source(job: &[u8], index: &[u16], id: Stretch, x: Element) -> Source
 }
 
 // What an element of a trigger takes that is not the control number's.
-pub fn source_of(job: &[u8], index: &[u16], id: Stretch, depth: u32, x: Element) -> Option<Source>
-    requires { Ready job.now index.now × (id.start + id.len ≤ length job.now) }
-    ensures { (y : ℕ × ElementDef) → ElementSays job.now x y
-        → Tells job.now result (otherwise (job_of job.now) (stretch_of job.now id) depth y.0 y.1) }
+pub fn source_of(job: Job, id: Stretch, depth: u32, x: Element) -> Option<Source>
+    requires { id.start + id.len ≤ length job.at.bytes.now }
+    ensures { (y : ℕ × ElementDef) → ElementSays job.entry.at.bytes.now x y
+        → Tells job.entry.at.bytes.now result (otherwise (job_by job.entry) (stretch_of job.entry.at.bytes.now id) depth y.0 y.1) }
 {
     let held = envelope::field_at(depth as usize, x.number);
     match held {
-        Some(f) => field_source(job, index, f, x),
-        None => Some(spec_source(job, index, id, x)),
+        Some(f) => field_source(job, f, x),
+        None => Some(spec_source(job, id, x)),
     }
 }

@@ -3,21 +3,21 @@
 
 ghost use Rattle.std.specs.Prelude.{◌≡◌, List, [], ℕ, ◌<◌, Some};
 ghost use Rattle.format.specs.Spec.{Control};
-ghost use Rattle.format.specs.Sections.{job_of};
 ghost use Rattle.format.specs.Ask.{loop_of};
 ghost use Rattle.spec.specs.Answers.{counted_of, rule_of};
 ghost use Rattle.segment.specs.Parts.{pick};
 ghost use Rattle.segment.specs.Pen.{value_text};
-ghost use Rattle.nest.specs.Ready.{Ready};
 ghost use Rattle.emit.specs.Envelope.{control_in};
 ghost use Rattle.emit.specs.Fold.{next, previous, count_of, opener_out, closer_out};
 ghost use Rattle.emit.specs.Did.{DidNumber, Within};
 ghost use Rattle.trigger.specs.Drawn.{Framed};
+ghost use Rattle.nest.specs.Job.{job_by};
 
 use crate::number::control_in;
 use crate::opener::{Frame, put_opener};
 use emit::state::{Counts, From};
 use emit::{closer, signs, state};
+use nest::Job;
 use segment::Value;
 use spec::ids::{ControlRule, LoopId, Stretch};
 
@@ -28,16 +28,16 @@ pub mod opener;
 // ---- the opener
 
 // The trigger of loop l, whose control number stands at the opener's element.
-fn frame_of(job: &[u8], index: &[u16], l: LoopId, opener: u32, number: u64) -> Frame
-    requires { Ready job.now index.now × (l.0 < 32) }
-    ensures { (k : Control) → k.opener ≡ opener → Framed job.now l.0 k number result }
+fn frame_of(job: Job, l: LoopId, opener: u32, number: u64) -> Frame
+    requires { l.0 < 32 }
+    ensures { (k : Control) → k.opener ≡ opener → Framed job.entry.at.bytes.now l.0 k number result }
 {
-    let sep = signs::separators_of(job, index);
-    let tried = signs::delimiters_of(job, index);
-    let id = spec::loops::trigger(job, index, l);
-    let name = signs::id_number(job, id);
-    let depth = plan::layout::depth(job, index, l);
-    let control = control_in(job, index, l, opener, number);
+    let sep = signs::separators_of(job.at);
+    let tried = signs::delimiters_of(job.at);
+    let id = spec::loops::trigger(job.at, l);
+    let name = signs::id_number(job.at.bytes, id);
+    let depth = plan::layout::depth(job.at, l);
+    let control = control_in(job, l, opener, number);
     Frame {
         sep,
         tried,
@@ -50,8 +50,7 @@ fn frame_of(job: &[u8], index: &[u16], l: LoopId, opener: u32, number: u64) -> F
 }
 
 fn open_loop(
-    job: &[u8],
-    index: &[u16],
+    job: Job,
     doc: &mut [u8],
     segments: &mut [u64],
     findings: &mut [u64],
@@ -60,12 +59,12 @@ fn open_loop(
     l: LoopId,
     opener: u32,
 ) -> Counts
-    requires { Ready job.now index.now × Within s × (l.0 < 32) }
-    ensures { (k : Control) (p : List ℕ) → k.opener ≡ opener → (loop_of (job_of job.now) l.0).control ≡ Some k
-        → DidNumber l.0 (opener_out (job_of job.now) l.0) number (next number) s result doc.old doc.new segments.old segments.new findings.old findings.new p p }
+    requires { Within s × (l.0 < 32) }
+    ensures { (k : Control) (p : List ℕ) → k.opener ≡ opener → (loop_of (job_by job.entry) l.0).control ≡ Some k
+        → DidNumber l.0 (opener_out (job_by job.entry) l.0) number (next number) s result doc.old doc.new segments.old segments.new findings.old findings.new p p }
 {
-    let w = frame_of(job, index, l, opener, number);
-    let put = put_opener(job, index, doc, findings, w, s.bytes, s.findings);
+    let w = frame_of(job, l, opener, number);
+    let put = put_opener(job, doc, findings, w, s.bytes, s.findings);
     state::finish_segment(
         segments,
         s,
@@ -85,8 +84,7 @@ pub struct Numbered {
 
 // The trigger of loop l, with the loop's next control number.
 pub fn write_opener(
-    job: &[u8],
-    index: &[u16],
+    job: Job,
     doc: &mut [u8],
     segments: &mut [u64],
     findings: &mut [u64],
@@ -94,16 +92,16 @@ pub fn write_opener(
     number: u64,
     l: LoopId,
 ) -> Numbered
-    requires { Ready job.now index.now × Within s × (l.0 < 32) }
-    ensures { (p : List ℕ) → DidNumber l.0 (opener_out (job_of job.now) l.0) number result.number s result.counts doc.old doc.new segments.old segments.new findings.old findings.new p p }
+    requires { Within s × (l.0 < 32) }
+    ensures { (p : List ℕ) → DidNumber l.0 (opener_out (job_by job.entry) l.0) number result.number s result.counts doc.old doc.new segments.old segments.new findings.old findings.new p p }
 {
-    let control = spec::loops::control(job, index, l);
+    let control = spec::loops::control(job.at, l);
     match control {
         None => {
             return Numbered { counts: s, number };
         }
         Some(c) => {
-            let counts = open_loop(job, index, doc, segments, findings, s, number, l, c.opener);
+            let counts = open_loop(job, doc, segments, findings, s, number, l, c.opener);
             let after = state::next_number(number);
             return Numbered {
                 counts,
@@ -126,20 +124,19 @@ fn counted(kids: bool, children: usize, count: usize) -> u64
 }
 
 // The control number that a closer repeats, where `number` is the loop's next; empty where no opener was written.
-fn repeated(job: &[u8], index: &[u16], number: u64, l: LoopId, opener: u32, opened: bool) -> Value
-    requires { Ready job.now index.now × (l.0 < 32) }
-    ensures { (k : Control) → k.opener ≡ opener → value_text job.now result ≡ pick opened (control_in (job_of job.now) l.0 k (previous number)) [] }
+fn repeated(job: Job, number: u64, l: LoopId, opener: u32, opened: bool) -> Value
+    requires { l.0 < 32 }
+    ensures { (k : Control) → k.opener ≡ opener → value_text job.entry.at.bytes.now result ≡ pick opened (control_in (job_by job.entry) l.0 k (previous number)) [] }
 {
     if opened {
         let last = state::last_number(number);
-        return control_in(job, index, l, opener, last);
+        return control_in(job, l, opener, last);
     }
     segment::held(0, 0)
 }
 
 fn close_loop(
-    job: &[u8],
-    index: &[u16],
+    job: Job,
     doc: &mut [u8],
     segments: &mut [u64],
     s: Counts,
@@ -150,22 +147,22 @@ fn close_loop(
     children: usize,
     count: usize,
 ) -> Counts
-    requires { Ready job.now index.now × Within s × (l.0 < 32) × ((loop_of (job_of job.now) l.0).control ≡ Some (rule_of c)) }
-    ensures { (f p : List ℕ) → DidNumber l.0 (closer_out (job_of job.now) l.0 opened children count) number number s result doc.old doc.new segments.old segments.new f f p p }
+    requires { Within s × (l.0 < 32) × ((loop_of (job_by job) l.0).control ≡ Some (rule_of c)) }
+    ensures { (f p : List ℕ) → DidNumber l.0 (closer_out (job_by job.entry) l.0 opened children count) number number s result doc.old doc.new segments.old segments.new f f p p }
 {
-    let end = spec::loops::loop_end(job, index, l);
+    let end = spec::loops::loop_end(job.at, l);
     match end {
         None => {
             return s;
         }
         Some(id) => {
-            let control = repeated(job, index, number, l, c.opener, opened);
+            let control = repeated(job, number, l, c.opener, opened);
             let n = counted(c.children, children, count);
-            let sep = signs::separators_of(job, index);
+            let sep = signs::separators_of(job.at);
             return closer::write_closer(
                 doc,
                 segments,
-                job,
+                job.at.bytes,
                 s,
                 sep,
                 id.start,
@@ -181,8 +178,7 @@ fn close_loop(
 
 // The closer of loop l: its count, and the control number of its instance.
 pub fn write_close(
-    job: &[u8],
-    index: &[u16],
+    job: Job,
     doc: &mut [u8],
     segments: &mut [u64],
     s: Counts,
@@ -192,18 +188,16 @@ pub fn write_close(
     children: usize,
     count: usize,
 ) -> Counts
-    requires { Ready job.now index.now × Within s × (l.0 < 32) }
-    ensures { (f p : List ℕ) → DidNumber l.0 (closer_out (job_of job.now) l.0 opened children count) number number s result doc.old doc.new segments.old segments.new f f p p }
+    requires { Within s × (l.0 < 32) }
+    ensures { (f p : List ℕ) → DidNumber l.0 (closer_out (job_by job.entry) l.0 opened children count) number number s result doc.old doc.new segments.old segments.new f f p p }
 {
-    let control = spec::loops::control(job, index, l);
+    let control = spec::loops::control(job.at, l);
     match control {
         None => {
             return s;
         }
         Some(c) => {
-            return close_loop(
-                job, index, doc, segments, s, number, l, c, opened, children, count,
-            );
+            return close_loop(job, doc, segments, s, number, l, c, opened, children, count);
         }
     }
 }

@@ -3,7 +3,6 @@ ghost use Rattle.std.specs.Prelude.{◌≡◌, true, List, [], ◌∷◌, ℕ, �
 ghost use Rattle.lent.specs.Fit.{stretch, Noted, more};
 ghost use Rattle.format.specs.Spec.{Control, ElementDef, SegmentDef};
 ghost use Rattle.format.specs.Job.{Job};
-ghost use Rattle.format.specs.Sections.{job_of};
 ghost use Rattle.format.specs.Refusal.{separators};
 ghost use Rattle.format.specs.Ask.{loop_of, min_of, segment_def};
 ghost use Rattle.spec.specs.Answers.{stretch_of};
@@ -13,8 +12,6 @@ ghost use Rattle.segment.specs.declared.Separators as Signs;
 ghost use Rattle.segment.specs.Pen.{value_text};
 ghost use Rattle.nest.specs.Lists.{on};
 ghost use Rattle.nest.specs.Finding.{Origin, Place as In, field, number_from};
-ghost use Rattle.nest.specs.Ready.{Ready};
-ghost use Rattle.emit.specs.Table.{held_field};
 ghost use Rattle.emit.specs.Puts.{nothing, put_all, part_at, place_of, held_in};
 ghost use Rattle.emit.specs.Written.{spot_of, words_of, tried};
 ghost use Rattle.emit.specs.Envelope.{Sourced, field_findings, padded_to, put_sourced, opener_put};
@@ -22,6 +19,7 @@ ghost use Rattle.codec.specs.Maps.{rises_from};
 ghost use Rattle.texts.specs.Reason.{why_in};
 ghost use Rattle.trigger.specs.Source.{text_in, Short, Tells};
 ghost use Rattle.trigger.specs.Drawn.{Framed, element_put, put_by, Draws, Adds, Known, Opening, Drew, Told, Opened};
+ghost use Rattle.nest.specs.Job.{job_by};
 
 use crate::given::{Source, source_of};
 use crate::number::min_by;
@@ -96,7 +94,7 @@ fn reach(job: &[u8], last: usize, p: usize, v: Value) -> usize
 }
 
 fn entries_of(field: Option<u8>) -> usize
-    ensures { result ≡ on (held_field field) (λ f. 1) 0 }
+    ensures { result ≡ on field (λ f. 1) 0 }
 {
     match field {
         None => 0,
@@ -163,7 +161,7 @@ fn note_text(
     checked: bool,
 ) -> usize
     ensures { (j : Job) (trigger : List ℕ) → tried w.tried ≡ separators j.envelope → w.name ≡ number_from 0 trigger
-        → Noted findings.old at (words_of (put_by j trigger p (held_field field) (why_in reason) checked (value_text job.now v)).findings) result findings.new }
+        → Noted findings.old at (words_of (put_by j trigger p field (why_in reason) checked (value_text job.now v)).findings) result findings.new }
 {
     match field {
         None => lent::more(at, 0),
@@ -185,7 +183,7 @@ fn put_text(
     at: Drawn,
 ) -> Drawn
     ensures { (j : Job) (trigger : List ℕ) → tried w.tried ≡ separators j.envelope → w.name ≡ number_from 0 trigger
-        → Adds w.sep (put_by j trigger p (held_field field) (why_in reason) checked (value_text job.now v)) at result doc.old doc.new findings.old findings.new }
+        → Adds w.sep (put_by j trigger p field (why_in reason) checked (value_text job.now v)) at result doc.old doc.new findings.old findings.new }
 {
     let noted = note_text(job, findings, at.findings, w, field, p, v, reason, checked);
     let s = w.sep;
@@ -286,33 +284,42 @@ fn put_source(
 }
 
 fn put_element(
-    job: &[u8],
-    index: &[u16],
+    job: nest::Job,
     doc: &mut [u8],
     findings: &mut [u64],
     w: Frame,
     x: Element,
     at: Drawn,
 ) -> Drawn
-    requires { Ready job.now index.now × (w.id.start + w.id.len ≤ length job.now) × Known job.now x }
-    ensures { (l : ℕ) (k : Control) (number : ℕ) (y : ℕ × ElementDef) → Framed job.now l k number w → ElementSays job.now x y
-        → min_of (job_of job.now) (loop_of (job_of job.now) l).trigger y.0 ≡ y.1.min
-        → Adds w.sep (element_put job.now l k number y) at result doc.old doc.new findings.old findings.new }
+    requires { (w.id.start + w.id.len ≤ length job.at.bytes.now) × Known job.at.bytes.now x }
+    ensures { (l : ℕ) (k : Control) (number : ℕ) (y : ℕ × ElementDef) → Framed job.entry.at.bytes.now l k number w → ElementSays job.entry.at.bytes.now x y
+        → min_of (job_by job.entry) (loop_of (job_by job.entry) l).trigger y.0 ≡ y.1.min
+        → Adds w.sep (element_put job.entry.at.bytes.now l k number y) at result doc.old doc.new findings.old findings.new }
 {
     if x.number == w.opener {
         let v = w.control;
-        return put_text(job, doc, findings, w, Some(9), x.number, v, None, true, at);
+        return put_text(
+            job.at.bytes,
+            doc,
+            findings,
+            w,
+            Some(9),
+            x.number,
+            v,
+            None,
+            true,
+            at,
+        );
     }
     let id = w.id;
-    let src = source_of(job, index, id, w.depth, x);
-    put_source(job, doc, findings, w, x, src, at)
+    let src = source_of(job, id, w.depth, x);
+    put_source(job.at.bytes, doc, findings, w, x, src, at)
 }
 
 // ---- all of them
 
 fn put_elements(
-    job: &[u8],
-    index: &[u16],
+    job: nest::Job,
     doc: &mut [u8],
     findings: &mut [u64],
     w: Frame,
@@ -320,9 +327,9 @@ fn put_elements(
     pen: Pen,
     at: usize,
 ) -> Drawn
-    requires { Ready job.now index.now × (w.id.start + w.id.len ≤ length job.now) × Opening job.now w c }
-    ensures { (o : Opening job.now w c)
-        → Drew w.sep (put_all (element_put job.now o.loop o.control o.number) o.elements) pen at result doc.old doc.new findings.old findings.new }
+    requires { (w.id.start + w.id.len ≤ length job.at.bytes.now) × Opening job.at.bytes.now w c }
+    ensures { (o : Opening job.entry.at.bytes.now w c)
+        → Drew w.sep (put_all (element_put job.entry.at.bytes.now o.loop o.control o.number) o.elements) pen at result doc.old doc.new findings.old findings.new }
 {
     let start = lent::more(at, 0);
     let mut drawn = Drawn {
@@ -335,26 +342,26 @@ fn put_elements(
     let mut rest = c;
     // No `for`: the cursor over the elements counts itself.
     while 0 < rest.left {
-        let x = elements::element(job, rest);
-        drawn = put_element(job, index, doc, findings, w, x, drawn);
-        rest = elements::next_element(job, rest);
+        let x = elements::element(job.at.bytes, rest);
+        drawn = put_element(job, doc, findings, w, x, drawn);
+        rest = elements::next_element(job.at.bytes, rest);
     }
     drawn
 }
 
 // The elements that the definition of a segment has.
-fn elements_in(job: &[u8], index: &[u16], id: Stretch) -> Elements
-    requires { Ready job.now index.now × (id.start + id.len ≤ length job.now) }
-    ensures { Entries job.now result (on (segment_def (job_of job.now) (stretch_of job.now id)) (λ d. d) [])
-        × (rises_from 0 (on (segment_def (job_of job.now) (stretch_of job.now id)) (λ d. d) []) ≡ true) }
+fn elements_in(job: nest::Job, id: Stretch) -> Elements
+    requires { id.start + id.len ≤ length job.at.bytes.now }
+    ensures { Entries job.entry.at.bytes.now result (on (segment_def (job_by job.entry) (stretch_of job.entry.at.bytes.now id)) (λ d. d) [])
+        × (rises_from 0 (on (segment_def (job_by job.entry) (stretch_of job.entry.at.bytes.now id)) (λ d. d) []) ≡ true) }
 {
-    let place = spec::segments::elements_of(job, index, id);
+    let place = spec::segments::elements_of(job.at, id);
     match place {
         None => {
             return Elements { left: 0, at: 0 };
         }
         Some(p) => {
-            return elements::elements(job, p);
+            return elements::elements(job.at.bytes, p);
         }
     }
 }
@@ -369,22 +376,21 @@ pub struct Put {
 
 // A trigger's bytes from `at` on, and its findings from `noted` on.
 pub fn put_opener(
-    job: &[u8],
-    index: &[u16],
+    job: nest::Job,
     doc: &mut [u8],
     findings: &mut [u64],
     w: Frame,
     at: usize,
     noted: usize,
 ) -> Put
-    requires { Ready job.now index.now × Told job.now w }
-    ensures { (l : ℕ) (k : Control) (number : ℕ) → Framed job.now l k number w
-        → Opened (job_of job.now) (loop_of (job_of job.now) l).trigger (opener_put (job_of job.now) l k number) at noted result doc.old doc.new findings.old findings.new }
+    requires { Told job.at.bytes.now w }
+    ensures { (l : ℕ) (k : Control) (number : ℕ) → Framed job.entry.at.bytes.now l k number w
+        → Opened (job_by job.entry) (loop_of (job_by job.entry) l).trigger (opener_put (job_by job.entry) l k number) at noted result doc.old doc.new findings.old findings.new }
 {
     let id = w.id;
-    let c = elements_in(job, index, id);
-    let pen = segment::begin(doc, at, job, id.start, id.len);
-    let drawn = put_elements(job, index, doc, findings, w, c, pen, noted);
+    let c = elements_in(job, id);
+    let pen = segment::begin(doc, at, job.at.bytes, id.start, id.len);
+    let drawn = put_elements(job, doc, findings, w, c, pen, noted);
     let s = w.sep;
     let end = drawn.pen;
     let bytes = segment::close(doc, s, end, drawn.last);

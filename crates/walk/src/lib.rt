@@ -5,6 +5,9 @@ ghost use Rattle.std.specs.Prelude.{◌≡◌, ℕ, ◌+◌, ◌≤◌, ◌<◌,
 ghost use Rattle.walk.specs.Census.{counted};
 ghost use Rattle.walk.specs.Contexts.{kept_outside, kept_row, kept_piece, row_by, start_by, end_by};
 
+mod nested;
+
+pub use nested::Nest;
 use spec::ids::{RowId, TableId};
 
 // A run of grouped rows: its table, and its bounds, counted from the start of the parent's list.

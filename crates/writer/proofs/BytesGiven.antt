@@ -22,8 +22,8 @@ use Rattle.texts.specs.DateText.{date_text, envelope_date, without_century}
 use Rattle.texts.specs.Clock.{within_day, hours_minutes, hours_minutes_seconds, short_clock, envelope_time}
 use Rattle.segment.specs.Parts.{pick}
 use Rattle.nest.specs.Lists.{on, first}
-use Rattle.emit.specs.Puts.{nothing, put_text, max_in}
-use Rattle.emit.specs.Envelope.{Given, plainly, outcome, separator, trim_end, unless_last, is_white, repetition_given, field_at, field_given, Sourced, version_at, unsourced, versioned, fielded, source_at, is_numeric, min_in, padded_to, put_sourced, put_element}
+use Rattle.emit.specs.Puts.{nothing, put_text}
+use Rattle.emit.specs.Envelope.{Given, plainly, outcome, separator, trim_end, unless_last, is_white, repetition_given, field_at, field_given, Sourced, version_at, unsourced, versioned, fielded, source_at, is_numeric, padded_to, put_sourced, put_element}
 use Rattle.writer.proofs.BytesColumns.{text_long}
 use Rattle.writer.proofs.BytesTexts.{date_short}
 use Rattle.writer.proofs.BytesLimits.{all_at}
@@ -33,12 +33,12 @@ use Rattle.writer.proofs.BytesDefined.{or_zero, code_of, Defined}
 
 -- ---- padding
 
-pub zero_length : (min : Option ℕ) (text : List ℕ) → or_zero min ≤ 255 → length (zero_padded (min_in min) text) ≤ length text + 255
+pub zero_length : (min : Option ℕ) (text : List ℕ) → or_zero min ≤ 255 → length (zero_padded min text) ≤ length text + 255
 unfolding zero_padded
 zero_length None text h = omega arith
 zero_length (Some n) text h = omega (arith, length-append (replicate (n - length text) 48) text, length-replicate {A = ℕ} (n - length text) 48)
 
-space_length : (min : Option ℕ) (max : Width) (text : List ℕ) → or_zero min ≤ 255 → length (space_padded (min_in min) max text) ≤ length text + 255
+space_length : (min : Option ℕ) (max : Width) (text : List ℕ) → or_zero min ≤ 255 → length (space_padded min max text) ≤ length text + 255
 unfolding space_padded
 space_length None max text h = omega arith
 space_length (Some n) max text h = go (is_at max n)
@@ -47,13 +47,13 @@ space_length (Some n) max text h = go (is_at max n)
     go true = omega (arith, length-append text (replicate (n - length text) 32), length-replicate {A = ℕ} (n - length text) 32)
     go false = omega arith
 
-padded_length : (b : Bool) (min : Option ℕ) (max : Width) (text : List ℕ) → or_zero min ≤ 255 → length (padded b (min_in min) max text) ≤ length text + 255
+padded_length : (b : Bool) (min : Option ℕ) (max : Width) (text : List ℕ) → or_zero min ≤ 255 → length (padded b min max text) ≤ length text + 255
 unfolding padded
 padded_length true min max text h = zero_length min text h
 padded_length false min max text h = space_length min max text h
 
 to_length : (d : ElementDef) (reason : ℕ) (text : List ℕ) → or_zero d.min ≤ 255 → length (padded_to d reason text) ≤ length text + 255
-to_length d zero text h = padded_length (is_numeric d.kind) d.min (max_in d.max) text h
+to_length d zero text h = padded_length (is_numeric d.kind) d.min d.max text h
 to_length d (suc reason) text h = omega arith
 
 -- ---- texts
@@ -130,8 +130,8 @@ field_list e d =
     ∷ Some (plainly e.receiver_id)
     ∷ Some (plainly (on e.application_sender (λ x. x) (trim_end e.sender_id)))
     ∷ Some (plainly (on e.application_receiver (λ x. x) (trim_end e.receiver_id)))
-    ∷ Some (outcome (envelope_date (signed32 e.date) (max_in d.max)))
-    ∷ Some (outcome (envelope_time (signed32 e.time) (max_in d.max)))
+    ∷ Some (outcome (envelope_date (signed32 e.date) d.max))
+    ∷ Some (outcome (envelope_time (signed32 e.time) d.max))
     ∷ Some (plainly e.usage_indicator)
     ∷ None
     ∷ repetition_given (first d.codes) e.repetition
@@ -155,9 +155,9 @@ field_short U e d f eight h k =
               (
                 omega (arith, m, or_else e.application_receiver e.receiver_id),
                 (
-                  omega (arith, envelope_date_lem (signed32 e.date) (max_in d.max)),
+                  omega (arith, envelope_date_lem (signed32 e.date) d.max),
                   (
-                    omega (arith, envelope_time_lem (signed32 e.time) (max_in d.max)),
+                    omega (arith, envelope_time_lem (signed32 e.time) d.max),
                     (
                       omega (arith, m),
                       (

@@ -15,7 +15,7 @@ use Rattle.segment.specs.Parts.{Part, pick, is_empty, or_one, highest, last_elem
 use Rattle.segment.proofs.Sorting.{sorted_highest}
 use Rattle.nest.specs.Lists.{sum, All}
 use Rattle.nest.proofs.Sums.{sum_append}
-use Rattle.emit.specs.Puts.{Put, nothing, put_text, put_all, put_cell, cell_text, max_in, row_value, chunk_value, row_put, chunk_put, chunk_puts}
+use Rattle.emit.specs.Puts.{Put, nothing, put_text, put_all, put_cell, cell_text, row_value, chunk_value, row_put, chunk_put, chunk_puts}
 use Rattle.emit.proofs.ScaleLaws.{scale_of}
 use Rattle.emit.specs.Fold as F
 use Rattle.emit.specs.Fold.{row_out, chunk_out}
@@ -57,8 +57,8 @@ Scaled j = (t column r : ℕ) → scale_of (cell_of (data_of j t) column r) ≤ 
 cell_bounded : (j : Job) → Scaled j → (id : List ℕ) (e m : ℕ) (c : Option ℕ) (t column r : ℕ) → or_one c ≤ 255 → e ≤ m → Bounded (put_cell j id e c t column r) (weigh (cell_of (data_of j t) column r)) m
 unfolding put_cell highest
 cell_bounded j z id e m c t column r h k = record {
-  costs = omega (arith, cell_charge (cell_of (data_of j t) column r) (max_in (max_of j id e c)) (or_one c) (z t column r) h);
-  reaches = one_high (cell_text (cell_of (data_of j t) column r) (max_in (max_of j id e c))).text e m k;
+  costs = omega (arith, cell_charge (cell_of (data_of j t) column r) (max_of j id e c) (or_one c) (z t column r) h);
+  reaches = one_high (cell_text (cell_of (data_of j t) column r) (max_of j id e c)).text e m k;
 }
 
 -- ---- one element

@@ -1,5 +1,5 @@
 -- What the code knows on the way: the first state, and what the lists hold once the result is stored in them.
-use Rattle.std.specs.Prelude.{ℕ, ◌*◌, ◌-◌, false, List, replicate}
+use Rattle.std.specs.Prelude.{ℕ, ◌*◌, ◌-◌, List, replicate, None}
 use Rattle.lent.specs.Fit.{base, Stored, Noted}
 use Rattle.emit.specs.declared.state.State.{State}
 use Rattle.emit.specs.Written.{words_of}
@@ -9,7 +9,7 @@ use Rattle.writer.specs.Result.{Result}
 -- no row entered, every counter at the control number, nothing counted but n numbers of findings
 abbrev pub first_state : ℕ → ℕ → State
 first_state control n = record {
-  high = replicate 16 (record { seen = false; row = 0 });
+  high = replicate 16 None;
   counter = replicate 32 control;
   counts = record { entries = 0; begun = 0; bytes = 0; segments = 0; findings = n; stops = 0 };
 }

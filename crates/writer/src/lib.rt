@@ -7,22 +7,24 @@ ghost use Rattle.codec.specs.Codec.{pick};
 ghost use Rattle.lent.specs.Fit.{Noted};
 ghost use Rattle.format.specs.Passed.{Passed};
 ghost use Rattle.format.specs.Refusal.{rows_of_all};
-ghost use Rattle.format.specs.Sections.{job_of};
 ghost use Rattle.nest.specs.Nest.{nest_array};
 ghost use Rattle.nest.specs.NestFindings.{nest_findings};
 ghost use Rattle.nest.specs.Rising.{rising_flags};
 ghost use Rattle.nest.specs.Ready.{Ready, outline_at, words};
 ghost use Rattle.walk.specs.Nested.{Nested};
+ghost use Rattle.format.specs.Sections.{job_of};
 ghost use Rattle.walk.specs.Tour.{census};
 ghost use Rattle.writer.specs.Answer.{number_by, number_of, numbers, values_of};
 ghost use Rattle.writer.specs.declared.Refused.TheVariants.{Job};
 ghost use Rattle.writer.specs.Result.{result_of};
 ghost use Rattle.writer.specs.Wrote.{window_from, WroteFrom};
 ghost use Rattle.writer.specs.Filled.{first_state, start_of, Filled};
+ghost use Rattle.nest.specs.Job.{outline_by, job_by};
 
 use census::crowded;
-use emit::state::{Counts, Mark, State};
+use emit::state::{Counts, State};
 use index::fill_index;
+use nest::Job;
 use nest::duplicates::all_duplicates;
 use nest::keys::all_keys;
 use nest::order::mark_rising;
@@ -30,8 +32,10 @@ use nest::report::all_findings;
 use nest::rows::nest_rows;
 use refusal::Refusal;
 use run::run;
+use spec::Indexed;
 use spec::envelope::control_number;
 use spec::ids::TableId;
+use walk::Nest;
 
 // How many bytes, segments, findings and stops a job comes to.
 #[derive(Clone, Copy)]
@@ -74,13 +78,12 @@ impl From<Refusal> for Refused {
 pub type Answer = Result<Totals, Refused>;
 
 // What nest finds: duplicate keys first, then row by row.
-fn nest_findings(job: &[u8], index: &[u16], nest: &[u32], window: &mut [u64], start: usize) -> usize
-    requires { Nested job.now index.now nest.now }
-    ensures { Noted window.old start (words (nest_findings (outline_at job.now))) result window.new }
+fn nest_findings(nest: Nest, window: &mut [u64], start: usize) -> usize
+    ensures { Noted window.old start (words (nest_findings (outline_by nest.entry.job))) result window.new }
 {
-    let keys = all_keys(job, index);
-    let next = all_duplicates(job, index, keys, window, start);
-    all_findings(job, index, nest, window, next)
+    let keys = all_keys(nest.job);
+    let next = all_duplicates(nest.job, keys, window, start);
+    all_findings(nest.job, nest.array, window, next)
 }
 
 // Where the count of findings' numbers starts: place 2^62 is the window's first.
@@ -97,10 +100,7 @@ fn first_state(control: u64, findings: usize) -> State
     ensures { result ≡ first_state control findings }
 {
     State {
-        high: [Mark {
-            seen: false,
-            row: 0,
-        }; 16],
+        high: [None; 16],
         counter: [control; 32],
         counts: Counts {
             entries: 0,
@@ -113,11 +113,11 @@ fn first_state(control: u64, findings: usize) -> State
     }
 }
 
-// The whole result, as far as it fits: nest's findings, then the walk. The lists go one by one: of bytes behind a borrow in a struct nothing would be known.
-fn written(
-    job: &[u8],
-    index: &[u16],
-    nest: &[u32],
+// The whole result, as far as it fits: nest's findings, then the walk. The job, its index and nest's array go apart down to here: of a slice of its own it is known that its bytes are bytes. The lists go one by one: of bytes behind a borrow in a struct nothing would be known.
+fn written<'x>(
+    job: &'x [u8],
+    index: &'x [u16],
+    nest: &'x [u32],
     document: &mut [u8],
     segments: &mut [u64],
     window: &mut [u64],
@@ -127,9 +127,15 @@ fn written(
     requires { Nested job.now index.now nest.now × (census (outline_at job.now) ≤ 65536) }
     ensures { Filled (result_of (job_of job.now)) result start document.old document.new segments.old segments.new window.old window.new stops.old stops.new }
 {
-    let n = nest_findings(job, index, nest, window, start);
-    let s = first_state(control_number(job, index), n);
-    run(job, index, nest, document, segments, window, stops, s)
+    let nest = Nest {
+        job: Job {
+            at: Indexed { bytes: job, index },
+        },
+        array: nest,
+    };
+    let n = nest_findings(nest, window, start);
+    let s = first_state(control_number(nest.job.at), n);
+    run(nest, document, segments, window, stops, s)
 }
 
 // The answer by the counts and by how many items each list has room for.
@@ -198,10 +204,10 @@ fn walked(
 }
 
 // A job with its index and nest's array: whether it has too many instances is known before anything is stored.
-fn nested(
-    job: &[u8],
-    index: &[u16],
-    nest: &[u32],
+fn nested<'x>(
+    job: &'x [u8],
+    index: &'x [u16],
+    nest: &'x [u32],
     document: &mut [u8],
     segments: &mut [u64],
     window: &mut [u64],
@@ -212,7 +218,12 @@ fn nested(
     requires { Nested job.now index.now nest.now }
     ensures { WroteFrom job.now document.old document.new segments.old segments.new window.old window.new stops.old stops.new from room result }
 {
-    let many = crowded(job, index, nest);
+    let many = crowded(Nest {
+        job: Job {
+            at: Indexed { bytes: job, index },
+        },
+        array: nest,
+    });
     if many {
         return Err(Refused::Instances);
     }
@@ -222,18 +233,18 @@ fn nested(
 }
 
 // Nest's numbers and flags, in a list that has room for both.
-fn hang_rows(job: &[u8], index: &[u16], nest: &mut [u32])
-    requires { Ready job.now index.now × (rows_of_all (job_of job.now).tables * 3 + 16 ≤ length nest.old) }
-    ensures { nest.new ≡ sets (sets nest.old 0 (nest_array (outline_at job.now))) (length nest.old - 16) (rising_flags (outline_at job.now)) }
+fn hang_rows(job: Job, nest: &mut [u32])
+    requires { rows_of_all (job_by job).tables * 3 + 16 ≤ length nest.old }
+    ensures { nest.new ≡ sets (sets nest.old 0 (nest_array (outline_by job.entry))) (length nest.old - 16) (rising_flags (outline_by job.entry)) }
 {
-    nest_rows(job, index, nest);
-    mark_rising(job, index, nest);
+    nest_rows(job, nest);
+    mark_rising(job, nest);
 }
 
 // A job of few enough rows: its array has N numbers, and is short where rows are few, since each call sets it to zero.
-fn in_array<const N: usize>(
-    job: &[u8],
-    index: &[u16],
+fn in_array<'x, const N: usize>(
+    job: &'x [u8],
+    index: &'x [u16],
     document: &mut [u8],
     segments: &mut [u64],
     window: &mut [u64],
@@ -245,7 +256,8 @@ fn in_array<const N: usize>(
     ensures { WroteFrom job.now document.old document.new segments.old segments.new window.old window.new stops.old stops.new from room result }
 {
     let mut nest = [0u32; N];
-    hang_rows(job, index, &mut nest);
+    let at = Indexed { bytes: job, index };
+    hang_rows(Job { at }, &mut nest);
     nested(
         job, index, &nest, document, segments, window, stops, from, room,
     )
@@ -266,8 +278,12 @@ fn passed(
 {
     let mut index = [0u16; 10752];
     fill_index(job, &mut index);
-    let tables = tables::data::data_count(job, &index);
-    let rows = tables::data::first_row(job, &index, TableId(tables));
+    let at = Indexed {
+        bytes: job,
+        index: &index,
+    };
+    let tables = tables::data::data_count(at);
+    let rows = tables::data::first_row(at, TableId(tables));
     if rows <= 240 {
         return in_array::<736>(job, &index, document, segments, window, stops, from, room);
     }

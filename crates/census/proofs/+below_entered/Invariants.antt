@@ -13,10 +13,10 @@ abbrev pub decreases-entered : goal.decreases-entered
 decreases-entered l = l.height * 2
 
 abbrev pub invariant-below-loop-i : goal.invariant-below-loop-i
-invariant-below-loop-i l = Below (outline_at l.job) l.height l.l.0 (context_by l.c) l.n l.i l.m l.leaf
+invariant-below-loop-i l = Below (outline_at l.nest.job.at.bytes.now) l.height l.l.0 (context_by l.c) l.n l.i l.m l.leaf
 
 abbrev pub invariant-entered-loop-m : goal.invariant-entered-loop-m
-invariant-entered-loop-m l = Entering (outline_at l.job) l.nest l.height l.l.0 l.n l.initial.cur l.m l.leaf l.cur
+invariant-entered-loop-m l = Entering (outline_at l.nest.job.at.bytes.now) l.nest.array.now l.height l.l.0 l.n l.initial.cur l.m l.leaf l.cur
 
 abbrev pub decreases-entered-loop-m : goal.decreases-entered-loop-m
-decreases-entered-loop-m l = length (coming (outline_at l.job) l.nest l.cur)
+decreases-entered-loop-m l = length (coming (outline_at l.nest.job.at.bytes.now) l.nest.array.now l.cur)

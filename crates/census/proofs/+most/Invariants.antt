@@ -7,4 +7,4 @@ abbrev pub decreases-most : goal.decreases-most
 decreases-most l = l.height
 
 abbrev pub invariant-loop-i : goal.invariant-loop-i
-invariant-loop-i l = Most (outline_at l.job) (l.height - 1) l.l.0 l.i l.s
+invariant-loop-i l = Most (outline_at l.nest.job.at.bytes.now) (l.height - 1) l.l.0 l.i l.s

@@ -1,4 +1,3 @@
-use native.Mathlib.Omega.{arith}
 use Rattle.census.proofs.Small.{root_small}
 use Rattle.census.proofs.Bounding.{roots_most, roots_most_next, roots_most_end}
 use Rattle.census.proofs.bound.Goals as goal
@@ -7,10 +6,7 @@ pub loop-i-init : goal.loop-i-init
 loop-i-init c = roots_most _
 
 pub most-m-requires : goal.most-m-requires
-most-m-requires c = (c.requires, root_small _ c.requires.ready.passed _ _ _ c.root_count-count.ensures c.loop-i-test.true c.root-l.ensures)
-
-pub overflow_add-n : goal.overflow_add-n
-overflow_add-n c = omega (arith, c.most-m.ensures.few, c.loop-i.invariant.few)
+most-m-requires c = root_small _ c.args.nest.nested.ready.passed _ _ _ c.root_count-count.ensures c.loop-i-test.true c.root-l.ensures
 
 pub loop-i-preserved : goal.loop-i-preserved
 loop-i-preserved c = roots_most_next _ _ _ c.loop-i.invariant _ c.root_count-count.ensures _ _ _ _ c.loop-i-test.true c.root-l.ensures c.loop_count-height.ensures c.most-m.ensures c.min-n.ensures

@@ -1,19 +1,12 @@
-use native.Mathlib.Omega.{arith}
-use Rattle.census.proofs.Widths.{longest_none, longest_same, longest_new, longest_all}
+use Rattle.census.proofs.Widths.{longest_none, longest_same, longest_new}
 use Rattle.census.proofs.longest.Goals as goal
 use Rattle.census.proofs.longest.Goals.{then-nest-i, else-nest-i}
 
 pub loop-k-init : goal.loop-k-init
 loop-k-init c = longest_none _ _ _
 
-pub overflow_add-run : goal.overflow_add-run
-overflow_add-run c = omega (arith, c.loop-k.invariant.short, c.loop-k-test.true, c.requires.1)
-
 pub loop-k-preserved : goal.loop-k-preserved
 loop-k-preserved c = elim c.if-nest-i.branch [
   | then-nest-i w ↦ rw (w.last-is, w.run-is) (longest_same _ _ _ _ _ _ _ c.loop-k.invariant _ w.if-nest-i.true (rw w.run-is at c.max-best.ensures))
   | else-nest-i w ↦ rw (w.last-is, w.run-is) (longest_new _ _ _ _ _ _ _ c.loop-k.invariant _ c.requires.2 c.loop-k-test.true w.if-nest-i.false (rw w.run-is at c.max-best.ensures))
 ]
-
-pub returns : goal.returns
-returns c = longest_all _ _ _ _ _ _ _ c.loop-k.invariant c.loop-k-test.false (omega arith)

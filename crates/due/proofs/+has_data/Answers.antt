@@ -14,10 +14,10 @@ pub loop-k-init : goal.loop-k-init
 loop-k-init t c = below_own _ _ _ _ _ _ c.if-height-eq0.false c.own_data-own.ensures c.if-own.false
 
 pub inside-below-requires : goal.inside-below-requires
-inside-below-requires t c = (c.requires.0, child_small _ c.requires.0.passed _ _ _ _ c.child_count-n.ensures c.loop-k-test.true c.child-c.ensures)
+inside-below-requires t c = child_small _ c.args.job.ready.passed _ _ _ _ c.child_count-n.ensures c.loop-k-test.true c.child-c.ensures
 
 pub has_data-found-requires : goal.has_data-found-requires
-has_data-found-requires t c = (omega arith, (c.requires.0, child_small _ c.requires.0.passed _ _ _ _ c.child_count-n.ensures c.loop-k-test.true c.child-c.ensures))
+has_data-found-requires t c = (omega arith, child_small _ c.args.job.ready.passed _ _ _ _ c.child_count-n.ensures c.loop-k-test.true c.child-c.ensures)
 
 pub returns-then-found : goal.returns-then-found
 returns-then-found t c = below_here _ _ _ _ _ _ _ c.child_count-n.ensures c.loop-k.invariant _ _ c.loop-k-test.true c.child-c.ensures c.inside-below.ensures _ c.if-below.true c.has_data-found.ensures c.if-found.true

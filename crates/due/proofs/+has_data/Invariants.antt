@@ -10,4 +10,4 @@ abbrev pub decreases-has_data : goal.decreases-has_data
 decreases-has_data l = l.height
 
 abbrev pub invariant-loop-k : goal.invariant-loop-k
-invariant-loop-k l = has_data (outline_of (job_of l.job)) l.height l.l.0 l.t.0 l.r.0 ≡ data_from (outline_of (job_of l.job)) (l.height - 1) l.l.0 l.t.0 l.r.0 l.k
+invariant-loop-k l = has_data (outline_of (job_of l.job.at.bytes.now)) l.height l.l.0 l.t.0 l.r.0 ≡ data_from (outline_of (job_of l.job.at.bytes.now)) (l.height - 1) l.l.0 l.t.0 l.r.0 l.k

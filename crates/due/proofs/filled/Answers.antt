@@ -6,4 +6,4 @@ use Rattle.due.proofs.Ways.{filled_columns}
 use Rattle.due.proofs.filled.Goals as goal
 
 pub returns : goal.returns
-returns c = c.some_column.ensures (has_value (job_of c.args.job.now) c.args.t.0 c.args.r.0) (λ k x h q. search rules) ∙ sym (filled_columns _ _ _ _ _)
+returns c = c.some_column.ensures (has_value (job_of c.args.job.at.bytes.now) c.args.t.0 c.args.r.0) (λ k x h q. search rules) ∙ sym (filled_columns _ _ _ _ _)

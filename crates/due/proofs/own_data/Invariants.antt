@@ -8,4 +8,4 @@ use Rattle.due.proofs.Loops.{fills}
 use Rattle.due.proofs.own_data.Given as goal
 
 abbrev pub invariant-loop-i : goal.invariant-loop-i
-invariant-loop-i l = own_data (outline_of (job_of l.job)) l.l.0 l.t.0 l.r.0 ≡ some_of (fills (job_of l.job) l.l.0 l.t.0 l.r.0) (up_to l.i (planned (outline_of (job_of l.job)) l.l.0))
+invariant-loop-i l = own_data (outline_of (job_of l.job.at.bytes.now)) l.l.0 l.t.0 l.r.0 ≡ some_of (fills (job_of l.job.at.bytes.now) l.l.0 l.t.0 l.r.0) (up_to l.i (planned (outline_of (job_of l.job.at.bytes.now)) l.l.0))

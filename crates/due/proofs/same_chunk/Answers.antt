@@ -15,7 +15,7 @@ table c = ap (λ (t : TableId). t.0) (c.unwrap_or-t.ensures ∙ ap (λ o. unwrap
 
 pub returns-then-same_segment : goal.returns-then-same_segment
 returns-then-same_segment c = chunk_agrees _ _ _ _ _ _ _ _ (table (goal.at.returns-then-same_segment c).After-unwrap_or-t) c.segment-s.ensures.segment.source c.same_segment.ensures _ c.if-same_segment.true
-    (c.some_column.ensures (differ (job_of c.args.job.now) c.unwrap_or-t.result.0 c.args.a.0 c.args.b.0) (λ k r h q. search rules))
+    (c.some_column.ensures (differ (job_of c.args.job.at.bytes.now) c.unwrap_or-t.result.0 c.args.a.0 c.args.b.0) (λ k r h q. search rules))
 
 pub returns : goal.returns
 returns c = chunk_apart _ _ _ _ _ _ _ _ (table (goal.at.returns c).After-unwrap_or-t) c.segment-s.ensures.segment.source c.same_segment.ensures c.if-same_segment.false

@@ -9,4 +9,4 @@ use Rattle.due.specs.Cells.{differ}
 use Rattle.due.proofs.same_group.Given as goal
 
 abbrev pub invariant-loop-k : goal.invariant-loop-k
-invariant-loop-k l = (outline_of (job_of l.job)).same_group l.l.0 l.a.0 l.b.0 ≡ not (some_of (differ (job_of l.job) l.t.0 l.a.0 l.b.0) (drop l.k (group_columns_of (job_of l.job) l.l.0)))
+invariant-loop-k l = (outline_of (job_of l.job.at.bytes.now)).same_group l.l.0 l.a.0 l.b.0 ≡ not (some_of (differ (job_of l.job.at.bytes.now) l.t.0 l.a.0 l.b.0) (drop l.k (group_columns_of (job_of l.job.at.bytes.now) l.l.0)))

@@ -1,5 +1,5 @@
 use native.Mathlib.Omega.{arith}
-use mathlib.Core.Path.{refl, sym, ◌∙◌}
+use mathlib.Core.Path.{◌∙◌}
 use Rattle.due.proofs.Bridge.{child_small}
 use Rattle.instances.proofs.Made.{implied_of}
 use Rattle.instances.proofs.Some.{some_deep, some_found, some_next, some_none, some_coming}
@@ -8,11 +8,8 @@ use Rattle.instances.proofs.+has_instance.Goals as goal
 pub returns-then-height-eq0 : goal.returns-then-height-eq0
 returns-then-height-eq0 t c = some_deep _ _ _ _ c.if-height-eq0.true
 
-pub loop-i-init : goal.loop-i-init
-loop-i-init t c = refl
-
 pub has_instance-some-requires : goal.has_instance-some-requires
-has_instance-some-requires t c = (omega (arith, c.requires.0), (c.requires.0, c.requires.1, child_small _ c.requires.0.ready.passed _ _ _ _ c.child_count-n.ensures c.loop-i-test.true c.child-k.ensures))
+has_instance-some-requires t c = (omega (arith, c.args.nest.nested), (c.requires.0, child_small _ c.args.nest.nested.ready.passed _ _ _ _ c.child_count-n.ensures c.loop-i-test.true c.child-k.ensures))
 
 pub returns-then-some : goal.returns-then-some
 returns-then-some t c = some_found _ _ _ _ c.if-height-eq0.false _ (implied_of _ _ c.instances-kind.result _ c.instances-kind.ensures c.by_children-implied.ensures) c.if-implied.true _ _ c.child_count-n.ensures c.loop-i.invariant _ _ c.loop-i-test.true c.child-k.ensures c.has_instance-some.ensures c.if-some.true
@@ -22,12 +19,6 @@ loop-i-preserved t c = some_next _ _ _ _ c.if-height-eq0.false _ (implied_of _ _
 
 pub returns-then-implied : goal.returns-then-implied
 returns-then-implied t c = some_none _ _ _ _ c.if-height-eq0.false _ (implied_of _ _ c.instances-kind.result _ c.instances-kind.ensures c.by_children-implied.ensures) c.if-implied.true _ _ c.child_count-n.ensures c.loop-i.invariant c.loop-i-test.false
-
-pub by_kind-cur-requires : goal.by_kind-cur-requires
-by_kind-cur-requires t c = (c.requires.0, c.requires.1, c.requires.2, c.instances-kind.ensures, sym c.by_children-implied.ensures ∙ c.if-implied.false)
-
-pub next_instance-requires : goal.next_instance-requires
-next_instance-requires t c = (c.requires.0, c.by_kind-cur.ensures.going)
 
 pub returns : goal.returns
 returns t c = c.is_some.ensures ∙ some_coming _ _ _ _ _ c.if-height-eq0.false _ c.by_kind-cur.ensures _ c.next_instance.ensures

@@ -9,4 +9,4 @@ abbrev pub decreases-has_instance : goal.decreases-has_instance
 decreases-has_instance l = l.height
 
 abbrev pub invariant-loop-i : goal.invariant-loop-i
-invariant-loop-i l = some_child (outline_at l.job) (l.height - 1) l.l.0 (context_by l.c) 0 ≡ some_child (outline_at l.job) (l.height - 1) l.l.0 (context_by l.c) l.i
+invariant-loop-i l = some_child (outline_at l.nest.job.at.bytes.now) (l.height - 1) l.l.0 (context_by l.c) 0 ≡ some_child (outline_at l.nest.job.at.bytes.now) (l.height - 1) l.l.0 (context_by l.c) l.i

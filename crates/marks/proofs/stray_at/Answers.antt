@@ -8,4 +8,4 @@ use Rattle.marks.proofs.stray_at.Goals as goal
 
 pub returns : goal.returns
 unfolding upper digit
-returns c = byte_says _ _ _ _ stray _ c.tag_at-c.ensures (ap not (both _ _ _ _ _ c.either.ensures c.within-x.ensures (only _ _ c.within-y.ensures)))
+returns c = byte_says _ _ _ _ stray _ c.byte_at-c.ensures.0 (ap not (both _ _ _ _ _ c.either.ensures c.within-x.ensures (only _ _ c.within-y.ensures)))

@@ -4,7 +4,7 @@ use native.Mathlib.Omega.{arith}
 use Rattle.nest.proofs.nest.Goals as goal
 
 pub all_findings-requires : goal.all_findings-requires
-all_findings-requires c = (c.requires.0, array_in _ _ _ c.requires.1 c.nest_rows.ensures)
+all_findings-requires c = array_in _ _ _ c.requires c.nest_rows.ensures
 
 pub returns : goal.returns
 returns c = (c.nest_rows.ensures, findings_both _ _ _ _ _ _ _ (omega (arith, c)) c.all_duplicates-next.ensures c.all_findings.ensures)

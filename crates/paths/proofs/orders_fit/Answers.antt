@@ -1,10 +1,7 @@
 use mathlib.Core.Path.{ap}
 use mathlib.Core.Bool.{not}
-use Rattle.paths.proofs.Whole.{two_entries, two_parents, two_orders}
+use Rattle.paths.proofs.Whole.{two_parents, two_orders}
 use Rattle.paths.proofs.orders_fit.Goals as goal
-
-pub returns-then-not-entries : goal.returns-then-not-entries
-returns-then-not-entries c = two_entries _ _ c.entries_fit-entries.ensures (ap not c.if-not-entries.true)
 
 pub returns-then-not-a : goal.returns-then-not-a
 returns-then-not-a c = two_parents _ _ c.parents_plain-a.ensures (ap not c.if-not-a.true)

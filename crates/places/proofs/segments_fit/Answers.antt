@@ -7,4 +7,4 @@ pub plans_wrong-requires : goal.plans_wrong-requires
 plans_wrong-requires c = (search rules, search rules)
 
 pub returns : goal.returns
-returns c = segments_decided _ c.requires.passed _ _ _ c.start-plan.ensures c.start-layout.ensures c.plans_wrong.ensures
+returns c = segments_decided _ c.args.job.ready.passed _ _ _ c.start-plan.ensures c.start-layout.ensures c.plans_wrong.ensures

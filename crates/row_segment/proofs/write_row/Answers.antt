@@ -1,10 +1,5 @@
 use Rattle.row_segment.proofs.write_row.Goals as goal
 
-pub put_line-requires : goal.put_line-requires
-put_line-requires c =
-    let e = c.line_of-x.ensures in
-    (e.0, c.requires.1)
-
 pub returns : goal.returns
 returns c =
     let e = c.line_of-x.ensures in

@@ -7,6 +7,3 @@ overflow_sub-t c = omega (arith, (sound_of _ c.requires).least)
 
 pub num-requires : goal.num-requires
 num-requires c = omega (arith, (sound_of _ c.requires).most)
-
-pub returns : goal.returns
-returns c = c.num.ensures.0

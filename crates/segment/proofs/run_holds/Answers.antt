@@ -7,8 +7,8 @@ use Rattle.segment.proofs.run_holds.Goals as goal
 
 pub returns-then-n-eq0 : goal.returns-then-n-eq0
 returns-then-n-eq0 c =
-    let a = c.args in any_none (one_of a.a a.b a.c a.d) (replicate a.n a.x) (ap (λ (n : ℕ). replicate n a.x) c.if-n-eq0.true)
+    let a = c.args in any_none (one_of a.s.0 a.s.1 a.s.2 a.s.3) (replicate a.n a.x) (ap (λ (n : ℕ). replicate n a.x) c.if-n-eq0.true)
 
 pub returns : goal.returns
 returns c =
-    let a = c.args in c.one_of.ensures ∙ any_run (one_of a.a a.b a.c a.d) a.x a.n c.if-n-eq0.false
+    let a = c.args in c.one_of.ensures ∙ any_run (one_of a.s.0 a.s.1 a.s.2 a.s.3) a.x a.n c.if-n-eq0.false

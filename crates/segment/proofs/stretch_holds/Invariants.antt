@@ -5,4 +5,4 @@ use Rattle.segment.specs.Pen.{holds_any, one_of}
 use Rattle.segment.proofs.stretch_holds.Given as goal
 
 abbrev pub invariant-loop-i : goal.invariant-loop-i
-invariant-loop-i l = holds_any (one_of l.a l.b l.c l.d) (stretch l.source l.start l.len) ≡ holds_any (one_of l.a l.b l.c l.d) (drop l.i (stretch l.source l.start l.len))
+invariant-loop-i l = holds_any (one_of l.s.0 l.s.1 l.s.2 l.s.3) (stretch l.source l.start l.len) ≡ holds_any (one_of l.s.0 l.s.1 l.s.2 l.s.3) (drop l.i (stretch l.source l.start l.len))

@@ -6,7 +6,7 @@ use Rattle.writer.proofs.NestedLaws.{array_stored, array_long, both_stored}
 use Rattle.writer.proofs.hang_rows.Goals as goal
 
 pub mark_rising-requires : goal.mark_rising-requires
-mark_rising-requires c = (c.requires.0, array_stored _ _ c.requires.0 c.requires.1 c.nest_rows.ensures, omega (arith, c.requires.1, array_long _ _ c.requires.0 c.requires.1 c.nest_rows.ensures))
+mark_rising-requires c = (array_stored _ _ c.args.job.ready c.requires c.nest_rows.ensures, omega (arith, c.requires, array_long _ _ c.args.job.ready c.requires c.nest_rows.ensures))
 
 pub returns : goal.returns
-returns c = both_stored c.args.nest.now _ _ (nest_array (outline_at c.args.job.now)) (rising_flags (outline_at c.args.job.now)) c.nest_rows.ensures c.mark_rising.ensures
+returns c = both_stored c.args.nest.now _ _ (nest_array (outline_at c.args.job.at.bytes.now)) (rising_flags (outline_at c.args.job.at.bytes.now)) c.nest_rows.ensures c.mark_rising.ensures

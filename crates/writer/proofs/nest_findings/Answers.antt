@@ -5,7 +5,7 @@ use Rattle.writer.proofs.nest_findings.Goals as goal
 use Rattle.writer.proofs.nest_findings.Goals.{Start}
 
 pub all_findings-requires : goal.all_findings-requires
-all_findings-requires c = (c.requires.ready, array_held c.requires)
+all_findings-requires c = array_held c.args.nest.nested
 
 pub returns : goal.returns
 returns c = findings_both _ _ _ _ _ _ _ (omega (arith, (goal.at.returns c).Start)) c.all_duplicates-next.ensures c.all_findings.ensures

@@ -8,7 +8,7 @@ use Rattle.writer.proofs.written.Goals as goal
 use Rattle.writer.proofs.written.Goals.{Start}
 
 pub run-requires : goal.run-requires
-run-requires c = (c.requires.0, first_small _ _ _ c.first_state-s.ensures (omega (arith, stored_small _ c.nest_findings-n.ensures)), (small c.args.job.now (λ i. omega (arith, c.type_inv.job i)) c.requires.0.ready.passed c.requires.1).steps)
+run-requires c = (first_small _ _ _ c.first_state-s.ensures (omega (arith, stored_small _ c.nest_findings-n.ensures)), (small c.args.job.now (λ i. omega (arith, c.type_inv.job i)) c.requires.0.ready.passed c.requires.1).steps)
 
 pub returns : goal.returns
 returns c = filled_by _ _ (omega (arith, (goal.at.returns c).Start)) (c.first_state-s.ensures ∙ ap (λ k. first_state k c.nest_findings-n.result) c.control_number.ensures) c.nest_findings-n.ensures c.run.ensures

@@ -6,4 +6,4 @@ use Rattle.codes.proofs.codes.mark_at.Goals as goal
 
 pub returns : goal.returns
 unfolding mark
-returns c = byte_says _ _ _ _ (mark _) _ c.tag_at-c.ensures (both _ _ _ _ _ c.either-2.ensures refl (both _ _ _ _ _ c.either.ensures refl (only _ _ refl)))
+returns c = byte_says _ _ _ _ (mark _) _ c.byte_at-c.ensures.0 (both _ _ _ _ _ c.either-2.ensures refl (both _ _ _ _ _ c.either.ensures refl (only _ _ refl)))

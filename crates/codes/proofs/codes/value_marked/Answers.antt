@@ -1,8 +1,11 @@
+use native.Mathlib.Omega.{arith}
+use mathlib.Core.Path.{refl}
+use Rattle.codec.specs.Ways.{case_is, case_not}
 use Rattle.codes.proofs.Reading.{code_there, code_not}
 use Rattle.codes.proofs.codes.value_marked.Goals as goal
 
-pub returns-then-tag_at-eq2 : goal.returns-then-tag_at-eq2
-returns-then-tag_at-eq2 c = code_there _ _ _ _ _ c.tag_at.ensures _ _ c.if-tag_at-eq2.true c.le_at-p.ensures c.text_marked.ensures
+pub returns-then-eq : goal.returns-then-eq
+returns-then-eq c = code_there _ _ _ _ _ (case_is _ _ _ _ c.case.ensures _ _ c.eq.ensures c.if-eq.true) _ _ refl c.le_at-p.ensures c.text_marked.ensures
 
 pub returns : goal.returns
-returns c = code_not _ _ _ _ _ c.tag_at.ensures c.if-tag_at-eq2.false
+returns c = code_not _ _ _ _ _ refl (case_not _ _ _ _ c.case.ensures _ _ c.eq.ensures c.if-eq.false (omega arith))

@@ -1,13 +1,6 @@
-use native.Mathlib.Omega.{arith}
-use mathlib.Core.Path.{refl, sym, ◌∙◌}
+use mathlib.Core.Path.{sym, ◌∙◌}
 use Rattle.due.proofs.Ways.{columns_some, placed_next, search_found, search_next, search_end}
 use Rattle.due.proofs.cells.some_column.Goals as goal
-
-pub loop-k-init : goal.loop-k-init
-loop-k-init g c = (record { count = c.requires.planned.segment.count; place = c.requires.planned.segment.first }, λ p h. refl)
-
-pub element-e-requires : goal.element-e-requires
-element-e-requires g c = (c.requires.ready, omega (arith, c.loop-k.invariant.0.count, c.loop-k-test.true), c.loop-k.invariant.0.place)
 
 pub returns-then-column_passes : goal.returns-then-column_passes
 returns-then-column_passes g c = λ p h. sym (columns_some p _ ∙ search_found p c.loop-k.invariant.0 (c.loop-k.invariant.1 p h) c.loop-k-test.true c.element-e.ensures (c.column_passes.ensures _ p h) c.if-column_passes.true)

@@ -7,5 +7,5 @@ use Rattle.due.proofs.cells.some_column.Given as goal
 
 abbrev pub invariant-loop-k : goal.invariant-loop-k
 invariant-loop-k g l =
-    Placed l.job (planned_of (job_of l.job) l.l.0 l.i).elements l.k-end l.p l.k
-    × ((p : ℕ → Bool) → AnswersAs (goal.F-post g l.passes) p 4294967296 → None_before p (planned_of (job_of l.job) l.l.0 l.i).elements l.k)
+    Placed l.job.at.bytes.now (planned_of (job_of l.job.at.bytes.now) l.l.0 l.i).elements l.k-end l.p l.k
+    × ((p : ℕ → Bool) → AnswersAs (goal.F-post g l.passes) p 4294967296 → None_before p (planned_of (job_of l.job.at.bytes.now) l.l.0 l.i).elements l.k)

@@ -14,15 +14,3 @@ returns-in-Null c = (λ b max s e. rw (c.in-Null.is, ← same_Some _ _ e), λ e.
 pub returns-in-Bytes : goal.returns-in-Bytes
 unfolding cell_text cell_at
 returns-in-Bytes c = (λ b max s e. rw (c.in-Bytes.is, ← same_Some _ _ e), λ e. absurd cc)
-
-pub returns-in-Int : goal.returns-in-Int
-returns-in-Int c = (λ b max s e. absurd cc, λ e. rw c.in-Int.is)
-
-pub returns-in-Wide : goal.returns-in-Wide
-returns-in-Wide c = (λ b max s e. absurd cc, λ e. rw c.in-Wide.is)
-
-pub returns-in-Days : goal.returns-in-Days
-returns-in-Days c = (λ b max s e. absurd cc, λ e. rw c.in-Days.is)
-
-pub returns-in-Seconds : goal.returns-in-Seconds
-returns-in-Seconds c = (λ b max s e. absurd cc, λ e. rw c.in-Seconds.is)

@@ -1,11 +1,7 @@
 use mathlib.Core.Path.{refl}
-use mathlib.Core.Bool.{false≢true}
 use Rattle.column.specs.Answers.{cell_at}
 use Rattle.emit.specs.Puts.{cell_text}
 use Rattle.emit.proofs.cells.own_text.Goals as goal
-
-pub decimal_text-requires : goal.decimal_text-requires
-decimal_text-requires c = rw c.in-Wide.is at c.requires.2
 
 pub returns-in-None : goal.returns-in-None
 unfolding cell_text cell_at
@@ -14,9 +10,6 @@ returns-in-None c = λ b e. rw c.in-None.is (record { text = c.empty.ensures; re
 pub returns-in-Null : goal.returns-in-Null
 unfolding cell_text cell_at
 returns-in-Null c = λ b e. rw c.in-Null.is (record { text = c.empty-in-Null.ensures; reason = refl })
-
-pub returns-in-Bytes : goal.returns-in-Bytes
-returns-in-Bytes c = λ b e. absurd (false≢true (rw c.in-Bytes.is at e))
 
 pub returns-in-Int : goal.returns-in-Int
 unfolding cell_text cell_at

@@ -1,13 +1,10 @@
-use mathlib.Core.Path.{refl, sym, ap, ◌∙◌}
+use mathlib.Core.Path.{sym, ap, ◌∙◌}
 use mathlib.Core.List.{[]}
 use Rattle.std.specs.Prelude.{Some}
 use lib.ListN.{get_or}
 use Rattle.emit.specs.Table.{table}
 use Rattle.emit.proofs.TableLaws.{search_next, search_found, search_none}
 use Rattle.emit.proofs.envelope.search.Goals as goal
-
-pub loop-i-init : goal.loop-i-init
-loop-i-init c = refl
 
 pub returns-then-position_in-position : goal.returns-then-position_in-position
 returns-then-position_in-position c =

@@ -4,6 +4,3 @@ use Rattle.emit.proofs.findings.try_last.Goals as goal
 
 pub returns-in-None : goal.returns-in-None
 returns-in-None c = λ o p e. let a = c.args in rw c.in-None.is (none_tried o p (value_text a.job.now a.v) 3 c.more.ensures)
-
-pub returns-in-Some : goal.returns-in-Some
-returns-in-Some c = λ o p e. rw c.in-Some.is (c.try_one.ensures o p e)

@@ -2,4 +2,4 @@ use Rattle.exports.proofs.Laws.{array_long}
 use Rattle.exports.proofs.nesting.nest_count.Goals as goal
 
 pub returns : goal.returns
-returns c = array_long _ _ _ c.requires.tables.few_rows c.data_count-tables.ensures c.first_row-rows.ensures
+returns c = array_long _ _ _ c.args.job.ready.tables.few_rows c.data_count-tables.ensures c.first_row-rows.ensures

@@ -5,4 +5,4 @@ use Rattle.exports.proofs.Laws.{copied}
 use Rattle.exports.proofs.nesting.nested.Goals as goal
 
 pub returns : goal.returns
-returns c = copied _ _ _ _ (nest_array (outline_at c.args.job.now)) _ c.nest_rows.ensures c.nest_count-count.ensures.0 (omega arith) c.copy_front.ensures
+returns c = copied _ _ _ _ (nest_array (outline_at c.args.job.at.bytes.now)) _ c.nest_rows.ensures c.nest_count-count.ensures.0 (omega arith) c.copy_front.ensures

@@ -3,7 +3,7 @@ use Rattle.instances.proofs.Made.{above_top, above_row, above_lost, row_small}
 use Rattle.instances.proofs.kinds.above_in.Goals as goal
 
 pub overflow_add-result : goal.overflow_add-result
-overflow_add-result c = omega (arith, row_small _ _ _ _ _ c.requires.0.tables.few_rows c.requires.1 c.row_of-found.ensures c.in-Some-found.is)
+overflow_add-result c = omega (arith, row_small _ _ _ _ _ c.args.job.ready.tables.few_rows c.requires c.row_of-found.ensures c.in-Some-found.is)
 
 pub returns-in-Some-found : goal.returns-in-Some-found
 returns-in-Some-found c = above_row _ _ _ _ c.table_parent-parent.ensures _ _ _ c.in-Some.is c.row_of-found.ensures c.in-Some-found.is

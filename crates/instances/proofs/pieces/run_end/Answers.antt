@@ -1,11 +1,5 @@
-use Rattle.instances.proofs.Runs.{running, run_inside, run_on, run_less, run_cut, run_over}
+use Rattle.instances.proofs.Runs.{run_on, run_less, run_cut, run_over}
 use Rattle.instances.proofs.pieces.run_end.Goals as goal
-
-pub loop-a-init : goal.loop-a-init
-loop-a-init c = running _ _ _ _ c.requires.1
-
-pub next_row-requires : goal.next_row-requires
-next_row-requires c = run_inside _ _ _ _ _ _ c.loop-a.invariant _ c.moved.ensures
 
 pub loop-a-smaller : goal.loop-a-smaller
 loop-a-smaller c = run_less _ _ _ _ _ _ c.loop-a.invariant _ c.moved.ensures _ c.next_row.ensures _ c.in-Some.is

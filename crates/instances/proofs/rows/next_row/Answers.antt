@@ -1,10 +1,7 @@
 use native.Mathlib.Omega.{arith}
-use Rattle.instances.proofs.RowsLeft.{looking, looking_no, looking_skip, ahead_row, ahead_past, ahead_end}
+use Rattle.instances.proofs.RowsLeft.{looking_no, looking_skip, ahead_row, ahead_past, ahead_end}
 use Rattle.instances.proofs.rows.next_row.Goals as goal
 use Rattle.instances.proofs.rows.next_row.Goals.{then-passes+else-end-seen+else-start-seen, else-passes}
-
-pub loop-k-init : goal.loop-k-init
-loop-k-init c = looking _ _ c.requires
 
 pub returns-then-end-seen : goal.returns-then-end-seen
 returns-then-end-seen c = ahead_past _ _ _ _ c.loop-k.invariant _ c.end_in-end.ensures (omega (arith, c.if-end-seen.true))

@@ -6,4 +6,4 @@ use Rattle.format.specs.Sections.{job_of}
 use Rattle.nest.proofs.duplicates.all_duplicates.Given as goal
 
 abbrev pub invariant-loop-t : goal.invariant-loop-t
-invariant-loop-t l = Reported (duplicates (outline_of (job_of l.job))) (length (outline_of (job_of l.job)).row_counts) l.initial.findings l.at l.findings l.next l.t
+invariant-loop-t l = Reported (duplicates (outline_of (job_of l.job.at.bytes.now))) (length (outline_of (job_of l.job.at.bytes.now)).row_counts) l.initial.findings l.at l.findings l.next l.t

@@ -2,10 +2,10 @@ use Rattle.nest.proofs.Reports.{stored_nothing, stored_finding, duplicate_no, du
 use Rattle.nest.proofs.duplicates.duplicate_at.Goals as goal
 
 pub returns-then-f-r : goal.returns-then-f-r
-returns-then-f-r c = stored_finding _ _ _ _ _ _ _ (duplicate_yes _ _ _ _ c.requires.1 c.key-key.ensures _ c.first_with-found.ensures _ c.in-Some.is c.if-f-r.true) (duplicate_words _ _ _ _ c.requires.1 c.key-key.ensures _ c.first_with-found.ensures _) c.note_words.ensures
+returns-then-f-r c = stored_finding _ _ _ _ _ _ _ (duplicate_yes _ _ _ _ c.requires c.key-key.ensures _ c.first_with-found.ensures _ c.in-Some.is c.if-f-r.true) (duplicate_words _ _ _ _ c.requires c.key-key.ensures _ c.first_with-found.ensures _) c.note_words.ensures
 
 pub returns-in-Some : goal.returns-in-Some
-returns-in-Some c = stored_nothing _ _ _ _ (duplicate_own _ _ _ _ c.requires.1 c.key-key.ensures _ c.first_with-found.ensures _ c.in-Some.is c.if-f-r.false) c.more.ensures
+returns-in-Some c = stored_nothing _ _ _ _ (duplicate_own _ _ _ _ c.requires c.key-key.ensures _ c.first_with-found.ensures _ c.in-Some.is c.if-f-r.false) c.more.ensures
 
 pub returns-in-None : goal.returns-in-None
-returns-in-None c = stored_nothing _ _ _ _ (duplicate_no _ _ _ _ c.requires.1 c.key-key.ensures _ c.first_with-found.ensures c.in-None.is) c.more-in-None.ensures
+returns-in-None c = stored_nothing _ _ _ _ (duplicate_no _ _ _ _ c.requires c.key-key.ensures _ c.first_with-found.ensures c.in-None.is) c.more-in-None.ensures

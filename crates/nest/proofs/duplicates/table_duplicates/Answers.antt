@@ -10,7 +10,7 @@ pub loop-r-init : goal.loop-r-init
 loop-r-init c = reported_none _ _ _ _ _ c.more-next.ensures
 
 pub duplicate_at-next-requires : goal.duplicate_at-next-requires
-duplicate_at-next-requires c = (c.requires.0, (c.may_repeat-doubtful.ensures _ c.requires.1).keyed c.if-doubtful.true)
+duplicate_at-next-requires c = (c.may_repeat-doubtful.ensures _ c.requires).keyed c.if-doubtful.true
 
 pub loop-r-preserved : goal.loop-r-preserved
 loop-r-preserved c = reported_more _ _ _ _ _ _ _ _ _ _ (omega (arith, (goal.at.loop-r-preserved c).Start)) (c.row_count-n.ensures ∙ sym (rows_is _ _)) c.loop-r-test.true c.loop-r.invariant c.duplicate_at-next.ensures
@@ -22,4 +22,4 @@ pub returns-then-doubtful : goal.returns-then-doubtful
 returns-then-doubtful c = reported_all _ _ _ _ _ _ _ _ _ (c.row_count-n.ensures ∙ sym (rows_is _ _)) c.loop-r-test.false (duplicates_all _ _) c.loop-r.invariant
 
 pub returns : goal.returns
-returns c = stored_nothing _ _ _ _ ((c.may_repeat-doubtful.ensures _ c.requires.1).single c.if-doubtful.false) c.more-next.ensures
+returns c = stored_nothing _ _ _ _ ((c.may_repeat-doubtful.ensures _ c.requires).single c.if-doubtful.false) c.more-next.ensures

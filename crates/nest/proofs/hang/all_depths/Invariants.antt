@@ -4,4 +4,4 @@ use Rattle.format.specs.Sections.{job_of}
 use Rattle.nest.proofs.hang.all_depths.Given as goal
 
 abbrev pub invariant-loop-l : goal.invariant-loop-l
-invariant-loop-l l = Sounded (outline_of (job_of l.job)) l.l l.depths
+invariant-loop-l l = Sounded (outline_of (job_of l.job.at.bytes.now)) l.l l.depths

@@ -12,7 +12,7 @@ pub loop-i-init : goal.loop-i-init
 loop-i-init c = tried_on _ _ _ _ _ c.loop-up.invariant _ (left_first _ _ _ _ (omega (arith, c.loop-up-test.true)))
 
 pub anchor-requires : goal.anchor-requires
-anchor-requires c = (c.requires.0, c.requires.1, loop_small _ c.requires.0.passed _ _ _ _ c.table_loop_count-n.ensures c.loop-i-test.true c.table_loop-l.ensures)
+anchor-requires c = (c.requires, loop_small _ c.args.job.ready.passed _ _ _ _ c.table_loop_count-n.ensures c.loop-i-test.true c.table_loop-l.ensures)
 
 pub returns-in-Some-reference : goal.returns-in-Some-reference
 returns-in-Some-reference c = tried_here _ _ _ _ _ c.loop-i.invariant _ _ _ _ (left_here _ _ _ _ _ _ c.table_loop_count-n.ensures c.loop-i-test.true c.table_loop-l.ensures _ (sym c.anchor.ensures ∙ c.in-Some.is)) (refers _ _ _ _ _ c.reference.ensures _ c.in-Some-reference.is)

@@ -5,4 +5,4 @@ use Rattle.format.specs.Sections.{job_of}
 use Rattle.nest.proofs.hang.deepest.Given as goal
 
 abbrev pub invariant-loop-i : goal.invariant-loop-i
-invariant-loop-i l = Within (outline_of (job_of l.job)) l.t.0 l.i l.d × (l.d < 256)
+invariant-loop-i l = Within (outline_of (job_of l.job.at.bytes.now)) l.t.0 l.i l.d × (l.d < 256)

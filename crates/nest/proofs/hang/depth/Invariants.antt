@@ -6,4 +6,4 @@ use Rattle.format.specs.Sections.{job_of}
 use Rattle.nest.proofs.hang.depth.Given as goal
 
 abbrev pub invariant-loop-d : goal.invariant-loop-d
-invariant-loop-d l = depth_of (outline_of (job_of l.job)) l.initial.at ≡ l.d + depth (outline_of (job_of l.job)) (l.n - l.d) l.at
+invariant-loop-d l = depth_of (outline_of (job_of l.job.at.bytes.now)) l.initial.at ≡ l.d + depth (outline_of (job_of l.job.at.bytes.now)) (l.n - l.d) l.at

@@ -12,7 +12,7 @@ pub loop-i-init : goal.loop-i-init
 loop-i-init c = lining_on _ _ _ _ _ c.loop-up.invariant _ (left_first _ _ _ _ (omega (arith, c.loop-up-test.true)))
 
 pub anchor-requires : goal.anchor-requires
-anchor-requires c = (c.requires.0, c.requires.1, loop_small _ c.requires.0.passed _ _ _ _ c.table_loop_count-count.ensures c.loop-i-test.true c.table_loop-l.ensures)
+anchor-requires c = (c.requires, loop_small _ c.args.job.ready.passed _ _ _ _ c.table_loop_count-count.ensures c.loop-i-test.true c.table_loop-l.ensures)
 
 pub loop-i-preserved : goal.loop-i-preserved
 loop-i-preserved c = elim c.match-anchor.branch [

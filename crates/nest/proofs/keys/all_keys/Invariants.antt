@@ -4,4 +4,4 @@ use Rattle.format.specs.Sections.{job_of}
 use Rattle.nest.proofs.keys.all_keys.Given as goal
 
 abbrev pub invariant-loop-u : goal.invariant-loop-u
-invariant-loop-u l = Marked (outline_of (job_of l.job)) l.u l.keys
+invariant-loop-u l = Marked (outline_of (job_of l.job.at.bytes.now)) l.u l.keys

@@ -4,4 +4,4 @@ use Rattle.format.specs.Sections.{job_of}
 use Rattle.nest.proofs.keys.ascends.Given as goal
 
 abbrev pub invariant-loop-k : goal.invariant-loop-k
-invariant-loop-k l = Climbing (outline_of (job_of l.job)) l.u.0 l.k l.last
+invariant-loop-k l = Climbing (outline_of (job_of l.job.at.bytes.now)) l.u.0 l.k l.last

@@ -6,4 +6,4 @@ use Rattle.format.specs.Sections.{job_of}
 use Rattle.nest.proofs.keys.has_keys.Given as goal
 
 abbrev pub invariant-loop-i : goal.invariant-loop-i
-invariant-loop-i l = has_keys (outline_of (job_of l.job)) l.u.0 ≡ keys_from (outline_of (job_of l.job)) l.u.0 l.i
+invariant-loop-i l = has_keys (outline_of (job_of l.job.at.bytes.now)) l.u.0 ≡ keys_from (outline_of (job_of l.job.at.bytes.now)) l.u.0 l.i

@@ -9,4 +9,4 @@ use Rattle.nest.proofs.RisingRows.{falls_from}
 use Rattle.nest.proofs.order.falls.Given as goal
 
 abbrev pub invariant-loop-k : goal.invariant-loop-k
-invariant-loop-k l = ((t : ℕ) → l.base ≡ T.rows_before (job_of l.job).tables t → l.rows ≡ (A.data_of (job_of l.job) t).rows → falls (outline_of (job_of l.job)) t ≡ falls_from (outline_of (job_of l.job)) t l.k) × (1 ≤ l.k)
+invariant-loop-k l = ((t : ℕ) → l.base ≡ T.rows_before (job_of l.job.at.bytes.now).tables t → l.rows ≡ (A.data_of (job_of l.job.at.bytes.now) t).rows → falls (outline_of (job_of l.job.at.bytes.now)) t ≡ falls_from (outline_of (job_of l.job.at.bytes.now)) t l.k) × (1 ≤ l.k)

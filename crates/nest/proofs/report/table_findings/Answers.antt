@@ -11,7 +11,7 @@ pub loop-r-init : goal.loop-r-init
 loop-r-init c = reported_none _ _ _ _ _ c.more-next.ensures
 
 pub row_findings-next-requires : goal.row_findings-next-requires
-row_findings-next-requires c = (c.requires.0, c.requires.1, c.requires.2, c.first_row-base.ensures, omega (arith, c.loop-r-test.true, c.row_count-n.ensures, rows_is (job_of c.args.job.now) c.args.t.0))
+row_findings-next-requires c = (c.requires.0, c.requires.1, c.first_row-base.ensures, omega (arith, c.loop-r-test.true, c.row_count-n.ensures, rows_is (job_of c.args.job.at.bytes.now) c.args.t.0))
 
 pub loop-r-preserved : goal.loop-r-preserved
 loop-r-preserved c = reported_more _ _ _ _ _ _ _ _ _ _ (omega (arith, (goal.at.loop-r-preserved c).Start)) (c.row_count-n.ensures ∙ sym (rows_is _ _)) c.loop-r-test.true c.loop-r.invariant c.row_findings-next.ensures

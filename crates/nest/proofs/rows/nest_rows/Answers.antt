@@ -10,7 +10,7 @@ pub loop-t-init : goal.loop-t-init
 loop-t-init c = storing_none _ _ _ _ _ (ap (λ k. k * 3) (before_all _))
 
 pub nest_table-requires : goal.nest_table-requires
-nest_table-requires c = (c.requires.0, c.all_keys-keys.ensures, c.all_depths-depths.ensures, omega (arith, c.loop-t.invariant.long, c.requires.1))
+nest_table-requires c = (c.all_keys-keys.ensures, c.all_depths-depths.ensures, omega (arith, c.loop-t.invariant.long, c.requires))
 
 pub loop-t-preserved : goal.loop-t-preserved
 loop-t-preserved c = storing_next _ _ _ _ _ _ _ _ _ _ c.loop-t.invariant (c.data_count-count.ensures ∙ sym (data-count-is _)) c.loop-t-test.true c.nest_table.ensures (table_next _ _)

@@ -8,4 +8,4 @@ use Rattle.format.specs.Sections.{job_of}
 use Rattle.nest.proofs.rows.nest_rows.Given as goal
 
 abbrev pub invariant-loop-t : goal.invariant-loop-t
-invariant-loop-t l = Storing (table_array (outline_of (job_of l.job))) (length (outline_of (job_of l.job)).row_counts) l.initial.nest 0 l.nest (rows_before (job_of l.job).tables l.t * 3) l.t
+invariant-loop-t l = Storing (table_array (outline_of (job_of l.job.at.bytes.now))) (length (outline_of (job_of l.job.at.bytes.now)).row_counts) l.initial.nest 0 l.nest (rows_before (job_of l.job.at.bytes.now).tables l.t * 3) l.t

@@ -9,10 +9,10 @@ pub loop-r-init : goal.loop-r-init
 loop-r-init c = storing_none _ _ _ _ _ (omega (arith, c.first_row-first.ensures))
 
 pub overflow_add-first : goal.overflow_add-first
-overflow_add-first c = omega (arith, c.requires.0.tables.few_rows, room_for _ _ _ _ _ c.first_row-first.ensures c.row_count-n.ensures c.loop-r-test.true)
+overflow_add-first c = omega (arith, c.args.job.ready.tables.few_rows, room_for _ _ _ _ _ c.first_row-first.ensures c.row_count-n.ensures c.loop-r-test.true)
 
 pub put_record-requires : goal.put_record-requires
-put_record-requires c = omega (arith, c.loop-r.invariant.long, c.requires.3, room_for _ _ _ _ _ c.first_row-first.ensures c.row_count-n.ensures c.loop-r-test.true)
+put_record-requires c = omega (arith, c.loop-r.invariant.long, c.requires.2, room_for _ _ _ _ _ c.first_row-first.ensures c.row_count-n.ensures c.loop-r-test.true)
 
 pub loop-r-preserved : goal.loop-r-preserved
 loop-r-preserved c = storing_next _ _ _ _ _ _ _ _ _ _ c.loop-r.invariant (c.row_count-n.ensures ∙ sym (rows_is _ _)) c.loop-r-test.true (stored_row _ _ _ _ _ _ _ _ c.place_of-p.ensures refl c.put_record.ensures) (row_next _ _ _ _)

@@ -8,4 +8,4 @@ use Rattle.format.specs.Sections.{job_of}
 use Rattle.nest.proofs.rows.nest_table.Given as goal
 
 abbrev pub invariant-loop-r : goal.invariant-loop-r
-invariant-loop-r l = Storing (nest_record (outline_of (job_of l.job)) l.t.0) (row_count (outline_of (job_of l.job)) l.t.0) l.initial.nest (rows_before (job_of l.job).tables l.t.0 * 3) l.nest ((l.first + l.r) * 3) l.r
+invariant-loop-r l = Storing (nest_record (outline_of (job_of l.job.at.bytes.now)) l.t.0) (row_count (outline_of (job_of l.job.at.bytes.now)) l.t.0) l.initial.nest (rows_before (job_of l.job.at.bytes.now).tables l.t.0 * 3) l.nest ((l.first + l.r) * 3) l.r

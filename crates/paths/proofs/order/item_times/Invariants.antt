@@ -6,4 +6,4 @@ use Rattle.paths.proofs.Tests.{Summing}
 use Rattle.paths.proofs.order.item_times.Given as goal
 
 abbrev pub invariant-loop-i : goal.invariant-loop-i
-invariant-loop-i l = Summing (same_item (item_of l.x)) (order_of (job_of l.job) l.l.0) l.i l.seen
+invariant-loop-i l = Summing (same_item (item_of l.x)) (order_of (job_of l.job.at.bytes.now) l.l.0) l.i l.seen

@@ -10,7 +10,7 @@ pub loop-i-init : goal.loop-i-init
 loop-i-init c = refl
 
 pub planned_once-right-requires : goal.planned_once-right-requires
-planned_once-right-requires c = (c.requires, table_loop_small _ c.requires.passed _ _ _ _ c.table_loop_count-n.ensures c.loop-i-test.true c.table_loop-l.ensures)
+planned_once-right-requires c = table_loop_small _ c.args.job.ready.passed _ _ _ _ c.table_loop_count-n.ensures c.loop-i-test.true c.table_loop-l.ensures
 
 pub returns-then-not-right : goal.returns-then-not-right
 returns-then-not-right c = planned_of_lem _ _ _ (every_bad _ _ _ _ c.table_loop_count-n.ensures 0 _ c.loop-i.invariant c.loop-i-test.true (c.planned_once-right.ensures ∙ ap (planned_once _ _) c.table_loop-l.ensures) (ap not c.if-not-right.true))

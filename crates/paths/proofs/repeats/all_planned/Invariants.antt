@@ -8,4 +8,4 @@ use mathlib.Core.Path.{◌≡◌}
 use Rattle.paths.proofs.repeats.all_planned.Given as goal
 
 abbrev pub invariant-loop-i : goal.invariant-loop-i
-invariant-loop-i l = every (planned_once (outline_of (job_of l.job)) l.t.0) (table_of (job_of l.job) l.t.0).loops ≡ every (planned_once (outline_of (job_of l.job)) l.t.0) (drop l.i (table_of (job_of l.job) l.t.0).loops)
+invariant-loop-i l = every (planned_once (outline_of (job_of l.job.at.bytes.now)) l.t.0) (table_of (job_of l.job.at.bytes.now) l.t.0).loops ≡ every (planned_once (outline_of (job_of l.job.at.bytes.now)) l.t.0) (drop l.i (table_of (job_of l.job.at.bytes.now) l.t.0).loops)

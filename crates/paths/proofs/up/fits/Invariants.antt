@@ -7,4 +7,4 @@ use mathlib.Core.Path.{◌≡◌}
 use Rattle.paths.proofs.up.fits.Given as goal
 
 abbrev pub invariant-loop-i : goal.invariant-loop-i
-invariant-loop-i l = fits (outline_of (job_of l.job)) (length (outline_of (job_of l.job)).loops) l.initial.at l.initial.last ≡ fits (outline_of (job_of l.job)) (l.n - l._i) l.at l.last
+invariant-loop-i l = fits (outline_of (job_of l.job.at.bytes.now)) (length (outline_of (job_of l.job.at.bytes.now)).loops) l.initial.at l.initial.last ≡ fits (outline_of (job_of l.job.at.bytes.now)) (l.n - l._i) l.at l.last

@@ -4,7 +4,7 @@ use mathlib.Core.Path.{sym, ap, ◌∙◌}
 use Rattle.paths.proofs.up.step_up.Goals as goal
 
 pub past_loop-requires : goal.past_loop-requires
-past_loop-requires c = (c.requires, parent_small _ c.requires.passed _ _ (sym c.loop_parent-parent.ensures ∙ c.in-Some.is))
+past_loop-requires c = parent_small _ c.args.job.ready.passed _ _ (sym c.loop_parent-parent.ensures ∙ c.in-Some.is)
 
 pub returns-in-Some : goal.returns-in-Some
 returns-in-Some c = up_past _ _ _ _ c.loop_parent-parent.ensures _ c.past_loop.result c.in-Some.is c.past_loop.ensures

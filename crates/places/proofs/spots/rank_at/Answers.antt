@@ -1,8 +1,11 @@
+use native.Mathlib.Omega.{arith}
+use mathlib.Core.Path.{refl}
+use Rattle.codec.specs.Ways.{case_is, case_not}
 use Rattle.places.proofs.Reading.{rank_some, rank_none}
 use Rattle.places.proofs.spots.rank_at.Goals as goal
 
-pub returns-then-tag_at-eq1 : goal.returns-then-tag_at-eq1
-returns-then-tag_at-eq1 c = rank_some _ _ _ _ c.tag_at.ensures _ _ c.if-tag_at-eq1.true c.le_at-p.ensures c.count_at.ensures.0
+pub returns-then-eq : goal.returns-then-eq
+returns-then-eq c = rank_some _ _ _ _ (case_is _ _ _ _ c.case.ensures _ _ c.eq.ensures c.if-eq.true) _ _ refl c.le_at-p.ensures c.count_at.ensures.0
 
 pub returns : goal.returns
-returns c = rank_none _ _ _ _ c.tag_at.ensures c.if-tag_at-eq1.false
+returns c = rank_none _ _ _ _ refl (case_not _ _ _ _ c.case.ensures _ _ c.eq.ensures c.if-eq.false (omega arith))

@@ -1,13 +1,15 @@
+use native.Mathlib.Omega.{arith}
 use mathlib.Core.Path.{refl}
 use Rattle.format.specs.Fields.{is_element_plan}
 use Rattle.codec.specs.Field.{is_at}
+use Rattle.codec.specs.Ways.{case_is, case_not}
 use Rattle.says.proofs.Walk.{number_is}
-use Rattle.says.proofs.Walk.{present_says}
+use Rattle.says.proofs.Walk.{present_by}
 use Rattle.places.proofs.Turning.{part_is}
 use Rattle.places.proofs.triggers.part_at.Goals as goal
 
 pub returns : goal.returns
 returns c v i = let l = is_element_plan _ _ _ v i in
     part_is _ _ v _ _ (number_is _ _ _ _ _ _ c.count_at-e.ensures.0 refl l.element)
-    (present_says _ _ _ _ _ c.tag_at-t.ensures _ (is_at _ _ _ _ _ _ (cc) l.component))
+    (present_by _ _ _ _ _ (λ h. case_is _ _ _ _ c.case.ensures _ _ c.eq.ensures h) (λ h. case_not _ _ _ _ c.case.ensures _ _ c.eq.ensures h (omega arith)) _ (is_at _ _ _ _ _ _ (cc) l.component))
     c.both.ensures

@@ -1,15 +1,18 @@
+use native.Mathlib.Omega.{arith}
+use mathlib.Core.Path.{refl}
 use Rattle.codec.specs.Field.{is_at}
+use Rattle.codec.specs.Ways.{case_is, case_not}
 use Rattle.format.specs.Fields.{is_segment_plan}
 use Rattle.places.proofs.Turning.{trigger_yes, trigger_no, source_room}
 use Rattle.places.proofs.triggers.trigger_wrong.Goals as goal
 
-pub returns-then-k-eq0 : goal.returns-then-k-eq0
-returns-then-k-eq0 c xs o v i = let l = is_segment_plan _ _ _ v i in
-    trigger_yes _ _ _ _ c.tag_at-k.ensures _ xs v _ c.if-k-eq0.true (is_at _ _ _ _ _ _ c.le_at-source.ensures l.source)
+pub returns-then-eq : goal.returns-then-eq
+returns-then-eq c xs o v i = let l = is_segment_plan _ _ _ v i in
+    trigger_yes _ _ _ _ (case_is _ _ _ _ c.case.ensures _ _ c.eq.ensures c.if-eq.true) _ xs v _ refl (is_at _ _ _ _ _ _ c.le_at-source.ensures l.source)
     (c.elements_wrong.ensures _ (is_at _ _ _ _ _ _ (cc) l.elements) xs o)
 
 pub returns : goal.returns
 returns c xs o v i =
     let l = is_segment_plan _ _ _ v i in
     let s = is_at _ _ _ _ _ _ c.le_at-source.ensures l.source in
-    trigger_no _ _ _ _ c.tag_at-k.ensures _ xs v (source_room _ _ _ _ s) c.if-k-eq0.false s
+    trigger_no _ _ _ _ refl _ xs v (source_room _ _ _ _ s) (case_not _ _ _ _ c.case.ensures _ _ c.eq.ensures c.if-eq.false (omega arith)) s

@@ -3,6 +3,3 @@ use Rattle.plan.proofs.layout.item.Goals as goal
 
 pub returns-then-o-k : goal.returns-then-o-k
 returns-then-o-k c = order_lacks _ _ c.requires.0 _ c.requires.1 _ _ c.order-o.ensures.count c.if-o-k.true
-
-pub returns : goal.returns
-returns c = c.order_item.ensures _ c.order-o.ensures c.if-o-k.false

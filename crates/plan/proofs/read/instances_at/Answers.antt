@@ -2,9 +2,6 @@ use Rattle.plan.proofs.Reading.{instances_case_lem, instances_else}
 use native.Mathlib.Omega.{arith}
 use Rattle.plan.proofs.read.instances_at.Goals as goal
 
-pub returns-then-job-at : goal.returns-then-job-at
-returns-then-job-at c = λ e v m j. absurd (omega (arith, m, c.if-job-at.true))
-
 pub returns-in-0 : goal.returns-in-0
 returns-in-0 c = λ e v m. instances_case_lem _ _ _ _ c.byte_at-t.ensures.0 c.num-n.ensures.0 0 c.in-0.is e v
 

@@ -3,13 +3,9 @@ use Rattle.emit.specs.Puts.{cell_text}
 use Rattle.emit.specs.Written.{tried}
 use Rattle.emit.proofs.FindingLaws.{none_found}
 use Rattle.repeat_segment.proofs.FillLaws.{own_quiet}
-use mathlib.Core.Bool.{false≢true}
 use mathlib.Core.Path.{refl}
 use native.Mathlib.Omega.{arith}
 use Rattle.repeat_segment.proofs.fill.quiet.Goals as goal
-
-pub returns-then-stretch_holds : goal.returns-then-stretch_holds
-returns-then-stretch_holds c = λ o p max e. absurd (false≢true e)
 
 pub returns-in-None : goal.returns-in-None
 unfolding cell_text cell_at
@@ -30,9 +26,3 @@ returns-in-Int c = λ o p max e. let a = c.args in own_quiet a.job.now a.cell ma
 pub returns-in-Wide : goal.returns-in-Wide
 unfolding cell_text cell_at
 returns-in-Wide c = λ o p max e. let a = c.args in own_quiet a.job.now a.cell max (tried a.d) c.requires.0.fit c.requires.1 (rw c.in-Wide.is refl) (rw c.in-Wide.is (omega arith)) o p
-
-pub returns-in-Days : goal.returns-in-Days
-returns-in-Days c = λ o p max e. absurd (false≢true e)
-
-pub returns-in-Seconds : goal.returns-in-Seconds
-returns-in-Seconds c = λ o p max e. absurd (false≢true e)

@@ -1,4 +1,3 @@
-use mathlib.Core.Path.{◌∙◌}
 use Rattle.repeat_segment.proofs.JoinLaws.{group_start, group_next, group_end}
 use native.Mathlib.Omega.{arith}
 use Rattle.repeat_segment.proofs.join.put_components.Goals as goal
@@ -11,9 +10,6 @@ pub loop-c-preserved : goal.loop-c-preserved
 loop-c-preserved c = group_next c.loop-c-test.true c.loop-c.invariant c.component_value-v.ensures c.component-t.ensures
 
 -- the loop ends before the first component, or behind the last
-pub shape_of-doc : goal.shape_of-doc
-shape_of-doc c = c.finish.auto.doc ∙ c.loop-c-test.auto.doc ∙ c.loop-c.invariant.1
-
 pub returns : goal.returns
 returns c = elim c.loop-c-test.branch [
   | else-loop-c-test w ↦ group_end w.loop-c-test.false c.loop-c.invariant (rw (w.doc-is, w.t-is) at c.finish.ensures)

@@ -1,4 +1,3 @@
-use mathlib.Core.Path.{◌∙◌}
 use Rattle.repeat_segment.proofs.JoinLaws.{repeat_start, repeat_next, repeat_end}
 use native.Mathlib.Omega.{arith}
 use Rattle.repeat_segment.proofs.join.put_positions.Goals as goal
@@ -11,9 +10,6 @@ pub loop-p-preserved : goal.loop-p-preserved
 loop-p-preserved c = repeat_next c.loop-p-test.true c.loop-p.invariant c.put_position-t.ensures c.put_position-t.auto.doc
 
 -- the loop ends before the first element, or behind the last
-pub shape_of-doc : goal.shape_of-doc
-shape_of-doc c = c.close.auto.doc ∙ c.loop-p-test.auto.doc ∙ c.loop-p.invariant.1
-
 pub returns : goal.returns
 returns c = elim c.loop-p-test.branch [
   | else-loop-p-test w ↦ repeat_end w.loop-p-test.false c.loop-p.invariant (rw (w.doc-is, w.t-is) at c.close.ensures)

@@ -1,6 +1,5 @@
 use Rattle.repeat_segment.proofs.ZeroLaws.{above_start, above_next, above_end, above_not}
 use Rattle.repeat_segment.proofs.Steps.{place_small, read_step}
-use native.Mathlib.Omega.{arith}
 use Rattle.repeat_segment.proofs.last.all_above.Goals as goal
 
 pub loop-i-init : goal.loop-i-init

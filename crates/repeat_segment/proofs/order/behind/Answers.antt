@@ -1,6 +1,6 @@
 use Rattle.repeat_segment.proofs.OrderLaws.{rises_nowhere, rises_there}
 use Rattle.plan.specs.Answers.{element_of}
-use mathlib.Core.Path.{sym, ap, ◌∙◌}
+use mathlib.Core.Path.{sym, ◌∙◌}
 use Rattle.repeat_segment.proofs.order.behind.Goals as goal
 
 pub returns-then-last-m : goal.returns-then-last-m

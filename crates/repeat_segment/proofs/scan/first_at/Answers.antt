@@ -1,6 +1,5 @@
 use Rattle.repeat_segment.proofs.FirstLaws.{first_start, first_next, first_end}
 use Rattle.repeat_segment.proofs.Steps.{place_small, read_step}
-use native.Mathlib.Omega.{arith}
 use Rattle.repeat_segment.proofs.scan.first_at.Goals as goal
 
 pub loop-i-init : goal.loop-i-init

@@ -1,14 +1,10 @@
 use Rattle.repeat_segment.proofs.FirstLaws.{found_is, found_not, first_plain, first_ranked}
 use Rattle.repeat_segment.specs.Places.{parts_of}
-use native.Mathlib.Omega.{arith}
 use mathlib.Core.Path.{◌∙◌}
 use Rattle.repeat_segment.proofs.scan.first_component.Goals as goal
 
-pub found_value-requires : goal.found_value-requires
-found_value-requires c = (c.requires.0, c.requires.1, omega (arith, c.if-f-count.true, c.requires.3))
-
 pub returns-then-f-count : goal.returns-then-f-count
-returns-then-f-count c = let a = c.args in let r = a.rows.now in c.found_value.ensures ∙ first_plain (parts_of a.job.now a.s r a.count) a.p (c.first_at-f.ensures r ∙ found_is a.job.now a.s r a.count a.p c.first_at-f.result c.if-f-count.true)
+returns-then-f-count c = let a = c.args in let r = a.rows.now in c.found_value.ensures ∙ first_plain (parts_of a.job.at.bytes.now a.s r a.count) a.p (c.first_at-f.ensures r ∙ found_is a.job.at.bytes.now a.s r a.count a.p c.first_at-f.result c.if-f-count.true)
 
 pub returns : goal.returns
-returns c = let a = c.args in let r = a.rows.now in first_ranked (parts_of a.job.now a.s r a.count) a.p (c.first_at-f.ensures r ∙ found_not a.job.now a.s r a.count a.p c.first_at-f.result c.if-f-count.false) c.ranked_value.ensures
+returns c = let a = c.args in let r = a.rows.now in first_ranked (parts_of a.job.at.bytes.now a.s r a.count) a.p (c.first_at-f.ensures r ∙ found_not a.job.at.bytes.now a.s r a.count a.p c.first_at-f.result c.if-f-count.false) c.ranked_value.ensures

@@ -9,15 +9,12 @@ use Rattle.row_segment.proofs.feed.put_cell.Goals as goal
 pub returns : goal.returns
 returns c = let a = c.args in
     let q = c.requires in
-    let b = a.job.now in
+    let b = a.job.at.bytes.now in
     let h = c.in-Some.h in
     let g = c.cell-cell.ensures in
     let e = c.held_in.ensures.0 b _ h c.in-Some.is in
     stood_silent b a.x a.p (stretch b h.start h.len)
-    (held_part b _ a.x a.p q.0 a.column _ g q.3 h.start h.len e)
-    (held_silent b _ a.x a.p q.0 a.column _ g q.3 h.start h.len e (tried a.d) q.1.tried
+    (held_part b a.x a.p a.column _ g q.3 h.start h.len e)
+    (held_silent b a.x a.p a.column _ g q.3 h.start h.len e (tried a.d) q.1
     (c.stretch_holds.ensures _ _ c.if-stretch_holds.false))
     (ap (λ n. a.entries + n) (cell_entry b a.x a.p q.3)) c.component_of-c.ensures c.put_stretch.ensures
-
-pub put_own-requires : goal.put_own-requires
-put_own-requires c = let q = c.requires in (q.0, q.2, q.3, c.cell-cell.ensures, c.held_in.ensures.1 c.in_default.is)

@@ -11,11 +11,8 @@ returns-then-p-e c = found_else _ _ _ _ _ _ c.loop-a.invariant _ (c.held.ensures
 pub returns-then-component_of-c : goal.returns-then-component_of-c
 returns-then-component_of-c c = found_here _ _ _ _ _ _ c.loop-a.invariant _ _ c.in-Some.is c.if-p-e.false c.component_of.ensures c.if-component_of-c.true c.text_of-w.ensures.text
 
-pub next_part-a-requires : goal.next_part-a-requires
-next_part-a-requires c = (c.requires.0, c.loop-a.invariant.sees.stands)
-
 pub loop-a-smaller : goal.loop-a-smaller
-loop-a-smaller c = left_less c.loop-a.a c.next_part-a.result _ c.requires.0 c.in-Some.is c.next_part-a.ensures
+loop-a-smaller c = left_less c.loop-a.a c.next_part-a.result c.requires.0 c.in-Some.is c.next_part-a.ensures
 
 pub loop-a-preserved : goal.loop-a-preserved
 loop-a-preserved c = finding_next _ _ _ _ _ _ c.loop-a.invariant _ _ c.in-Some.is c.if-p-e.false c.component_of.ensures c.if-component_of-c.false c.next_part-a.ensures

@@ -1,5 +1,3 @@
-use mathlib.Core.Path.{refl}
-use native.Mathlib.Omega.{arith}
 use Rattle.row_segment.proofs.NoteLaws.{between_none, between_trans, between_room}
 use Rattle.row_segment.proofs.RowLaws.{rowing_start, rowing_next, rowing_below, rowing_none}
 use Rattle.row_segment.proofs.join.put_groups.Goals as goal
@@ -7,32 +5,14 @@ use Rattle.row_segment.proofs.join.put_groups.Goals as goal
 pub loop-a-init : goal.loop-a-init
 loop-a-init c = (rowing_start _ _ _ _ _ _ c.requires.2, between_none _ _ _ _ _)
 
-pub shape_of-doc-then-place-done : goal.shape_of-doc-then-place-done
-shape_of-doc-then-place-done c = c.loop-a.invariant.0.long
-
-pub shape_of-findings-then-place-done : goal.shape_of-findings-then-place-done
-shape_of-findings-then-place-done c = c.loop-a.invariant.1.long
-
 pub returns-then-place-done : goal.returns-then-place-done
 returns-then-place-done c = (rowing_below _ _ _ _ _ _ _ _ _ _ c.loop-a.invariant.0 _ _ c.in-Some.is c.wide-place.ensures.0 c.if-place-done.true, c.loop-a.invariant.1)
 
 pub put_next-g-requires : goal.put_next-g-requires
 put_next-g-requires c = (c.requires.0, c.requires.1, c.loop-a.invariant.0.sees, between_room c.loop-a.invariant.1 c.requires.3)
 
-pub overflow_add-done : goal.overflow_add-done
-overflow_add-done c = omega (arith, c.wide-place.ensures.1)
-
-pub loop-a-smaller : goal.loop-a-smaller
-loop-a-smaller c = c.put_next-g.ensures.0.scans.less _ c.in-Some.is refl
-
 pub loop-a-preserved : goal.loop-a-preserved
 loop-a-preserved c = (rowing_next _ _ _ _ _ _ _ _ _ _ c.loop-a.invariant.0 _ c.put_next-g.result _ c.in-Some.is c.wide-place.ensures.0 c.if-place-done.false c.put_next-g.ensures.0, between_trans c.loop-a.invariant.1 c.put_next-g.ensures.1)
-
-pub shape_of-doc : goal.shape_of-doc
-shape_of-doc c = c.loop-a.invariant.0.long
-
-pub shape_of-findings : goal.shape_of-findings
-shape_of-findings c = c.loop-a.invariant.1.long
 
 pub returns : goal.returns
 returns c = (rowing_none _ _ _ _ _ _ _ _ _ _ c.loop-a.invariant.0 _ c.in_default.is, c.loop-a.invariant.1)

@@ -11,30 +11,21 @@ use Rattle.row_segment.proofs.join.scan.Goals.{Start}
 pub loop-a-init : goal.loop-a-init
 loop-a-init c = (scanning_start _ _ _ _ c.requires.2, between_none _ _ _ _ _)
 
-pub shape_of-findings-then-p-e : goal.shape_of-findings-then-p-e
-shape_of-findings-then-p-e c = c.loop-a.invariant.1.long
-
 pub returns-then-p-e : goal.returns-then-p-e
 returns-then-p-e c = (scanned_else _ _ _ _ _ _ c.loop-a.invariant.0 c.in-Some.is c.if-p-e.true, c.loop-a.invariant.1)
 
 pub note_text-s-requires : goal.note_text-s-requires
 note_text-s-requires c = (c.requires.1, c.text_of-w.ensures, let h = between_room c.loop-a.invariant.1 c.requires.3 in omega (arith, h))
 
-pub next_part-a-requires : goal.next_part-a-requires
-next_part-a-requires c = (c.requires.0, c.loop-a.invariant.0.sees.stands)
-
 pub loop-a-smaller : goal.loop-a-smaller
-loop-a-smaller c = left_less c.loop-a.a c.next_part-a.result _ c.requires.0 c.in-Some.is c.next_part-a.ensures
+loop-a-smaller c = left_less c.loop-a.a c.next_part-a.result c.requires.0 c.in-Some.is c.next_part-a.ensures
 
 pub loop-a-preserved : goal.loop-a-preserved
 loop-a-preserved c =
     let h : length c.args.findings.now ≤ wide = omega (arith, (goal.at.loop-a-preserved c).Start) in (
-      scanning_next _ _ _ _ _ _ c.loop-a.invariant.0 _ _ _ _ _ c.requires.0 c.in-Some.is c.if-p-e.false c.text_of-w.ensures.text c.component_of.ensures (omega arith) c.raised-m.ensures c.next_part-a.ensures,
+      scanning_next _ _ _ _ _ _ c.loop-a.invariant.0 _ _ _ _ c.requires.0 c.in-Some.is c.if-p-e.false c.text_of-w.ensures.text c.component_of.ensures (omega arith) c.raised-m.ensures c.next_part-a.ensures,
       between_next c.loop-a.invariant.1 _ h c.in-Some.is c.note_text-s.ensures c.next_part-a.ensures,
     )
-
-pub shape_of-findings : goal.shape_of-findings
-shape_of-findings c = c.loop-a.invariant.1.long
 
 pub returns : goal.returns
 returns c = (scanned_none _ _ _ _ _ _ c.loop-a.invariant.0 c.in_default.is, c.loop-a.invariant.1)

@@ -12,4 +12,4 @@ pub returns-then-is_none : goal.returns-then-is_none
 returns-then-is_none c = stored_no_reason _ _ (why_in c.args.why) (no_reason _ (search rules)) c.more.ensures
 
 pub returns : goal.returns
-returns c = let a = c.args in let id = id_of a.job.now a.x in c.note_reason.ensures (cell a.x.t.0 a.x.r.0 a.column) (place_of id a.p.element a.p.component) (c.spot-place.ensures id (c.id_number-name.ensures ∙ ap (number_from 0) c.requires.0.bytes))
+returns c = let a = c.args in let id = id_of a.job.now a.x in c.note_reason.ensures (cell a.x.t.0 a.x.r.0 a.column) (place_of id a.p.element a.p.component) (c.cell_spot-place.ensures id (c.id_number-name.ensures ∙ ap (number_from 0) c.requires.0.bytes))

@@ -13,17 +13,11 @@ loop-a-init c = (between_none _ _ _ _ _, c.requires.2)
 pub note_text-s-requires : goal.note_text-s-requires
 note_text-s-requires c = (c.requires.1, c.text_of-w.ensures, let h = between_room c.loop-a.invariant.0 c.requires.3 in omega (arith, h))
 
-pub next_part-a-requires : goal.next_part-a-requires
-next_part-a-requires c = (c.requires.0, c.loop-a.invariant.1.stands)
-
 pub loop-a-smaller : goal.loop-a-smaller
-loop-a-smaller c = left_less c.loop-a.a c.next_part-a.result _ c.requires.0 c.in-Some.is c.next_part-a.ensures
+loop-a-smaller c = left_less c.loop-a.a c.next_part-a.result c.requires.0 c.in-Some.is c.next_part-a.ensures
 
 pub loop-a-preserved : goal.loop-a-preserved
 loop-a-preserved c = let h : length c.args.findings.now ≤ wide = omega (arith, (goal.at.loop-a-preserved c).Start) in (between_next c.loop-a.invariant.0 _ h c.in-Some.is c.note_text-s.ensures c.next_part-a.ensures, c.next_part-a.ensures.sees)
-
-pub shape_of-findings : goal.shape_of-findings
-shape_of-findings c = c.loop-a.invariant.0.long
 
 pub returns : goal.returns
 returns c = between_end c.loop-a.invariant.0 c.in_default.is c.loop-a.invariant.1 c.requires.4

@@ -10,4 +10,4 @@ pub returns : goal.returns
 returns c = let a = c.args in
     let h : length a.doc.now ≤ cap = omega (arith, (goal.at.returns c).Start) in
     let k : length a.findings.now ≤ wide = omega (arith, (goal.at.returns c).Start) in
-    line_ordered a.job.now a.x c.put_parts-g.result c.requires.0 c.requires.1 h k c.separators_of-s.ensures c.begin-pen.ensures c.more-start.ensures c.put_parts-g.ensures c.close-bytes.ensures
+    line_ordered a.job.at.bytes.now a.x c.put_parts-g.result c.requires.0 c.requires.1 h k c.separators_of-s.ensures c.begin-pen.ensures c.more-start.ensures c.put_parts-g.ensures c.close-bytes.ensures

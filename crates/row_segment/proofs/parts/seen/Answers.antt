@@ -5,9 +5,6 @@ pub returns-in-Column : goal.returns-in-Column
 unfolding part_put
 returns-in-Column c = λ b x. rw (c.told.ensures, c.in-Column.is)
 
-pub returns-in-Group : goal.returns-in-Group
-returns-in-Group c = λ b x. rw c.in-Group.is
-
 pub returns-in-Code : goal.returns-in-Code
 unfolding part_put
 returns-in-Code c = λ b x. rw (c.told-in-Code.ensures, c.in-Code.is)

@@ -1,9 +1,6 @@
 use Rattle.row_segment.specs.Stream.{outcome_of}
 use Rattle.row_segment.proofs.parts.text_of.Goals as goal
 
-pub cell_text-requires : goal.cell_text-requires
-cell_text-requires c = let w = c.requires in (w.ready, w.id.within)
-
 pub returns-in-Cell : goal.returns-in-Cell
 unfolding outcome_of
 returns-in-Cell c = rw c.in-Cell.is (rw c.requires.id.bytes at c.cell_text.ensures)

@@ -5,18 +5,18 @@ use Rattle.run.proofs.segments.segment_due.Goals as goal
 
 pub returns-in-Envelope : goal.returns-in-Envelope
 returns-in-Envelope c =
-    let p = c.requires.3 in
+    let p = c.requires.2 in
     gives_source _ _ _ _ _ refl _ _ (ltb-true _ _ (sym p.there ∙ c.if-s.true)) p.segment.source c.in-Envelope.is _ (c.opener_due.ensures _)
 
 pub returns-in-Row : goal.returns-in-Row
 returns-in-Row c =
-    let p = c.requires.3 in
+    let p = c.requires.2 in
     gives_source _ _ _ _ _ refl _ _ (ltb-true _ _ (sym p.there ∙ c.if-s.true)) p.segment.source c.in-Row.is _ c.row_due.ensures
 
 pub returns-in-Repeat : goal.returns-in-Repeat
 returns-in-Repeat c =
-    let p = c.requires.3 in
+    let p = c.requires.2 in
     gives_source _ _ _ _ _ refl _ _ (ltb-true _ _ (sym p.there ∙ c.if-s.true)) p.segment.source c.in-Repeat.is _ c.repeat_due.ensures
 
 pub returns : goal.returns
-returns c = unplanned _ _ _ _ _ refl (ltb-false _ _ (sym c.requires.3.there ∙ c.if-s.false))
+returns c = unplanned _ _ _ _ _ refl (ltb-false _ _ (sym c.requires.2.there ∙ c.if-s.false))

@@ -1,9 +1,11 @@
+use mathlib.Core.Path.{refl}
+use Rattle.codec.specs.Ways.{case_is, case_not}
 use native.Mathlib.Omega.{arith}
 use Rattle.says.proofs.Walk.{opt_there, opt_none}
 use Rattle.says.proofs.lists.opt_at.Goals as goal
 
-pub returns-then-tag_at-eq1 : goal.returns-then-tag_at-eq1
-returns-then-tag_at-eq1 g c f h = opt_there _ _ _ _ _ _ _ _ c.tag_at.ensures c.if-tag_at-eq1.true c.le_at.ensures (h _ _ (omega arith) c.test.ensures)
+pub returns-then-eq : goal.returns-then-eq
+returns-then-eq g c f h = opt_there _ _ _ _ _ _ _ _ (case_is _ _ _ _ c.case.ensures _ _ c.eq.ensures c.if-eq.true) refl c.le_at.ensures (h _ _ (omega arith) c.test.ensures)
 
 pub returns : goal.returns
-returns g c f h = opt_none _ _ _ _ _ _ c.tag_at.ensures c.if-tag_at-eq1.false
+returns g c f h = opt_none _ _ _ _ _ _ refl (case_not _ _ _ _ c.case.ensures _ _ c.eq.ensures c.if-eq.false (omega arith))

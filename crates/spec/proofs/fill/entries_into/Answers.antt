@@ -1,10 +1,10 @@
-use Rattle.std.specs.Prelude.{◌≡◌, ◌+◌, ◌-◌, ◌*◌}
+use Rattle.std.specs.Prelude.{◌≡◌, ◌+◌, ◌-◌}
 use Rattle.spec.specs.Kept.{stored_one}
 use Rattle.codec.specs.Skip.{skip_pair, list_start, list_again, list_done}
 use Rattle.codec.specs.Forms.{bytes_c}
 use Rattle.spec.specs.Rows.{entry_rows}
 use Rattle.format.specs.Spec.{segment_c}
-use Rattle.codec.specs.Rows.{rows_next, rows_done, rows_long}
+use Rattle.codec.specs.Rows.{rows_next, rows_done}
 use native.Mathlib.Omega.{arith}
 use mathlib.Core.Path.{refl}
 use Rattle.spec.proofs.fill.entries_into.Goals as goal
@@ -20,9 +20,6 @@ loop-i-preserved c =
     let z : c.count_at-n.result - (c.loop-i.i + 1) ≡ c.count_at-n.result - c.loop-i.i - 1 = omega arith in
     let y : 4097 + (c.loop-i.i + 1) ≡ 4097 + c.loop-i.i + 1 = omega arith in
     (rw (z, y) (rows_next _ _ _ _ _ _ _ _ _ _ _ _ c.loop-i.invariant.0 (omega arith) refl (cc (skip_pair bytes_c segment_c _ _ _)) (stored_one _ _ _ _ c.put.ensures)), c.loop-i.invariant.1, rw z (list_again _ _ _ _ _ _ _ c.loop-i.invariant.2 (omega arith) (cc (skip_pair bytes_c segment_c _ _ _))))
-
-pub shape_of-index : goal.shape_of-index
-shape_of-index c = rows_long _ _ _ _ _ _ _ _ _ _ _ c.loop-i.invariant.0
 
 pub returns : goal.returns
 returns c = (list_done _ _ _ _ _ _ c.loop-i.invariant.2 (omega arith), rows_done _ _ _ _ _ _ _ _ _ c.loop-i.invariant.0 (omega arith))

@@ -1,13 +1,9 @@
 use Rattle.spec.specs.Filling.{few_loops, few_at, fill_done}
 use Rattle.spec.specs.Filled.{spec_filled}
-use native.Mathlib.Omega.{arith}
 use Rattle.spec.proofs.fill.fill_spec.Goals as goal
 
 pub loops_into-roots-requires : goal.loops_into-roots-requires
 loops_into-roots-requires c = rw c.spec_end.ensures (few_loops _ c.requires)
-
-pub fill_segments-tables-requires : goal.fill_segments-tables-requires
-fill_segments-tables-requires c = (c.requires, c.spec_end.ensures, cc, omega (arith, c.requires.sound))
 
 pub tables_into-version-requires : goal.tables_into-version-requires
 tables_into-version-requires c = few_at _ c.requires _ _ c.spec_end.ensures c.fill_segments-tables.ensures.0

@@ -1,7 +1,7 @@
 use Rattle.std.specs.Prelude.{◌≡◌, ◌+◌, ◌-◌, ◌*◌}
 use Rattle.spec.specs.Rows.{table_rows}
 use Rattle.codec.specs.Skip.{list_start, list_again, list_done}
-use Rattle.codec.specs.Rows.{rows_next, rows_done, rows_long}
+use Rattle.codec.specs.Rows.{rows_next, rows_done}
 use native.Mathlib.Omega.{arith}
 use mathlib.Core.Path.{refl}
 use Rattle.spec.proofs.fill.tables_into.Goals as goal
@@ -17,9 +17,6 @@ loop-i-preserved c =
     let z : c.count_at-n.result - (c.loop-i.i + 1) ≡ c.count_at-n.result - c.loop-i.i - 1 = omega arith in
     let y : 232 + 6 * (c.loop-i.i + 1) ≡ 232 + 6 * c.loop-i.i + 6 = omega arith in
     (rw (z, y) (rows_next _ _ _ _ _ _ _ _ _ _ _ _ c.loop-i.invariant.0 (omega arith) refl c.table_into-p.ensures.0 c.table_into-p.ensures.1), c.loop-i.invariant.1, rw z (list_again _ _ _ _ _ _ _ c.loop-i.invariant.2 (omega arith) c.table_into-p.ensures.0))
-
-pub shape_of-index : goal.shape_of-index
-shape_of-index c = rows_long _ _ _ _ _ _ _ _ _ _ _ c.loop-i.invariant.0
 
 pub returns : goal.returns
 returns c = (list_done _ _ _ _ _ _ c.loop-i.invariant.2 (omega arith), rows_done _ _ _ _ _ _ _ _ _ c.loop-i.invariant.0 (omega arith))

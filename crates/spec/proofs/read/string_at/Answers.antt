@@ -1,11 +1,7 @@
 use Rattle.std.specs.Prelude.{◌≡◌, ◌+◌, ◌-◌}
 use native.Mathlib.Omega.{arith}
 use Rattle.codec.specs.Skip.{list_again, list_done}
-use mathlib.Core.Path.{refl}
 use Rattle.spec.proofs.read.string_at.Goals as goal
-
-pub loop-i-init : goal.loop-i-init
-loop-i-init c = let z : c.args.k - 0 ≡ c.args.k = omega arith in rw z refl
 
 pub loop-i-preserved : goal.loop-i-preserved
 loop-i-preserved c =

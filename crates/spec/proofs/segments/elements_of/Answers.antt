@@ -4,15 +4,12 @@ use Rattle.spec.specs.Answers.{stretch_of}
 use native.Mathlib.Omega.{arith}
 use Rattle.spec.proofs.segments.elements_of.Goals as goal
 
-pub loop-k-init : goal.loop-k-init
-loop-k-init c = λ i r q. absurd (omega arith)
-
 pub returns-then-key_is : goal.returns-then-key_is
 unfolding PlaceOf
 returns-then-key_is c = let z = names_counted _ _ c.requires.0 _ _ c.place-m.ensures.0 c.num-n.ensures.0 in name_found _ _ c.requires.0 _ _ _ c.place-p.ensures.0 (omega (arith, z, c.loop-k-test.true)) _ _ c.loop-k.invariant c.key_is.ensures c.if-key_is.true c.num.ensures.0
 
 pub loop-k-preserved : goal.loop-k-preserved
-loop-k-preserved c = let z = names_counted _ _ c.requires.0 _ _ c.place-m.ensures.0 c.num-n.ensures.0 in names_more _ _ c.requires.0 (stretch_of c.args.job.now c.args.identifier) _ _ c.place-p.ensures.0 (omega (arith, z, c.loop-k-test.true)) _ c.loop-k.invariant c.key_is.ensures c.if-key_is.false
+loop-k-preserved c = let z = names_counted _ _ c.requires.0 _ _ c.place-m.ensures.0 c.num-n.ensures.0 in names_more _ _ c.requires.0 (stretch_of c.args.job.bytes.now c.args.identifier) _ _ c.place-p.ensures.0 (omega (arith, z, c.loop-k-test.true)) _ c.loop-k.invariant c.key_is.ensures c.if-key_is.false
 
 pub returns : goal.returns
 unfolding PlaceOf

@@ -1,7 +1,7 @@
 use Rattle.std.proofs.Common.{◌≡◌, ℕ, ◌^◌, ◌<◌, ◌≤◌, sym, ◌∙◌, arith, rules, ltb-false, ltb-true}
 use Rattle.texts.specs.Wide.{value}
 use Rattle.texts.proofs.Halves.{wide_small}
-use Rattle.texts.proofs.Passes.{found_none, found_room, found_more, found_all}
+use Rattle.texts.proofs.Passes.{found_none, found_more, found_all}
 use Rattle.texts.proofs.number.places_of.Goals as goal
 use Rattle.texts.proofs.number.places_of.Goals.{After-tenth-t}
 
@@ -11,23 +11,11 @@ small c = wide_small _ _ (search rules) (search rules)
 more : (c : After-tenth-t) → 0 < value c.loop-rest.rest
 more c = ltb-true 0 _ (sym c.positive.ensures ∙ c.loop-rest-test.true)
 
-room : (c : After-tenth-t) → c.loop-rest.count < 39
-room c = found_room _ _ _ _ (small c) c.loop-rest.invariant (more c)
-
 none : (n : ℕ) → n ≤ 0 → n ≡ 0
 none n h = omega arith
 
 pub loop-rest-init : goal.loop-rest-init
 loop-rest-init c = found_none _
-
-pub bounds-bytes-count : goal.bounds-bytes-count
-bounds-bytes-count c = omega (arith, room c)
-
-pub overflow_add-count : goal.overflow_add-count
-overflow_add-count c = record { fits = omega (arith, room c) }
-
-pub loop-rest-smaller : goal.loop-rest-smaller
-loop-rest-smaller c = omega (arith, room c)
 
 pub loop-rest-preserved : goal.loop-rest-preserved
 loop-rest-preserved c = found_more _ _ _ _ _ _ (small c) c.loop-rest.invariant (more c) c.tenth-t.ensures.rest c.tenth-t.ensures.figure

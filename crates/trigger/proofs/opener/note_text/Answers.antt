@@ -3,6 +3,3 @@ use Rattle.trigger.proofs.opener.note_text.Goals as goal
 
 pub returns-in-None : goal.returns-in-None
 returns-in-None c = λ j trigger e q. rw c.in-None.is (none_stored c.more.ensures)
-
-pub returns-in-Some : goal.returns-in-Some
-returns-in-Some c = λ j trigger e q. rw c.in-Some.is (c.note_field.ensures j trigger e q)

@@ -10,22 +10,13 @@ pub loop-rest-init : goal.loop-rest-init
 loop-rest-init c = (refl, refl, λ o. none_yet o.entries o.rises o.mins c.more-start.ensures refl refl refl refl)
 
 pub put_element-drawn-requires : goal.put_element-drawn-requires
-put_element-drawn-requires c = (c.requires.0, c.requires.1, still_known (c.loop-rest.invariant.2 c.requires.2) c.loop-rest-test.true c.element-x.ensures)
-
-pub next_element-rest-requires : goal.next_element-rest-requires
-next_element-rest-requires c = let r = c.requires.0.segments in (r.trailed, r.short, c.loop-rest-test.true, r.within)
+put_element-drawn-requires c = (c.requires.0, still_known (c.loop-rest.invariant.2 c.requires.1) c.loop-rest-test.true c.element-x.ensures)
 
 pub loop-rest-smaller : goal.loop-rest-smaller
-loop-rest-smaller c = one_less (c.loop-rest.invariant.2 c.requires.2) c.loop-rest-test.true c.next_element-rest.ensures
+loop-rest-smaller c = one_less (c.loop-rest.invariant.2 c.requires.1) c.loop-rest-test.true c.next_element-rest.ensures
 
 pub loop-rest-preserved : goal.loop-rest-preserved
 loop-rest-preserved c = (c.put_element-drawn.auto.doc ∙ c.loop-rest.invariant.0, c.put_element-drawn.auto.findings ∙ c.loop-rest.invariant.1, λ o. let h : length c.args.findings.now ≤ wide = omega arith in one_more (c.loop-rest.invariant.2 o) (element_shape _ _ _ _ _) h c.loop-rest-test.true c.element-x.ensures (λ y says m. c.put_element-drawn.ensures o.loop o.control o.number y o.framed says m) c.next_element-rest.ensures)
-
-pub shape_of-doc : goal.shape_of-doc
-shape_of-doc c = c.loop-rest.invariant.0
-
-pub shape_of-findings : goal.shape_of-findings
-shape_of-findings c = c.loop-rest.invariant.1
 
 pub returns : goal.returns
 returns c = λ o. all_drawn (c.loop-rest.invariant.2 o) c.loop-rest-test.false

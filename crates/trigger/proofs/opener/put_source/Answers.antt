@@ -1,9 +1,6 @@
 use Rattle.trigger.proofs.Draws.{adds_as, source_put_lem, source_none}
 use Rattle.trigger.proofs.opener.put_source.Goals as goal
 
-pub value_of-v-requires : goal.value_of-v-requires
-value_of-v-requires c = (c.requires.0, rw c.in-Some.is at c.requires.1)
-
 pub returns-in-Some : goal.returns-in-Some
 returns-in-Some c = λ j trigger y o e q h t. let a = c.args in adds_as (source_put_lem j trigger a.job.now o a.x.number y h.number _ (rw c.in-Some.is at t) _ (c.value_of-v.ensures y h)) (c.put_text.ensures j trigger e q)
 

@@ -1,8 +1,5 @@
 use Rattle.emit.proofs.FindingLaws.{none_stored}
 use Rattle.trigger.proofs.opener.try_checked.Goals as goal
 
-pub returns-then-checked : goal.returns-then-checked
-returns-then-checked c = λ o p e. rw c.if-checked.true (c.try_delimiters.ensures o p e)
-
 pub returns : goal.returns
 returns c = λ o p e. rw c.if-checked.false (none_stored c.more.ensures)

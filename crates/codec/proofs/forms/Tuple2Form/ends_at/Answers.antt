@@ -1,4 +1,3 @@
-use Rattle.std.proofs.Common.{sym, ◌∙◌}
 use Rattle.codec.specs.Skip.{skip_pair}
 use Rattle.codec.proofs.forms.Tuple2Form.ends_at.Goals as goal
 

@@ -1,16 +1,19 @@
-use Rattle.codec.specs.Ways.{tag_case, opt_none, opt_some, opt_bad}
-use mathlib.Core.Path.{sym, ◌∙◌}
-use native.Mathlib.Omega.{arith}
+use Rattle.std.proofs.Common.{arith, refl, sym, ◌∙◌}
+use Rattle.codec.specs.Ways.{tag_case, opt_none, opt_some, opt_bad, case_some, case_none}
 use Rattle.codec.proofs.section.Section.opt_end.Goals as goal
+use Rattle.codec.proofs.section.Section.opt_end.Goals.{in_default-via-in-Some+in_default, in_default-via-in_default}
 
 pub overflow_add-result : goal.overflow_add-result
-overflow_add-result c = omega (arith, tag_case _ _ _ 0 (sym c.tag_at-t.ensures ∙ c.if-t-eq0.true) (omega arith))
+overflow_add-result c = omega (arith, tag_case _ _ _ 0 (sym (case_some _ _ _ _ c.case.ensures _ c.in-Some-eq0.is) ∙ c.in-Some-eq0.field-0-test) (omega arith))
 
-pub returns-then-t-eq0 : goal.returns-then-t-eq0
-returns-then-t-eq0 c = sym (opt_none _ _ _ _ (sym c.tag_at-t.ensures ∙ c.if-t-eq0.true))
+pub returns-in-Some-eq0 : goal.returns-in-Some-eq0
+returns-in-Some-eq0 c = sym (opt_none _ _ _ _ (sym (case_some _ _ _ _ c.case.ensures _ c.in-Some-eq0.is) ∙ c.in-Some-eq0.field-0-test))
 
-pub returns-then-t-eq1 : goal.returns-then-t-eq1
-returns-then-t-eq1 c = sym (opt_some _ _ _ _ (sym c.tag_at-t.ensures ∙ c.if-t-eq1.true))
+pub returns-in-Some-eq1 : goal.returns-in-Some-eq1
+returns-in-Some-eq1 c = sym (opt_some _ _ _ _ (sym (case_some _ _ _ _ c.case.ensures _ c.in-Some-eq1.is) ∙ c.in-Some-eq1.field-0-test))
 
-pub returns : goal.returns
-returns c = let e = c.tag_at-t.ensures in sym (opt_bad _ _ _ _ (λ h. c.if-t-eq0.false (e ∙ h)) (λ h. c.if-t-eq1.false (e ∙ h)))
+pub returns-in_default : goal.returns-in_default
+returns-in_default c = elim c.in_default.branch [
+  | in_default-via-in-Some+in_default w ↦ let e = case_some _ _ _ _ w.in_default.ensures _ refl in c.past.ensures ∙ sym (opt_bad _ _ _ _ (λ h. w.in_default.field-0-test.0.1 (e ∙ h)) (λ h. w.in_default.field-0-test.1 (e ∙ h)))
+  | in_default-via-in_default w ↦ let e = case_none _ _ _ _ c.case.ensures w.in_default.is in c.past.ensures ∙ sym (opt_bad _ _ _ _ (λ h. omega (arith, e, h)) (λ h. omega (arith, e, h)))
+]

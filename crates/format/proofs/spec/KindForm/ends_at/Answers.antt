@@ -1,15 +1,20 @@
-use Rattle.std.proofs.Common.{◌∙◌}
+use Rattle.std.proofs.Common.{arith, ◌∙◌}
+use Rattle.codec.specs.Ways.{case_some, case_none}
 use Rattle.format.specs.Ends.{kind_low, kind_byte, kind_high, kind_bad}
 use Rattle.format.proofs.spec.KindForm.ends_at.Goals as goal
+use Rattle.format.proofs.spec.KindForm.ends_at.Goals.{in_default-via-in-Some-3+else-t-lt6, in_default-via-in_default}
 
-pub returns-then-t-lt2 : goal.returns-then-t-lt2
-returns-then-t-lt2 c = kind_low _ _ _ _ _ c.tag_at-t.ensures c.le_at-p.ensures c.if-t-lt2.true
+pub returns-in-Some : goal.returns-in-Some
+returns-in-Some c = kind_low _ _ _ _ _ (case_some _ _ _ _ c.case.ensures _ c.in-Some.is) c.le_at-p.ensures c.if-t-lt2.true
 
-pub returns-then-t-lt4 : goal.returns-then-t-lt4
-returns-then-t-lt4 c = kind_byte _ _ _ _ _ c.tag_at-t.ensures c.le_at-p.ensures _ c.le_at.ensures c.if-t-lt2.false c.if-t-lt4.true
+pub returns-in-Some-2 : goal.returns-in-Some-2
+returns-in-Some-2 c = kind_byte _ _ _ _ _ (case_some _ _ _ _ c.case.ensures _ c.in-Some.is) c.le_at-p.ensures _ c.le_at.ensures (omega arith) c.if-t-lt4.true
 
-pub returns-then-t-lt6 : goal.returns-then-t-lt6
-returns-then-t-lt6 c = kind_high _ _ _ _ _ c.tag_at-t.ensures c.le_at-p.ensures c.if-t-lt4.false c.if-t-lt6.true
+pub returns-in-Some-3 : goal.returns-in-Some-3
+returns-in-Some-3 c = kind_high _ _ _ _ _ (case_some _ _ _ _ c.case.ensures _ c.in-Some.is) c.le_at-p.ensures (omega arith) c.if-t-lt6.true
 
-pub returns : goal.returns
-returns c = c.past.ensures ∙ kind_bad _ _ _ _ _ c.tag_at-t.ensures c.le_at-p.ensures c.if-t-lt6.false
+pub returns-in_default : goal.returns-in_default
+returns-in_default c = elim c.in_default.branch [
+  | in_default-via-in-Some-3+else-t-lt6 w ↦ c.past.ensures ∙ kind_bad _ _ _ _ _ (case_some _ _ _ _ c.case.ensures _ w.in-Some.is) c.le_at-p.ensures w.if-t-lt6.false
+  | in_default-via-in_default w ↦ c.past.ensures ∙ kind_bad _ _ _ _ _ (case_none _ _ _ _ c.case.ensures w.in_default.is) c.le_at-p.ensures (omega arith)
+]

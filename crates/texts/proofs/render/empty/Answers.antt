@@ -1,7 +1,0 @@
-use Rattle.std.proofs.Common.{refl}
-use Rattle.texts.specs.Held.{held}
-use Rattle.texts.proofs.render.empty.Goals as goal
-
-pub returns : goal.returns
-unfolding held
-returns c = refl

@@ -1,7 +1,0 @@
-use Rattle.std.proofs.Common.{add-one}
-use Rattle.texts.specs.Held.{added}
-use Rattle.texts.proofs.render.pair.Goals as goal
-
-pub returns : goal.returns
-unfolding added
-returns c = rw add-one
