@@ -45,61 +45,54 @@ unfolding held_before
 longest_none n base many = record { long = λ p. omega arith; here = λ p e. omega arith; low = λ r h. absurd (omega arith); high = λ r h m. omega arith; short = omega arith; small = omega arith }
 
 module _ (n : List ℕ) (base k p : ℕ) where
-  one_more : get_or n ((base + k) * 3) 0 ≡ p + 1 → held_before n base (k + 1) p ≡ held_before n base k p + 1
+  one_more : nest_at n base k 0 ≡ p + 1 → held_before n base (k + 1) p ≡ held_before n base k p + 1
   unfolding held_before
   one_more e = ap length (keep_more (held_at n base p) 0 k (omega arith) (held_yes n base p k e)) ∙ length-append (keep (held_at n base p) (up_to 0 k)) (k ∷ [])
 
-  no_more : (get_or n ((base + k) * 3) 0 ≡ p + 1 → ⊥) → held_before n base (k + 1) p ≡ held_before n base k p
+  no_more : (nest_at n base k 0 ≡ p + 1 → ⊥) → held_before n base (k + 1) p ≡ held_before n base k p
   unfolding held_before
   no_more d = ap length (keep_same (held_at n base p) 0 k (omega arith) (held_no n base p k d))
 
   none_yet : ((r : ℕ) → r < k → nest_at n base r 0 < p + 1) → held_before n base k p ≡ 0
   unfolding held_before
-  none_yet f =
-      ap length (keep_alike (held_at n base p) (λ r. false) 0 k (λ r h. held_no n base p r (λ e. let y : nest_at n base r 0 ≡ p + 1 = number r ∙ e in omega (arith, f r h, y))) ∙ keep_none (k - 0) 0)
-    where
-      number : (r : ℕ) → nest_at n base r 0 ≡ get_or n ((base + r) * 3) 0
-      number r = let z : (base + r) * 3 + 0 ≡ (base + r) * 3 = omega arith in ap (λ i. get_or n i 0) z
+  none_yet f = ap length (keep_alike (held_at n base p) (λ r. false) 0 k (λ r h. held_no n base p r (λ e. omega (arith, f r h, e))) ∙ keep_none (k - 0) 0)
 
-module _ (n : List ℕ) (base many k last run best : ℕ) (s : Longest n base many k last run best) where
-  at_k : nest_at n base k 0 ≡ get_or n ((base + k) * 3) 0
-  at_k = let z : (base + k) * 3 + 0 ≡ (base + k) * 3 = omega arith in ap (λ i. get_or n i 0) z
-
-  pub longest_same : (b : ℕ) → get_or n ((base + k) * 3) 0 ≡ last → b ≡ max best (run + 1) → Longest n base many (k + 1) last (run + 1) b
+module _ (n : List ℕ) (base many k last run best : ℕ) (s : Longest n base many k last run best) (a : ℕ) (at_k : a ≡ nest_at n base k 0) where
+  pub longest_same : (b : ℕ) → a ≡ last → b ≡ max best (run + 1) → Longest n base many (k + 1) last (run + 1) b
   longest_same b e f = record {
-    long = λ p. go p (ℕ_discrete (get_or n ((base + k) * 3) 0) (p + 1));
-    here = λ p q. let y : get_or n ((base + k) * 3) 0 ≡ p + 1 = e ∙ q in omega (arith, one_more n base k p y, s.here p q);
+    long = λ p. go p (ℕ_discrete (nest_at n base k 0) (p + 1));
+    here = λ p q. let y : nest_at n base k 0 ≡ p + 1 = sym at_k ∙ e ∙ q in omega (arith, one_more n base k p y, s.here p q);
     low = λ r h. below r h (dec_lt r k);
     high = λ r h m. s.high r (omega arith) m;
     short = omega (arith, s.short);
     small = omega (arith, s.short, s.small, f);
   }
     where
-      go : (p : ℕ) → Dec (get_or n ((base + k) * 3) 0 ≡ p + 1) → held_before n base (k + 1) p ≤ b
-      go p (yes y) = omega (arith, one_more n base k p y, s.here p (sym e ∙ y), f)
+      go : (p : ℕ) → Dec (nest_at n base k 0 ≡ p + 1) → held_before n base (k + 1) p ≤ b
+      go p (yes y) = omega (arith, one_more n base k p y, s.here p (sym e ∙ at_k ∙ y), f)
       go p (no d) = omega (arith, no_more n base k p d, s.long p, f)
 
       below : (r : ℕ) → r < k + 1 → Dec (r < k) → nest_at n base r 0 ≤ last
       below r h (yes y) = s.low r y
       below r h (no d) = let z : r ≡ k = omega arith in rw z (omega (arith, at_k, e))
 
-  pub longest_new : (b : ℕ) → Climbs n base many → k < many → (get_or n ((base + k) * 3) 0 ≡ last → ⊥) → b ≡ max best 1 → Longest n base many (k + 1) (get_or n ((base + k) * 3) 0) 1 b
+  pub longest_new : (b : ℕ) → Climbs n base many → k < many → (a ≡ last → ⊥) → b ≡ max best 1 → Longest n base many (k + 1) a 1 b
   longest_new b u h d f = record {
-    long = λ p. go p (ℕ_discrete (get_or n ((base + k) * 3) 0) (p + 1));
-    here = λ p q. omega (arith, first p q);
+    long = λ p. go p (ℕ_discrete (nest_at n base k 0) (p + 1));
+    here = λ p q. omega (arith, first p (sym at_k ∙ q));
     low = λ r m. omega (arith, at_k, u.climb r k (omega arith) h);
     high = λ r m w. omega (arith, at_k, u.climb k r (omega arith) w);
     short = omega arith;
     small = omega (arith, s.small, f);
   }
     where
-      above : last < get_or n ((base + k) * 3) 0
+      above : last < nest_at n base k 0
       above = let q = s.high k (omega arith) h in omega (arith, q, at_k, d)
 
-      first : (p : ℕ) → get_or n ((base + k) * 3) 0 ≡ p + 1 → held_before n base (k + 1) p ≡ 1
+      first : (p : ℕ) → nest_at n base k 0 ≡ p + 1 → held_before n base (k + 1) p ≡ 1
       first p q = let z = none_yet n base k p (λ r m. omega (arith, s.low r m, above, q)) in omega (arith, one_more n base k p q, z)
 
-      go : (p : ℕ) → Dec (get_or n ((base + k) * 3) 0 ≡ p + 1) → held_before n base (k + 1) p ≤ b
+      go : (p : ℕ) → Dec (nest_at n base k 0 ≡ p + 1) → held_before n base (k + 1) p ≤ b
       go p (yes y) = omega (arith, first p y, f)
       go p (no q) = omega (arith, no_more n base k p q, s.long p, f)
 

@@ -2,7 +2,7 @@
 // is a level of calls: the instances of a loop and the items of an order are gone through by loops.
 #![tactic(auto)]
 
-ghost use Rattle.std.specs.Prelude.{◌≡◌, true, [], ℕ, ◌+◌, ◌*◌, ◌≤◌, ◌<◌, min, length, ltb};
+ghost use Rattle.std.specs.Prelude.{◌≡◌, true, [], ℕ, ◌+◌, ◌≤◌, ◌<◌, min, ltb};
 ghost use Rattle.nest.specs.Rising.{Climbs};
 ghost use Rattle.nest.specs.Outline.{item_loops, order_of};
 ghost use Rattle.walk.specs.Nested.{Sound};
@@ -14,6 +14,7 @@ ghost use Rattle.census.specs.Bounds.{held_before, Fan, Width, AtMost};
 ghost use Rattle.nest.specs.Job.{outline_by};
 
 use instances::Cursor;
+use nest::TableRows;
 use nest::order::rises;
 use plan::answers::{Instances, Item};
 use spec::ids::{LoopId, TableId};
@@ -100,19 +101,19 @@ fn census(nest: Nest) -> u32
 const TOO_MANY: u32 = 65537;
 
 // Where the rows climb, those that hang on one row are a run: the longest has no fewer rows than hang on any.
-fn longest(nest: &[u32], base: usize, rows: usize) -> u32
-    requires { ((base + rows) * 3 ≤ length nest.now) × (rows ≤ 4096) × Climbs nest.now base rows }
-    ensures { (result ≤ rows) × ((p : ℕ) → held_before nest.now base rows p ≤ result) }
+fn longest(all: TableRows) -> u32
+    requires { Climbs all.array.now all.base all.rows }
+    ensures { (result ≤ all.entry.rows) × ((p : ℕ) → held_before all.entry.array.now all.entry.base all.entry.rows p ≤ result) }
 {
     let mut last: u32 = 0;
     let mut run: u32 = 0;
     let mut best: u32 = 0;
-    for k in 0..rows {
-        let i = (base + k) * 3;
-        if nest[i] == last {
+    for k in 0..all.rows {
+        let above = all.above(k);
+        if above == last {
             run = run + 1;
         } else {
-            last = nest[i];
+            last = above;
             run = 1;
         }
         best = best.max(run);
@@ -130,7 +131,11 @@ fn fan(nest: Nest, t: TableId) -> u32
         Some(_) => {
             if rises(nest.array, t) {
                 let base = tables::data::first_row(nest.job.at, t) as usize;
-                return longest(nest.array, base, rows as usize);
+                return longest(TableRows {
+                    array: nest.array,
+                    base,
+                    rows: rows as usize,
+                });
             }
             return rows;
         }

@@ -4,7 +4,7 @@
 pub mod forms;
 mod section;
 
-ghost use Rattle.std.specs.Prelude.{◌≡◌, ℕ, ◌+◌, ◌≤◌, ◌<◌, ◌^◌, get_or, length, set, [], ◌∷◌, true, IfSome, Option};
+ghost use Rattle.std.specs.Prelude.{◌≡◌, ℕ, ◌+◌, ◌≤◌, ◌<◌, ◌^◌, get_or, length, set, map, true, IfSome, Option};
 ghost use Rattle.codec.specs.Codec.{le, le_c, list_c, pick};
 ghost use Rattle.codec.specs.Skip.{skip, count_at, case_of, case_end};
 ghost use Rattle.codec.specs.Forms.{num_c, bytes_c, opt_c};
@@ -135,19 +135,13 @@ pub fn put(index: &mut [u16], k: usize, p: usize)
     }
 }
 
-pub fn put2(index: &mut [u16], k: u32, p: usize, q: usize)
-    ensures { index.new ≡ stored index.old k (small p ∷ small q ∷ []) }
+// Stores places one behind the other.
+pub fn put_all(index: &mut [u16], k: u32, ps: &[usize])
+    ensures { index.new ≡ stored index.old k (map small ps.now) }
 {
-    put(index, k as usize, p);
-    put(index, k as usize + 1, q);
-}
-
-pub fn put3(index: &mut [u16], k: u32, p: usize, q: usize, s: usize)
-    ensures { index.new ≡ stored index.old k (small p ∷ small q ∷ small s ∷ []) }
-{
-    put(index, k as usize, p);
-    put(index, k as usize + 1, q);
-    put(index, k as usize + 2, s);
+    for i in 0..ps.len() {
+        put(index, k as usize + i, ps[i]);
+    }
 }
 
 // The number that the index holds at k.

@@ -11,9 +11,7 @@ ghost use Rattle.codes.specs.Codes.{mark, marked, marked_component, marked_eleme
 
 use codec::forms::{Bytes, Le, NumMap};
 use codec::{Form, Section};
-use format::{
-    Component, Element, ElementPlan, Instances, Kind, LoopPlan, SegmentPlan, Source, Version,
-};
+use format::{Component, Element, ElementPlan, Instances, LoopPlan, SegmentPlan, Source, Version};
 
 // The separators of elements, components and segments.
 #[derive(Clone, Copy)]
@@ -104,9 +102,7 @@ fn component_marked(s: Section, at: usize, m: Marks) -> bool
     ensures { Says (num_c ⊗ component_c) s.entry.bytes.now s.entry.end at (marked_component m) result }
 {
     let value = s.le_at(4, at);
-    let kind = Kind::ends_at(s, value);
-    let min = s.opt_num_at(kind);
-    let max = s.opt_num_at(min);
+    let max = format::sizes_end(s, value);
     texts_marked(s, max, m)
 }
 
@@ -120,9 +116,7 @@ fn element_marked(s: Section, at: usize, m: Marks) -> bool
     ensures { Says (num_c ⊗ element_c) s.entry.bytes.now s.entry.end at (marked_element m) result }
 {
     let value = s.le_at(4, at);
-    let kind = Kind::ends_at(s, value);
-    let min = s.opt_num_at(kind);
-    let max = s.opt_num_at(min);
+    let max = format::sizes_end(s, value);
     let components = NumMap::<Component>::ends_at(s, max);
     let x = texts_marked(s, components, m);
     let y = components_marked(s, max, m);

@@ -5,8 +5,6 @@ mod codes;
 mod maps;
 mod rules;
 
-ghost use Rattle.std.specs.Prelude.{length, ◌≡◌, ◌+◌, ◌-◌, ◌≤◌};
-ghost use Rattle.codec.specs.Codec.{le};
 ghost use Rattle.format.specs.Passed.{Passed};
 ghost use Rattle.format.specs.Sections.{job_of};
 ghost use Rattle.format.specs.Spec.{spec_c};
@@ -22,15 +20,7 @@ use codec::forms::{BytesMap, Items, NumMap};
 use codec::{Form, Section};
 use format::{Element, Loop, Table};
 use nest::Job;
-
-// One of the trailer's numbers: k is its place there.
-pub fn start(b: &[u8], k: u8) -> u32
-    requires { Passed b.now }
-    ensures { result ≡ le 4 b.now (length b.now - 24 + k) }
-{
-    let t = b.len() - 24;
-    codec::num(b, t + k as usize) as u32
-}
+use spec::read::start;
 
 // Control rules.
 pub fn rules_fit(job: &[u8]) -> bool

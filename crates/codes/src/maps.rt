@@ -10,7 +10,7 @@ ghost use Rattle.codes.specs.Maps.{low_component, low_element, low_segment};
 use crate::rules::low_at;
 use codec::forms::{Bytes, Le, NumMap};
 use codec::{Form, Section};
-use format::{Component, Element, Kind};
+use format::{Component, Element};
 
 fn component_low(s: Section, at: usize) -> bool
     ensures { Says (num_c ⊗ component_c) s.entry.bytes.now s.entry.end at low_component result }
@@ -28,9 +28,7 @@ fn element_low(s: Section, at: usize) -> bool
     ensures { Says (num_c ⊗ element_c) s.entry.bytes.now s.entry.end at low_element result }
 {
     let value = s.le_at(4, at);
-    let kind = Kind::ends_at(s, value);
-    let min = s.opt_num_at(kind);
-    let max = s.opt_num_at(min);
+    let max = format::sizes_end(s, value);
     let x = low_at(s, at);
     let y = components_low(s, max);
     codec::either(x, y)

@@ -126,9 +126,6 @@ pub fn reference(job: &[u8], at: usize, above: u32, row: u32) -> Option<u64>
     requires { (at < 1099511627776) × (length job.now < 4294967296) }
     ensures { (e : ℕ) (refs : List (ℕ × Option Column)) → e ≤ length job.now → Is refs_c job.now e at refs → result ≡ reference_in refs above row }
 {
-    let found = find_ref(job, at, above);
-    match found {
-        Some(p) => opt_int(job, p, row),
-        None => None,
-    }
+    let p = find_ref(job, at, above)?;
+    opt_int(job, p, row)
 }

@@ -12,20 +12,17 @@ use Rattle.format.specs.Job.{Job}
 use Rattle.format.specs.Ask as A
 use Rattle.spec.specs.Answers.{is_required}
 use Rattle.spec.specs.declared.ids.TableId.{TableId}
-use Rattle.plan.specs.Answers.{instances_of, source_of, item_of, no_item}
+use Rattle.plan.specs.Answers.{instances_of, source_of}
 use Rattle.plan.specs.declared.answers.Instances.{Instances}
 use Rattle.plan.specs.declared.answers.Instances.TheVariants.{Inside}
 use Rattle.plan.specs.declared.answers.Source.{Source}
 use Rattle.plan.specs.declared.answers.Source.TheVariants.{Row}
-use Rattle.plan.specs.declared.answers.Item.{Item}
-use Rattle.plan.specs.declared.answers.Item.TheVariants.{Segment}
-use Rattle.nest.specs.Lists.{some_of, is, up_to}
-use Rattle.nest.specs.Outline.{Outline, Planned, inside_table, source_table, loop_of, kind_of, order_of, segment_of, planned, has_occurrence}
-use Rattle.nest.specs.OfJob.{outline_of, kind_in, source_in, item_in}
-use Rattle.nest.proofs.Bridge.{kind_is, planned_is, segment_is, order_length, order_item, children_is, occurrences_is, loop_count_is, data-count-is}
-use Rattle.nest.proofs.Scan.{some_yes, some_no, some_end}
+use Rattle.nest.specs.Lists.{is}
+use Rattle.nest.specs.Outline.{Planned, inside_table, source_table, loop_of, kind_of, segment_of, planned, has_occurrence}
+use Rattle.nest.specs.OfJob.{outline_of, kind_in, source_in}
+use Rattle.nest.proofs.Bridge.{kind_is, planned_is, segment_is, children_is, occurrences_is, loop_count_is, data-count-is}
 use Rattle.walk.specs.Instances.{own_data, has_data, shown}
-use Rattle.walk.specs.Tour.{due_row, is_opener, opens_at, opened}
+use Rattle.walk.specs.Tour.{due_row, is_opener}
 use Rattle.walk.proofs.DataLaws.{data_in, data_from, data-deep, data-own, data-below, data-found, data-next, data-end, shown_required, shown_data}
 use Rattle.walk.proofs.TourLaws as T
 use Rattle.due.proofs.Bridge.{forced_is, required_is, required_not}
@@ -58,17 +55,6 @@ module _ (j : Job) (l i t r : ℕ) (s : P.Source) (m : Bool) (e : s ≡ (A.plann
 
   pub fills_not : m ≡ false → false ≡ fills j l t r i
   fills_not y = rw (← mine, y)
-
-module _ (j : Job) (l t r i n : ℕ) (c : n ≡ length (A.plan_of j l).segments) (w : own_data (outline_of j) l t r ≡ some_of (fills j l t r) (up_to i (planned (outline_of j) l))) where
-  module _ (x : Bool) (h : i < n) (d : x ≡ fills j l t r i) where
-    pub own_here : x ≡ true → true ≡ own_data (outline_of j) l t r
-    own_here y = sym (w ∙ some_yes (fills j l t r) i _ (omega (arith, c, h, planned_is j l)) (sym d ∙ y))
-
-    pub own_next : x ≡ false → own_data (outline_of j) l t r ≡ some_of (fills j l t r) (up_to (i + 1) (planned (outline_of j) l))
-    own_next y = w ∙ some_no (fills j l t r) i _ (omega (arith, c, h, planned_is j l)) (sym d ∙ y)
-
-  pub own_end : n ≤ i → false ≡ own_data (outline_of j) l t r
-  own_end h = sym (w ∙ some_end (fills j l t r) i _ (omega (arith, c, h, planned_is j l)))
 
 -- ---- data at a loop and below it
 
@@ -157,20 +143,3 @@ module _ (j : Job) (l i n : ℕ) (c : n ≡ length (A.plan_of j l).segments) whe
 
   pub opener_is : (s : P.Source) (x : Bool) → i < n → s ≡ (A.planned_of j l i).source → x ≡ is_opener (source_in s) → x ≡ ltb i (planned (outline_of j) l) && is_opener (segment_of (outline_of j) l i).source
   opener_is s x h e d = d ∙ ap is_opener (source_is j l i s e) ∙ sym (rw (lt-ltb i (planned (outline_of j) l) (omega (arith, c, h, planned_is j l))))
-
-module _ (j : Job) (l k n : ℕ) (c : n ≡ length (A.order_of j l)) (w : opened (outline_of j) l ≡ T.opens_from (outline_of j) l k) where
-  items : length (order_of (outline_of j) l) ≡ n
-  items = order_length j l ∙ sym c
-
-  module _ (item : Item) (x : Bool) (h : k < n) (e : item_of item ≡ get_or (A.order_of j l) k no_item) (d : x ≡ opens_at (outline_of j) l (item_in (item_of item))) where
-    opens : opens_at (outline_of j) l (get_or (order_of (outline_of j) l) k T.no_item) ≡ x
-    opens = ap (opens_at (outline_of j) l) (order_item j l k ∙ ap item_in (sym e)) ∙ sym d
-
-    pub opens_here : x ≡ true → true ≡ opened (outline_of j) l
-    opens_here y = sym (w ∙ T.opens_here (outline_of j) l k (omega (arith, h, items)) (opens ∙ y))
-
-    pub opens_later : x ≡ false → opened (outline_of j) l ≡ T.opens_from (outline_of j) l (k + 1)
-    opens_later y = w ∙ T.opens_next (outline_of j) l k (omega (arith, h, items)) (opens ∙ y)
-
-  pub opens_never : n ≤ k → false ≡ opened (outline_of j) l
-  opens_never h = sym (w ∙ T.opens_end (outline_of j) l k (omega (arith, h, items)))

@@ -15,8 +15,6 @@ use Rattle.column.specs.declared.Cell.{Cell as Read}
 use Rattle.plan.specs.Answers.{value_of}
 use Rattle.plan.specs.Elements.{Elements, ElementStep}
 use Rattle.plan.specs.declared.answers.ElementPlan.{ElementPlan}
-use Rattle.plan.specs.declared.answers.ValueSource.{ValueSource}
-use Rattle.plan.specs.declared.answers.ValueSource.TheVariants.{Column}
 use Rattle.nest.specs.Lists.{each, some_of}
 use Rattle.nest.specs.OfJob.{outline_of, group_table, repeat_table, same_in, same_chunk_in, filled_in, column_in, columns_in}
 use Rattle.nest.proofs.Scan.{some_at, some_not_at, some_past}
@@ -113,17 +111,6 @@ pub group_start : (j : Job) (l a b t : ℕ) (k : P.Instances) → t ≡ group_ta
     → (outline_of j).same_group l a b ≡ not (some_of (differ j t a b) (drop 0 (A.group_columns_of j l)))
 unfolding same_in
 group_start j l a b t k e q = group_is j l a b ∙ rw (← q, ← e)
-
-module _ (q : ℕ → Bool) (cs : List ℕ) (w : Bool) (k n : ℕ) (c : n ≡ length cs) (i : w ≡ not (some_of q (drop k cs))) where
-  module _ (column : ℕ) (x : Bool) (h : k < n) (e : column ≡ get_or cs k 0) (d : x ≡ q column) where
-    pub apart_here : x ≡ true → false ≡ w
-    apart_here y = sym (i ∙ ap not (some_at q cs k 0 (omega (arith, c, h)) (ap q (sym e) ∙ sym d ∙ y)))
-
-    pub apart_not : x ≡ false → w ≡ not (some_of q (drop (k + 1) cs))
-    apart_not y = i ∙ ap not (some_not_at q cs k 0 (omega (arith, c, h)) (ap q (sym e) ∙ sym d ∙ y))
-
-  pub apart_never : n ≤ k → true ≡ w
-  apart_never h = sym (i ∙ ap not (some_past q cs k (omega (arith, c, h))))
 
 -- ---- whether two rows may share a repeat segment
 

@@ -104,7 +104,7 @@ pub fn stands_inside(k: Instances, t: TableId) -> bool
     ensures { result ≡ is (inside_table (kind_in (instances_of k))) t.0 }
 {
     match k {
-        Instances::Inside(u) => t.0 == u.0,
+        Instances::Inside(u) => t == u,
         _ => false,
     }
 }
@@ -114,7 +114,7 @@ pub fn filled_by(s: Source, t: TableId) -> bool
     ensures { result ≡ is (source_table (source_in (source_of s))) t.0 }
 {
     match s {
-        Source::Row(u) => t.0 == u.0,
+        Source::Row(u) => t == u,
         _ => false,
     }
 }

@@ -16,6 +16,7 @@ use crate::cells::{
     stands_inside,
 };
 use nest::Job;
+use nest::seek::some;
 use plan::answers::{Item, Planned};
 use spec::ids::{LoopId, RowId, TableId};
 
@@ -74,13 +75,7 @@ fn own_data(job: Job, l: LoopId, t: TableId, r: RowId) -> bool
     ensures { result ≡ own_data (outline_by job.entry) l.0 t.0 r.0 }
 {
     let n = plan::planned::planned_count(job.at, l);
-    for i in 0..n {
-        let found = row_fills(job, l, i, t, r);
-        if found {
-            return true;
-        }
-    }
-    false
+    some(n, |i| row_fills(job, l, i, t, r))
 }
 
 // Whether the instances of a loop stand inside a row of table t.
@@ -142,14 +137,10 @@ pub fn same_group(job: Job, l: LoopId, a: RowId, b: RowId) -> bool
     let kind = plan::planned::instances(job.at, l);
     let t = group_table(kind).unwrap_or(TableId(0));
     let n = plan::layout::group_column_count(job.at, l);
-    for k in 0..n {
-        let column = plan::layout::group_column(job.at, l, k);
-        let apart = differs(job, t, column, a, b);
-        if apart {
-            return false;
-        }
-    }
-    true
+    !some(
+        n,
+        |k| differs(job, t, plan::layout::group_column(job.at, l, k), a, b),
+    )
 }
 
 // Whether two rows may share a repeat segment: their `segment` cells agree, and so do the columns outside the groups; of no repeat segment, as rows of table 0.
@@ -195,12 +186,5 @@ pub fn opened(job: Job, l: LoopId) -> bool
     ensures { result ≡ opened (outline_by job.entry) l.0 }
 {
     let n = plan::layout::order_count(job.at, l);
-    for k in 0..n {
-        let item = plan::layout::item(job.at, l, k);
-        let opens = opens_at(job, l, item);
-        if opens {
-            return true;
-        }
-    }
-    false
+    some(n, |k| opens_at(job, l, plan::layout::item(job.at, l, k)))
 }

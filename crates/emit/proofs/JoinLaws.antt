@@ -7,7 +7,7 @@ use native.Mathlib.Omega.{arith}
 use Rattle.std.specs.Prelude.{None}
 use lib.Dec.{leb, ltb}
 use borrow.Author.Tests.{eq-eqb, ne_eqb, lt-ltb, le-leb, lt-leb, ltb-true, ltb-false}
-use native.Mathlib.Nat.{max-zero, le_antisymm}
+use native.Mathlib.Nat.{le_antisymm}
 use Rattle.lent.specs.Fit.{Stored}
 use Rattle.segment.specs.declared.Separators.{Separators}
 use Rattle.segment.specs.declared.Pen.{Pen}
@@ -59,9 +59,9 @@ module _ {s : Separators} {pen t r : Pen} {p : ℕ} {d d₁ d₂ : List ℕ} whe
 
 -- ---- two texts
 
-pub last_of_two : (p q a b : ℕ) (v w : List ℕ) → a ≡ pick (is_empty v) 0 p → b ≡ pick (is_empty w) 0 q → last_element (part_at p None v ∷ part_at q None w ∷ []) ≡ max a b
+pub last_of_two : (p q a b : ℕ) (v w : List ℕ) → a ≡ max 0 (pick (is_empty v) 0 p) → b ≡ max a (pick (is_empty w) 0 q) → b ≡ last_element (part_at p None v ∷ part_at q None w ∷ [])
 unfolding highest
-last_of_two p q a b v w e f = rw (e, f, max-zero (pick (is_empty w) 0 q))
+last_of_two p q a b v w e f = omega (arith, e, f)
 
 module _ {s : Separators} {last : ℕ} {pen : Pen} {d : List ℕ} (p q : ℕ) (v w : List ℕ) where
   -- a text at element 0 stays

@@ -2,7 +2,7 @@
 use Prim.Native.Nat.{ℕ, ◌+◌, ◌-◌, ◌*◌, ◌^◌, ◌≤◌}
 use mathlib.Core.Path.{◌≡◌, refl, ap, ◌∙◌}
 use mathlib.Core.Bool.{Bool}
-use mathlib.Core.List.{List, ◌++◌, append_assoc, append-nil}
+use mathlib.Core.List.{List, [], ◌++◌, append_assoc, append-nil}
 use native.Mathlib.Omega.{arith}
 use native.Mathlib.Nat.{mul_comm}
 use lib.IntN.{ℤ}
@@ -17,7 +17,7 @@ use Rattle.segment.specs.declared.Value.{Value}
 use Rattle.segment.specs.Pen.{placed, value_text, Penned}
 use Rattle.std.specs.Prelude as Rust
 use Rattle.std.specs.Prelude.{Result, Ok, Err}
-use Rattle.std.specs.Result.{result_err}
+use Rattle.std.specs.Result.{result_err, result_unwrap_or}
 use Rattle.texts.specs.declared.Text.{Text}
 use Rattle.texts.specs.declared.render.Refused.{Refused}
 use Rattle.texts.specs.Held.{held}
@@ -27,6 +27,11 @@ use Rattle.texts.specs.Pad.{padded, zero_padded, control_text}
 use Rattle.lent.specs.Fit.{stretch}
 use Rattle.lent.proofs.Laws.{length_stretch}
 use Rattle.emit.specs.Written.{Writes}
+
+-- a text, empty where it is refused
+pub text_or : (r : Result Text Refused) (t : Text) → t ≡ held [] → result_unwrap_or r t ≡ text_of r
+text_or (Ok x) t e = refl
+text_or (Err w) t e = e
 
 -- a text of its own, with the reason where there is none
 pub why_err : (r : Result Text Refused) → why_in (result_err r) ≡ why_of r
@@ -40,6 +45,10 @@ writes_own r o e q s = record {
   text = e ∙ rw s.text (take-append_seam o.text (replicate (48 - length o.text) 0));
   reason = ap why_in q ∙ why_err r ∙ s.reason;
 }
+
+pub said_few : {t : Text} (r : Result Text Refused) (o : Outcome) → t ≡ text_of r → Says r o → length o.text ≤ 48 → t.len ≤ 48
+unfolding held
+said_few {t} r o e s h = let z : t ≡ text_of r = e in rw (z, s.text) h
 
 -- the halves of a number
 pub halves : (lo hi : ℕ) → lo + hi * 2 ^ 64 ≡ lo + 18446744073709551616 * hi

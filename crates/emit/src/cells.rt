@@ -11,7 +11,7 @@ ghost use Rattle.texts.specs.Floor.{signed32};
 ghost use Rattle.texts.specs.Number.{int_text, decimal_text};
 ghost use Rattle.texts.specs.DateText.{date_text};
 ghost use Rattle.texts.specs.Clock.{time_text};
-ghost use Rattle.segment.specs.Pen.{placed, Penned};
+ghost use Rattle.segment.specs.Pen.{placed, Plain, Penned};
 ghost use Rattle.spec.specs.declared.ids.Stretch as Held;
 ghost use Rattle.spec.specs.Answers.{stretch_of};
 ghost use Rattle.emit.specs.Puts.{cell_text, cell_outcome};
@@ -43,30 +43,19 @@ pub fn reason_of(why: Refused) -> u64
 pub fn text_in(said: Result<Text, Refused>) -> Text
     ensures { result ≡ text_of said }
 {
-    match said {
-        Ok(text) => text,
-        Err(_) => Text::empty(),
-    }
+    said.unwrap_or(Text::empty())
 }
 
-fn of_said(said: Result<Text, Refused>) -> Written
-    ensures { (job : List ℕ) (o : Outcome) → Says said o → Writes job result o }
+// A text of its own, or the reason why there is none.
+pub fn of_said(said: Result<Text, Refused>) -> Written
+    ensures writes { (job : List ℕ) (o : Outcome) → Says said o → Writes job result o }
+    ensures plain { (o : Outcome) → Says said o → length o.text ≤ 48 → Plain result.value }
 {
     let text = text_in(said);
     let bytes = text.bytes;
     Written {
         value: segment::own(bytes, text.len),
         reason: said.err(),
-    }
-}
-
-fn of_stretch(start: usize, len: usize) -> Written
-    ensures { (job : List ℕ) → Writes job result (gives (stretch job start len)) }
-{
-    let value = segment::held(start, len);
-    Written {
-        value,
-        reason: None,
     }
 }
 
@@ -100,10 +89,10 @@ fn said_seconds(bits: u32, max: Option<usize>) -> Result<Text, Refused>
 // ---- at a place
 
 // A width as a length.
-pub fn max_by(n: Option<u32>) -> Option<usize>
+pub fn width_of(n: Option<u32>) -> Option<usize>
     ensures { result ≡ n }
 {
-    n.map(|m| m as usize)
+    n.map(|w| w as usize)
 }
 
 // The most that a place takes.
@@ -111,7 +100,7 @@ fn max_at(job: Job, id: Stretch, element: u32, component: Option<u32>) -> Option
     requires { id.start + id.len ≤ length job.at.bytes.now }
     ensures { result ≡ max_of (job_by job.entry) (stretch_of job.entry.at.bytes.now id) element component }
 {
-    max_by(spec::segments::max_of(job.at, id, element, component))
+    width_of(spec::segments::max_of(job.at, id, element, component))
 }
 
 // The text of a cell that is no stretch of the job, at a place, and the reason why it has none.
@@ -158,7 +147,7 @@ pub fn read_text(job: Job, id: Stretch, element: u32, component: Option<u32>, ce
     ensures { Writes job.entry.at.bytes.now result (cell_text (or_null (cell_at job.entry.at.bytes.now cell)) (max_of (job_by job.entry) (stretch_of job.entry.at.bytes.now id) element component)) }
 {
     match held_in(cell) {
-        Some(s) => of_stretch(s.start, s.len),
+        Some(s) => code_text(s),
         None => of_said(own_text(job, id, element, component, cell)),
     }
 }
@@ -180,11 +169,16 @@ pub fn cell_text(
     read_text(job, id, element, component, cell)
 }
 
-// The text of a code.
+// A text of the job.
 pub fn code_text(s: Stretch) -> Written
-    ensures { (job : List ℕ) → Writes job result (gives (stretch_of job s)) }
+    ensures writes { (job : List ℕ) → Writes job result (gives (stretch_of job s)) }
+    ensures plain { Plain result.value }
 {
-    of_stretch(s.start, s.len)
+    let value = segment::held(s.start, s.len);
+    Written {
+        value,
+        reason: None,
+    }
 }
 
 // A text of its own, written at component c of element p.

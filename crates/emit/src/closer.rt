@@ -1,7 +1,7 @@
 // A segment of plain texts, and the closer of a loop.
-ghost use Rattle.std.specs.Prelude.{◌≡◌, false, List, [], ◌∷◌, ℕ, ◌≤◌, ◌<◌, max, None};
+ghost use Rattle.std.specs.Prelude.{◌≡◌, false, List, [], ◌∷◌, ℕ, ◌≤◌, ◌<◌, None};
 ghost use Rattle.lent.specs.Fit.{stretch, Stored};
-ghost use Rattle.segment.specs.Parts.{pick, is_empty, last_element, last_component, component_text, joined};
+ghost use Rattle.segment.specs.Parts.{pick, is_empty, last_component, component_text, joined};
 ghost use Rattle.segment.specs.Pen.{value_text};
 ghost use Rattle.segment.specs.Calls.{Group, Row};
 ghost use Rattle.format.specs.Spec.{Control};
@@ -56,27 +56,6 @@ fn put_same(
     segment::finish(doc, s, t, p, 1)
 }
 
-fn filled(job: &[u8], v: Value, p: usize) -> usize
-    ensures { result ≡ pick (is_empty (value_text job.now v)) 0 p }
-{
-    if segment::is_empty(job, v) {
-        return 0;
-    }
-    p
-}
-
-// The last filled element of two plain texts.
-fn last_of(job: &[u8], p: usize, v: Value, q: usize, w: Value) -> usize
-    ensures { result ≡ last_element (part_at p None (value_text job.now v) ∷ part_at q None (value_text job.now w) ∷ []) }
-{
-    let a = filled(job, v, p);
-    let b = filled(job, w, q);
-    if a < b {
-        return b;
-    }
-    a
-}
-
 // Two plain texts, the second at the same element or behind.
 fn put_two(
     doc: &mut [u8],
@@ -121,7 +100,8 @@ pub fn join_two(
     ensures { Stored doc.old at
         (joined s (stretch job.now start len) (part_at p None (value_text job.now v) ∷ part_at q None (value_text job.now w) ∷ [])) result doc.new }
 {
-    let last = last_of(job, p, v, q, w);
+    let first = segment::raised(job, 0, v, p);
+    let last = segment::raised(job, first, w, q);
     let pen = segment::begin(doc, at, job, start, len);
     put_two(doc, job, s, pen, p, v, q, w, last)
 }

@@ -31,9 +31,7 @@ pub fn control_value(number: u64, min: Option<usize>) -> Value
 pub fn count_value(count: u64) -> Value
     ensures { (job : List ℕ) → value_text job result ≡ count_text count }
 {
-    let text = number::count_text(count);
-    let bytes = text.bytes;
-    segment::own(bytes, text.len)
+    control_value(count, None)
 }
 
 // Bytes of its own and a stretch of the job behind them, filled up to the width of an element.

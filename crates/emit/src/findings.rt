@@ -1,7 +1,7 @@
 // The findings on a text, ten numbers each.
 ghost use Rattle.std.specs.Prelude.{◌≡◌, true, false, List, [], ◌∷◌, ◌++◌, ℕ};
 ghost use Rattle.lent.specs.Fit.{stretch, Noted};
-ghost use Rattle.segment.specs.Pen.{value_text};
+ghost use Rattle.segment.specs.Pen.{value_text, holds_any, one_of};
 ghost use Rattle.texts.specs.Reason.{why_in};
 ghost use Rattle.nest.specs.Finding.{Origin, Place, cell, number_from};
 ghost use Rattle.emit.specs.Puts.{held_in, place_of, unwritten};
@@ -132,25 +132,26 @@ fn try_each(findings: &mut [u64], at: usize, job: &[u8], v: Value, w: Spot, d: D
     try_from_segment(findings, b, job, v, w, d.segment, r)
 }
 
+// The four bytes that a text is tried for; where there is no separator of repetitions, the first stands for it.
+fn signs_of(d: Delimiters) -> Signs
+    ensures { (o : Origin) (p : Place) (text : List ℕ) → holds_any (one_of result.0 result.1 result.2 result.3) text ≡ false → held_in o p text 0 (tried d) ≡ [] }
+{
+    let last = d.repetition.unwrap_or(d.element);
+    Signs(d.element, d.component, d.segment, last)
+}
+
 // Whether a text holds a separator: if not, nothing is to be written.
 fn holds_delimiter(job: &[u8], v: Value, d: Delimiters) -> bool
     ensures { (o : Origin) (p : Place) → result ≡ false → held_in o p (value_text job.now v) 0 (tried d) ≡ [] }
 {
-    let last = d.repetition.unwrap_or(d.element);
-    segment::holds_any(job, v, Signs(d.element, d.component, d.segment, last))
+    segment::holds_any(job, v, signs_of(d))
 }
 
 // The same of a stretch of the job.
 pub fn stretch_holds(job: &[u8], start: usize, len: usize, d: Delimiters) -> bool
     ensures { (o : Origin) (p : Place) → result ≡ false → held_in o p (stretch job.now start len) 0 (tried d) ≡ [] }
 {
-    let last = d.repetition.unwrap_or(d.element);
-    segment::stretch_holds(
-        job,
-        start,
-        len,
-        Signs(d.element, d.component, d.segment, last),
-    )
+    segment::stretch_holds(job, start, len, signs_of(d))
 }
 
 // A finding for each separator that a text holds, in the order in which they are tried.

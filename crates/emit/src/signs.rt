@@ -36,11 +36,7 @@ pub fn repetition_of(job: Indexed) -> Option<u8>
     requires { EnvelopeIndexed job.bytes.now job.index.now }
     ensures { result ≡ (job_of job.entry.bytes.now).envelope.repetition }
 {
-    let n = envelope::repetition(job);
-    match n {
-        None => None,
-        Some(b) => Some(b as u8),
-    }
+    envelope::repetition(job).map(|b| b as u8)
 }
 
 // What a text is tried for.

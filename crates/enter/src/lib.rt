@@ -18,7 +18,7 @@ use nest::Job;
 use spec::ids::{LoopId, RowId, TableId};
 use walk::Nest;
 
-// The table that placed a repeat row.
+// The table that placed a repeat row. No `nest::TableRows`: of the table this one row is read, and nothing asks how many it has.
 fn placed_by(nest: &[u32], base: usize, r: RowId) -> Option<u32>
     requires { (base + r.0) * 3 + 2 < length nest.now }
     ensures { result ≡ placed_at nest.now base r.0 }
@@ -78,7 +78,7 @@ fn note_order(nest: Nest, findings: &mut [u64], at: usize, m: Mark, t: TableId, 
     let Some(highest) = m else {
         return lent::more(at, 0);
     };
-    if r.0 < highest.0 {
+    if r < highest {
         let table = table_above(nest, t, r);
         return note_lower(nest.job, findings, at, t, r, table, highest.0);
     }

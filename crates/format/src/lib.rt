@@ -16,7 +16,7 @@ pub use data::{Column, TableData};
 pub use envelope::Envelope;
 pub use layout::{Item, Layout};
 pub use plan::{ElementPlan, Filler, Instances, LoopPlan, SegmentPlan, Source};
-pub use spec::{Component, Control, Element, Kind, Loop, Repeat, Spec, Table, Version};
+pub use spec::{Component, Control, Element, Kind, Loop, Repeat, Spec, Table, Version, sizes_end};
 
 // ---- trailer and sections
 

@@ -1,4 +1,6 @@
 // The spec: loops, segments and tables.
+ghost use Rattle.std.specs.Prelude.{◌≡◌};
+ghost use Rattle.format.specs.Fields.{element_components};
 ghost use Rattle.format.specs.Spec.{component_c, control_c, element_c, kind_c, loop_c, repeat_c, spec_c, table_c, version_c, ComponentDef as AComponentDef, Control as AControl, ElementDef as AElementDef, Kind as AKind, Loop as ALoop, Repeat as ARepeat, Spec as ASpec, Table as ATable, Version as AVersion};
 
 use codec::forms::{Bytes, BytesMap, Items, NumMap, Opt};
@@ -55,6 +57,15 @@ impl Form for Kind {
     }
 }
 
+// Where kind, min and max of an element or a component end.
+pub fn sizes_end(s: Section, at: usize) -> usize
+    ensures { result ≡ element_components s.entry.bytes.now s.entry.end at }
+{
+    let kind = Kind::ends_at(s, at);
+    let min = s.opt_num_at(kind);
+    s.opt_num_at(min)
+}
+
 pub struct Component;
 
 impl Form for Component {
@@ -63,9 +74,7 @@ impl Form for Component {
     ghost codec = { component_c };
 
     fn ends_at(s: Section, at: usize) -> usize {
-        let kind = Kind::ends_at(s, at);
-        let min = s.opt_num_at(kind);
-        let max = s.opt_num_at(min);
+        let max = sizes_end(s, at);
         Items::<Bytes>::ends_at(s, max)
     }
 }
@@ -78,9 +87,7 @@ impl Form for Element {
     ghost codec = { element_c };
 
     fn ends_at(s: Section, at: usize) -> usize {
-        let kind = Kind::ends_at(s, at);
-        let min = s.opt_num_at(kind);
-        let max = s.opt_num_at(min);
+        let max = sizes_end(s, at);
         let components = NumMap::<Component>::ends_at(s, max);
         Items::<Bytes>::ends_at(s, components)
     }

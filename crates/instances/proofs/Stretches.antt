@@ -1,10 +1,10 @@
 -- A cursor over the stretch of its rows has the same instances still to give.
-use Prim.Native.Nat.{ℕ, ◌+◌, ◌-◌, ◌*◌, ◌≤◌, ◌<◌, max}
+use Prim.Native.Nat.{ℕ, ◌+◌, ◌-◌, ◌≤◌, ◌<◌, max}
 use mathlib.Core.Path.{◌≡◌, refl, sym, ap, ap₂, ◌∙◌, subst}
 use mathlib.Core.Bool.{Bool, true, false}
 use mathlib.Core.List.{List, map}
 use native.Mathlib.Omega.{arith}
-use lib.ListN.{length, get_or, take, drop}
+use lib.ListN.{length, take, drop}
 use lib.Seq.{take_all}
 use lib.Dec.{eqb}
 use borrow.Author.Tests.{ne_eqb, eqb-true, eqb-false}
@@ -57,11 +57,8 @@ run_same c t seen a b xs h k = go c.run refl
 -- ---- the end of the stretch
 
 module _ (n : List ℕ) (base from rows above : ℕ) where
-  pub reached_at : Climbs n base rows → (at i : ℕ) → i ≡ (base + at) * 3 → from ≤ at → at < rows → above ≤ get_or n i 0 → Reached n base from rows above at
-  reached_at u at i e f h q =
-      let z : i ≡ (base + at) * 3 + 0 = omega (arith, e) in
-      let number : get_or n i 0 ≡ nest_at n base at 0 = ap (λ k. get_or n k 0) z in
-      record { after = f; within = omega arith; rest = λ r x y. omega (arith, number, u.climb at r x y) }
+  pub reached_at : Climbs n base rows → (at m : ℕ) → m ≡ nest_at n base at 0 → from ≤ at → at < rows → above ≤ m → Reached n base from rows above at
+  reached_at u at m e f h q = record { after = f; within = omega arith; rest = λ r x y. omega (arith, e, u.climb at r x y) }
 
 -- ---- the stretch
 

@@ -22,29 +22,12 @@ use plan::answers::Instances;
 use spec::ids::{LoopId, RowId, TableId};
 use walk::{Context, Nest};
 
-// No instance.
-pub fn no_instance(l: LoopId, c: Context) -> Cursor
-    ensures { result ≡ rowless Nothing l c }
+// No rows: no instance, or one in the context itself.
+pub fn rowless(kind: Left, l: LoopId, c: Context) -> Cursor
+    ensures { result ≡ rowless kind l c }
 {
     Cursor {
-        kind: Left::Nothing,
-        l: l,
-        table: TableId(0),
-        context: c,
-        base: 0,
-        rows: 0,
-        above: 0,
-        seen: 0,
-        next: 0,
-    }
-}
-
-// One, in the context itself.
-pub fn context_itself(l: LoopId, c: Context) -> Cursor
-    ensures { result ≡ rowless Itself l c }
-{
-    Cursor {
-        kind: Left::Itself,
+        kind: kind,
         l: l,
         table: TableId(0),
         context: c,
@@ -86,23 +69,11 @@ fn above_in(job: Job, t: TableId, c: Context) -> Option<u32>
     requires { Sound (outline_by job) (context_by c) }
     ensures { result ≡ above_in (outline_by job.entry) t.0 (context_by c) }
 {
-    let parent = spec::tables::table_parent(job.at, t);
-    match parent {
-        Some(u) => {
-            let found = row_of(c, TableId(u));
-            match found {
-                Some(p) => {
-                    return Some(p.0 + 1);
-                }
-                None => {
-                    return None;
-                }
-            }
-        }
-        None => {
-            return Some(0);
-        }
-    }
+    let Some(u) = spec::tables::table_parent(job.at, t) else {
+        return Some(0);
+    };
+    let p = row_of(c, TableId(u))?;
+    Some(p.0 + 1)
 }
 
 // All rows of table t that hang on `above`.
@@ -112,15 +83,11 @@ fn all_rows(job: Job, kind: Left, l: LoopId, t: TableId, c: Context, above: u32)
     let base = tables::data::first_row(job.at, t) as usize;
     let rows = tables::data::row_count(job.at, t) as usize;
     Cursor {
-        kind: kind,
-        l: l,
         table: t,
-        context: c,
-        base: base,
-        rows: rows,
-        above: above,
-        seen: 0,
-        next: 0,
+        base,
+        rows,
+        above,
+        ..rowless(kind, l, c)
     }
 }
 
@@ -153,14 +120,9 @@ fn from_run(job: Job, all: Cursor) -> Cursor
     if own {
         return all;
     }
-    let head = row_of(c, t);
-    match head {
-        Some(r) => {
-            return moved(all, start, r.0 as usize);
-        }
-        None => {
-            return all;
-        }
+    match row_of(c, t) {
+        Some(r) => moved(all, start, r.0 as usize),
+        None => all,
     }
 }
 
@@ -169,21 +131,15 @@ fn listed(nest: Nest, kind: Left, l: LoopId, t: TableId, c: Context) -> Cursor
     requires { Sound (outline_by nest.job) (context_by c) × (l.0 < 32) }
     ensures { Lists (outline_by nest.entry.job) nest.entry.array.now kind l.0 t.0 (context_by c) result }
 {
-    let plain = is_plain(nest.job, t);
-    if plain {
-        let above = above_in(nest.job, t, c);
-        match above {
-            Some(a) => {
-                let all = all_rows(nest.job, kind, l, t, c, a);
-                let run = from_run(nest.job, all);
-                return narrowed(nest, run);
-            }
-            None => {
-                return no_instance(l, c);
-            }
-        }
+    if !is_plain(nest.job, t) {
+        return rowless(Left::Nothing, l, c);
     }
-    no_instance(l, c)
+    let Some(above) = above_in(nest.job, t, c) else {
+        return rowless(Left::Nothing, l, c);
+    };
+    let all = all_rows(nest.job, kind, l, t, c, above);
+    let run = from_run(nest.job, all);
+    narrowed(nest, run)
 }
 
 // An `Inside` loop: the context itself, where it has a row of table t and the loop is shown there.
@@ -191,19 +147,13 @@ fn inside_itself(job: Job, l: LoopId, t: TableId, c: Context) -> Cursor
     requires { l.0 < 32 }
     ensures { result ≡ rowless (itself_if (shown_in (outline_by job.entry) l.0 t.0 (context_by c))) l c }
 {
-    let found = row_of(c, t);
-    match found {
-        Some(r) => {
-            let is = shown(job, l, t, r);
-            if is {
-                return context_itself(l, c);
-            }
-            return no_instance(l, c);
-        }
-        None => {
-            return no_instance(l, c);
-        }
+    let Some(r) = row_of(c, t) else {
+        return rowless(Left::Nothing, l, c);
+    };
+    if shown(job, l, t, r) {
+        return rowless(Left::Itself, l, c);
     }
+    rowless(Left::Nothing, l, c)
 }
 
 // Whether a loop of this kind has an instance where one of its children has.
@@ -226,11 +176,11 @@ pub fn by_kind(nest: Nest, kind: Instances, l: LoopId, c: Context) -> Cursor
     ensures { OfLoop (outline_by nest.entry.job) nest.entry.array.now l.0 (context_by c) result }
 {
     match kind {
-        Instances::Absent => no_instance(l, c),
-        Instances::Envelope => context_itself(l, c),
+        Instances::Absent => rowless(Left::Nothing, l, c),
+        Instances::Envelope => rowless(Left::Itself, l, c),
         Instances::Rows(t) => listed(nest, Left::Rows, l, t, c),
         Instances::Inside(t) => inside_itself(nest.job, l, t, c),
         Instances::Groups(t) => listed(nest, Left::Runs, l, t, c),
-        Instances::Implied => no_instance(l, c),
+        Instances::Implied => rowless(Left::Nothing, l, c),
     }
 }

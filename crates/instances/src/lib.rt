@@ -9,7 +9,7 @@ ghost use Rattle.walk.specs.Instances.{instances};
 ghost use Rattle.instances.specs.Cursor.{coming, context_in, Came, Going};
 ghost use Rattle.nest.specs.Job.{outline_by};
 
-use crate::kinds::{by_children, by_kind, context_itself, no_instance};
+use crate::kinds::{by_children, by_kind, rowless};
 use crate::pieces::next_piece;
 use crate::rows::next_of_rows;
 use spec::ids::{LoopId, RowId, TableId};
@@ -121,16 +121,16 @@ pub fn instances(nest: Nest, l: LoopId, c: Context, height: u32) -> Cursor
     ensures { (coming (outline_by nest.entry.job) nest.entry.array.now result ≡ instances (outline_by nest.entry.job) height l.0 (context_by c)) × Going (outline_by nest.entry.job) nest.entry.array.now result }
 {
     if height == 0 {
-        return no_instance(l, c);
+        return rowless(Left::Nothing, l, c);
     }
     let kind = plan::planned::instances(nest.job.at, l);
     let implied = by_children(kind);
     if implied {
         let some = has_instance(nest, l, c, height);
         if some {
-            return context_itself(l, c);
+            return rowless(Left::Itself, l, c);
         }
-        return no_instance(l, c);
+        return rowless(Left::Nothing, l, c);
     }
     by_kind(nest, kind, l, c)
 }

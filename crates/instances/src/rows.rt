@@ -1,10 +1,11 @@
 // The rows that a cursor has left, one after the other.
-ghost use Rattle.std.specs.Prelude.{◌≡◌, ◌+◌, ◌*◌, ◌≤◌, ◌<◌, length};
+ghost use Rattle.std.specs.Prelude.{◌≡◌, ◌≤◌, ◌<◌};
 ghost use Rattle.nest.specs.Outline.{Outline};
 ghost use Rattle.instances.specs.declared.Left.TheVariants.{Rows};
 ghost use Rattle.instances.specs.Cursor.{passes, Ahead, Inside, Came, Going, moved};
 
 use crate::{Cursor, Next};
+use nest::TableRows;
 use spec::ids::RowId;
 
 // The next row; how many were seen with it, and where to look on.
@@ -16,14 +17,14 @@ pub struct RowAhead {
 }
 
 // Whether row k hangs on the row `above` less one; where that is 0 each does.
-fn passes(nest: &[u32], base: usize, above: u32, k: usize) -> bool
-    requires { ((base + k) * 3 + 2 < length nest.now) × (above ≤ 4096) }
-    ensures { result ≡ passes nest.now base above k }
+fn passes(all: TableRows, above: u32, k: usize) -> bool
+    requires { (k < all.rows) × (above ≤ 4096) }
+    ensures { result ≡ passes all.entry.array.now all.entry.base above k }
 {
     if above == 0 {
         return true;
     }
-    nest::held_at(nest, base, k, RowId(above - 1))
+    all.held_at(k, RowId(above - 1))
 }
 
 // The next row that is left.
@@ -36,8 +37,13 @@ pub fn next_row(nest: &[u32], cur: Cursor) -> Option<RowAhead>
     let start = walk::start_in(c, t);
     let end = walk::end_in(c, t, cur.rows);
     let mut seen = cur.seen;
+    let all = TableRows {
+        array: nest,
+        base: cur.base,
+        rows: cur.rows,
+    };
     for k in cur.next..cur.rows {
-        if passes(nest, cur.base, cur.above, k) {
+        if passes(all, cur.above, k) {
             if end <= seen {
                 return None;
             }

@@ -1,5 +1,5 @@
 // Where a table's rows hang on rising rows, those that hang on one row are a stretch, which halving finds.
-ghost use Rattle.std.specs.Prelude.{◌≡◌, ◌+◌, ◌*◌, ◌≤◌, ◌<◌, length};
+ghost use Rattle.std.specs.Prelude.{◌≡◌, ◌≤◌, ◌<◌};
 ghost use Rattle.nest.specs.Outline.{Outline};
 ghost use Rattle.nest.specs.Rising.{Climbs, Parted};
 ghost use Rattle.tables.specs.Parts.{rows_before};
@@ -8,35 +8,39 @@ ghost use Rattle.instances.specs.Stretch.{Same, Reached};
 ghost use Rattle.nest.specs.Job.{outline_by, job_by};
 
 use crate::Cursor;
-use nest::order::{first_at, rises};
+use nest::TableRows;
+use nest::order::rises;
 use walk::Nest;
 
 // Where the rows climb: a place behind `from` from which on none hangs on a row before `above` less one, tried 1, 2, 4 rows on and so forth.
-fn far_enough(nest: &[u32], base: usize, from: usize, rows: usize, above: u32) -> usize
-    requires { ((base + rows) * 3 ≤ length nest.now) × (rows ≤ 4096) × (from ≤ rows) × Climbs nest.now base rows }
-    ensures { Reached nest.now base from rows above result }
+fn far_enough(all: TableRows, from: usize, above: u32) -> usize
+    requires { (from ≤ all.rows) × Climbs all.array.now all.base all.rows }
+    ensures { Reached all.entry.array.now all.entry.base from all.entry.rows above result }
 {
     let mut step: usize = 1;
     // No `for`: the step doubles.
-    while step < rows - from {
+    while step < all.rows - from {
         let at = from + step;
-        let i = (base + at) * 3;
-        if nest[i] < above {
+        if all.above(at) < above {
             step = step * 2;
         } else {
             return at;
         }
     }
-    rows
+    all.rows
 }
 
 // The same as `first_at`, in fewer steps where it stands near.
-fn first_near(nest: &[u32], base: usize, from: usize, rows: usize, above: u32) -> usize
-    requires { ((base + rows) * 3 ≤ length nest.now) × (rows ≤ 4096) × (from ≤ rows) × Climbs nest.now base rows }
-    ensures { Parted nest.now base from rows above result }
+fn first_near(all: TableRows, from: usize, above: u32) -> usize
+    requires { (from ≤ all.rows) × Climbs all.array.now all.base all.rows }
+    ensures { Parted all.entry.array.now all.entry.base from all.entry.rows above result }
 {
-    let far = far_enough(nest, base, from, rows, above);
-    first_at(nest, base, from, far, above)
+    let far = TableRows {
+        array: all.array,
+        base: all.base,
+        rows: far_enough(all, from, above),
+    };
+    far.first_at(from, above)
 }
 
 // The cursor over the stretch of its rows alone.
@@ -44,8 +48,13 @@ fn stretch(nest: &[u32], cur: Cursor) -> Cursor
     requires { Inside nest.now cur × Climbs nest.now cur.base cur.rows × (0 < cur.above) }
     ensures { (o : Outline) → Going o nest.now cur → Same o nest.now cur result }
 {
-    let low = first_at(nest, cur.base, cur.next, cur.rows, cur.above);
-    let high = first_near(nest, cur.base, low, cur.rows, cur.above + 1);
+    let all = TableRows {
+        array: nest,
+        base: cur.base,
+        rows: cur.rows,
+    };
+    let low = all.first_at(cur.next, cur.above);
+    let high = first_near(all, low, cur.above + 1);
     let mut r = cur;
     r.next = low;
     r.rows = high;

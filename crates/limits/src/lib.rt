@@ -1,8 +1,8 @@
 // 3: a limit is passed. Each function tells whether whatever stands at a place passes one.
 #![tactic(auto)]
 
-ghost use Rattle.std.specs.Prelude.{◌≡◌, length, ◌≤◌, false};
-ghost use Rattle.codec.specs.Codec.{◌⊗◌, list_c};
+ghost use Rattle.std.specs.Prelude.{◌≡◌, length, ◌≤◌, ℕ, Option, Some, None, false};
+ghost use Rattle.codec.specs.Codec.{◌⊗◌, list_c, pick};
 ghost use Rattle.codec.specs.Forms.{bytes_c, num_c, opt_c};
 ghost use Rattle.codec.specs.Limits.{any_of};
 ghost use Rattle.format.specs.Words.{if_some};
@@ -15,7 +15,7 @@ ghost use Rattle.format.specs.Plan.{element_plan_c, loop_plan_c, segment_plan_c}
 ghost use Rattle.format.specs.Data.{table_data_c};
 ghost use Rattle.format.specs.Sections.{broken, job_of, plan_start, spoilt};
 ghost use Rattle.says.specs.Says.{Says, Clears};
-ghost use Rattle.limits.specs.Parts.{over_layout, over_tables, ClearParts};
+ghost use Rattle.limits.specs.Parts.{over_layout, over_sized, over_tables, sizes_behind, sizes_min, ClearParts};
 
 use codec::forms::{Bytes, Flag, Items, Le, Les, NumMap, Opt};
 use codec::{Form, Section};
@@ -92,20 +92,27 @@ fn loops_over(s: Section, at: usize) -> Option<usize>
     says::lists::list_clear::<Loop, _>(s, at, |p| loop_over(s, p))
 }
 
-// A component and its number.
-fn component_over(s: Section, at: usize) -> Option<usize>
-    ensures { Clears (num_c ⊗ component_c) s.entry.bytes.now s.entry.end at over_component result }
+// The number and the sizes of a component or an element: where they end, if none passes a limit.
+fn sized_over(s: Section, at: usize) -> Option<usize>
+    ensures { (n : ℕ) (m : Option ℕ) → Is num_c s.entry.bytes.now s.entry.end at n → Is (opt_c num_c) s.entry.bytes.now s.entry.end (sizes_min s.entry.bytes.now s.entry.end at) m → result ≡ pick (over_sized n m) None (Some (sizes_behind s.entry.bytes.now s.entry.end at)) }
 {
     let value = s.le_at(4, at);
     let kind = Kind::ends_at(s, value);
-    let min = s.opt_num_at(kind);
-    let max = s.opt_num_at(min);
+    let max = format::sizes_end(s, value);
     if large_at(s, at) {
         return None;
     }
     if opt_large_at(s, kind) {
         return None;
     }
+    Some(max)
+}
+
+// A component and its number.
+fn component_over(s: Section, at: usize) -> Option<usize>
+    ensures { Clears (num_c ⊗ component_c) s.entry.bytes.now s.entry.end at over_component result }
+{
+    let max = sized_over(s, at)?;
     Some(Items::<Bytes>::ends_at(s, max))
 }
 
@@ -119,16 +126,7 @@ fn components_over(s: Section, at: usize) -> Option<usize>
 fn element_over(s: Section, at: usize) -> Option<usize>
     ensures { Clears (num_c ⊗ element_c) s.entry.bytes.now s.entry.end at over_element result }
 {
-    let value = s.le_at(4, at);
-    let kind = Kind::ends_at(s, value);
-    let min = s.opt_num_at(kind);
-    let max = s.opt_num_at(min);
-    if large_at(s, at) {
-        return None;
-    }
-    if opt_large_at(s, kind) {
-        return None;
-    }
+    let max = sized_over(s, at)?;
     let codes = components_over(s, max)?;
     Some(Items::<Bytes>::ends_at(s, codes))
 }

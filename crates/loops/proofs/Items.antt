@@ -2,11 +2,11 @@
 use Prim.Native.Nat.{ℕ, ◌+◌, ◌≤◌, ◌<◌}
 use mathlib.Core.Path.{◌≡◌, refl, sym, ◌∙◌}
 use mathlib.Core.List.{List, [], ◌∷◌, ◌++◌}
-use mathlib.Core.Bool.{Bool, true, false}
+use mathlib.Core.Bool.{Bool, false}
 use native.Mathlib.Omega.{arith}
 use lib.ListN.{length}
 use lib.Dec.{eqb}
-use Rattle.codec.specs.Codec.{pick, le_c}
+use Rattle.codec.specs.Codec.{le_c}
 use Rattle.codec.specs.Forms.{num_c}
 use Rattle.codec.specs.Skip.{skip, count_at, tag_at, Is, skip_le}
 use Rattle.codec.specs.Field.{is_in}
@@ -17,11 +17,11 @@ use Rattle.format.specs.Layout.{Item, segment_item, loop_item, item_c}
 use Rattle.format.specs.Fields.{item_tag, is_loop_item}
 use Rattle.format.specs.Spec.{Loop}
 use Rattle.format.specs.Refusal.{loops_in, not_child}
-use Rattle.says.specs.Says.{SaysRest, SaysBefore}
+use Rattle.says.specs.Says.{SaysRest, SaysBefore, any_before}
 use Rattle.tree.specs.Parts.{on_loop}
 use Rattle.loops.specs.Parts.{member_in, repeats_in, again_in, misplaced, misplaced_in}
 use Rattle.says.proofs.Walk.{number_is}
-use Rattle.tree.proofs.Tree.{item_there, item_not, loops_any}
+use Rattle.tree.proofs.Tree.{item_there, item_not, loops_any, member_any}
 
 module _ (b : List ℕ) (e at t : ℕ) (h : t ≡ tag_at b at e) where
   pub name_there : (p x : ℕ) → t ≡ 1 → p ≡ skip (le_c 1) b at e → x ≡ count_at b p e → (y : Item) → Is item_c b e at y → x ∷ [] ≡ loops_in (y ∷ [])
@@ -62,23 +62,14 @@ unfolding misplaced
 misplaced_any ls k o = loops_any (λ (l : ℕ). not_child ls l k) o
 
 -- ---- searched for one that repeats
-pub member_in_step : (x : ℕ) (y : Item) (ys : List Item) → member_in x (y ∷ ys) ≡ pick (on_loop (eqb x) y) true (member_in x ys)
-unfolding member_of loops_in
-member_in_step x (segment_item k) ys = refl
-member_in_step x (loop_item l) ys = refl
+pub member_in_any : (x : ℕ) (o : List Item) → any_of (on_loop (eqb x)) o ≡ member_in x o
+member_in_any x o = loops_any (eqb x) o ∙ member_any x (loops_in o)
 
-pub member_in_nil : (x : ℕ) → member_in x [] ≡ false
-unfolding member_of loops_in
-member_in_nil x = refl
-
-pub repeat_in_step : (y : Item) (ys : List Item) → repeats_in (y ∷ ys) ≡ pick (again_in ys y) true (repeats_in ys)
-unfolding repeats loops_in
-repeat_in_step (segment_item k) ys = refl
-repeat_in_step (loop_item l) ys = refl
-
-pub repeat_in_nil : repeats_in [] ≡ false
-unfolding repeats loops_in
-repeat_in_nil = refl
+pub repeats_again_in : (o : List Item) → any_before again_in o ≡ repeats_in o
+unfolding any_before repeats loops_in
+repeats_again_in [] = refl
+repeats_again_in (segment_item k ∷ o) = repeats_again_in o
+repeats_again_in (loop_item l ∷ o) = rw (repeats_again_in o)
 
 -- the loop that an item of an order names is met again behind it
 module _ (b : List ℕ) (e at t m q : ℕ) (h : t ≡ tag_at b at e) where

@@ -12,9 +12,9 @@ ghost use Rattle.format.specs.Layout.{Item, item_c};
 ghost use Rattle.format.specs.Fields.{loop_children, spec_roots, spec_tables};
 ghost use Rattle.format.specs.Refusal.{disagrees, loops_in, misordered, misrooted, not_child, not_parent, ringed, tangled};
 ghost use Rattle.format.specs.Sections.{broken, job_of, plan_start, spoilt};
-ghost use Rattle.says.specs.Says.{Says, SaysRest, SaysBefore};
+ghost use Rattle.says.specs.Says.{Says, SaysBefore};
 ghost use Rattle.tree.specs.Parts.{on_loop, Placed, Noted};
-ghost use Rattle.loops.specs.Parts.{hit, member_in, repeats_in, again_in, misplaced, misplaced_in, repeats_below, tangled_spec};
+ghost use Rattle.loops.specs.Parts.{hit, repeats_in, again_in, misplaced, misplaced_in, repeats_below, tangled_spec};
 
 use codec::forms::{Items, Le};
 use codec::{Form, Section};
@@ -54,14 +54,7 @@ fn opt_unlisted_at(loops: Loops, at: usize, i: usize) -> bool
 fn loops_repeat(loops: Loops) -> bool
     ensures { Says (list_c loop_c) loops.entry.section.bytes.now loops.entry.section.end loops.entry.at (any_of repeats_below) result }
 {
-    let n = loops.section.count_at(loops.at);
-    for k in 0..n {
-        let children = loops.below(k);
-        if tree::repeats_at(loops.section, children) {
-            return true;
-        }
-    }
-    false
+    loops.some(|_k, _p, children| tree::repeats_at(loops.section, children))
 }
 
 // The loop i, whose children are known to stand at a place.
@@ -80,15 +73,7 @@ fn disagrees_at(loops: Loops, at: usize, children: usize, i: usize) -> bool
 fn disagreements(loops: Loops) -> bool
     ensures { (ls : List Loop) → Is (list_c loop_c) loops.entry.section.bytes.now loops.entry.section.end loops.entry.at ls → Says (list_c loop_c) loops.entry.section.bytes.now loops.entry.section.end loops.entry.at (any_from (disagrees ls) 0) result }
 {
-    let n = loops.section.count_at(loops.at);
-    for k in 0..n {
-        let p = loops.place_of(k);
-        let children = loops.below(k);
-        if disagrees_at(loops, p, children, k) {
-            return true;
-        }
-    }
-    false
+    loops.some(|k, p, children| disagrees_at(loops, p, children, k))
 }
 
 // ---- rings and roots
@@ -110,13 +95,7 @@ fn ringed_at(loops: Loops, i: usize) -> bool
 fn rings(loops: Loops) -> bool
     ensures { (ls : List Loop) → Is (list_c loop_c) loops.entry.section.bytes.now loops.entry.section.end loops.entry.at ls → Says (list_c loop_c) loops.entry.section.bytes.now loops.entry.section.end loops.entry.at (any_from (ringed ls) 0) result }
 {
-    let n = loops.section.count_at(loops.at);
-    for k in 0..n {
-        if ringed_at(loops, k) {
-            return true;
-        }
-    }
-    false
+    loops.some(|k, _p, _children| ringed_at(loops, k))
 }
 
 fn hit_at(s: Section, at: usize, x: usize) -> usize
@@ -155,14 +134,7 @@ fn misrooted_at(s: Section, at: usize, roots: usize, i: usize) -> bool
 fn misroots(loops: Loops, roots: usize) -> bool
     ensures { (rs : List ℕ) → Is (list_c num_c) loops.entry.section.bytes.now loops.entry.section.end roots rs → Says (list_c loop_c) loops.entry.section.bytes.now loops.entry.section.end loops.entry.at (any_from (misrooted rs) 0) result }
 {
-    let n = loops.section.count_at(loops.at);
-    for k in 0..n {
-        let p = loops.place_of(k);
-        if misrooted_at(loops.section, p, roots, k) {
-            return true;
-        }
-    }
-    false
+    loops.some(|k, p, _children| misrooted_at(loops.section, p, roots, k))
 }
 
 // ---- orders; the loops stand in another section
@@ -201,19 +173,6 @@ fn item_same_at(s: Section, at: usize, x: usize) -> bool
     false
 }
 
-fn item_member_behind(s: Section, at: usize, rest: usize, x: usize) -> bool
-    ensures { SaysRest item_c s.entry.bytes.now s.entry.end rest at (member_in x) result }
-{
-    let mut p = at;
-    for _i in 0..rest {
-        if item_same_at(s, p, x) {
-            return true;
-        }
-        p = format::Item::ends_at(s, p);
-    }
-    false
-}
-
 // Whether the item at a place names a loop that one of the rest behind it, from next on, names too.
 fn item_again(s: Section, at: usize, rest: usize, next: usize) -> bool
     ensures { SaysBefore item_c s.entry.bytes.now s.entry.end at rest next again_in result }
@@ -221,7 +180,7 @@ fn item_again(s: Section, at: usize, rest: usize, next: usize) -> bool
     if s.case(at) == Some(1) {
         let p = s.le_at(1, at);
         let x = s.count_at(p);
-        return item_member_behind(s, next, rest, x);
+        return says::lists::any_rest::<format::Item, _>(s, next, rest, |p| item_same_at(s, p, x));
     }
     false
 }
@@ -230,16 +189,7 @@ fn item_again(s: Section, at: usize, rest: usize, next: usize) -> bool
 fn order_searched(s: Section, at: usize) -> bool
     ensures { Says (list_c item_c) s.entry.bytes.now s.entry.end at repeats_in result }
 {
-    let n = s.count_at(at);
-    let mut p = s.le_at(4, at);
-    for i in 0..n {
-        let q = format::Item::ends_at(s, p);
-        if item_again(s, p, n - i - 1, q) {
-            return true;
-        }
-        p = q;
-    }
-    false
+    says::lists::any_before::<format::Item, _>(s, at, |p, rest, next| item_again(s, p, rest, next))
 }
 
 // Notes the loop that the item at a place names, behind k others.
@@ -302,15 +252,7 @@ fn misordered_at(s: Section, at: usize, loops: Loops, k: usize) -> bool
 fn misorders(s: Section, at: usize, loops: Loops) -> bool
     ensures { (ls : List Loop) → Is (list_c loop_c) loops.entry.section.bytes.now loops.entry.section.end loops.entry.at ls → Says (list_c (list_c item_c)) s.entry.bytes.now s.entry.end at (any_from (misordered ls) 0) result }
 {
-    let n = s.count_at(at);
-    let mut p = s.le_at(4, at);
-    for k in 0..n {
-        if misordered_at(s, p, loops, k) {
-            return true;
-        }
-        p = Items::<format::Item>::ends_at(s, p);
-    }
-    false
+    says::lists::any_numbered::<Items<format::Item>, _>(s, at, |k, p| misordered_at(s, p, loops, k))
 }
 
 // ---- the whole

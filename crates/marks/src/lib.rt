@@ -1,12 +1,12 @@
 // 5: separators, identifiers, scales and texts. Each function tells whether whatever stands at a place is unfit.
 #![tactic(auto)]
 
-ghost use Rattle.std.specs.Prelude.{◌≡◌, length, ◌≤◌, [], ◌∷◌, drop, false};
+ghost use Rattle.std.specs.Prelude.{◌≡◌, length, ◌≤◌, [], ◌∷◌, false};
 ghost use Rattle.codec.specs.Codec.{◌⊗◌, list_c};
 ghost use Rattle.codec.specs.Forms.{byte_c, bytes_c, num_c, opt_c};
 ghost use Rattle.codec.specs.Skip.{Is, skip};
 ghost use Rattle.codec.specs.Limits.{any_of};
-ghost use Rattle.format.specs.Words.{between, if_some, member_of};
+ghost use Rattle.format.specs.Words.{between, if_some};
 ghost use Rattle.format.specs.Spec.{component_c, element_c, loop_c, segment_c, spec_c, version_c};
 ghost use Rattle.format.specs.Refusal.{foreign, textual, unfit, unfit_column, unfit_component, unfit_element, unfit_envelope, unfit_loop, unfit_reference, unfit_segment, unfit_spec, unfit_table_data, unfit_version, unnamed};
 ghost use Rattle.format.specs.Data.{column_c, table_data_c};
@@ -17,7 +17,7 @@ ghost use Rattle.marks.specs.Parts.{stray, marked, marked_envelope, foreign_enve
 
 use codec::forms::{Bytes, Items, Le, NumMap, Opt};
 use codec::{Form, Section};
-use format::{Column, Component, Control, Element, Kind, Loop, Table, TableData, Version};
+use format::{Column, Component, Control, Element, Loop, Table, TableData, Version};
 
 // ---- bytes and byte strings
 
@@ -141,9 +141,7 @@ fn component_unfit(s: Section, at: usize) -> Option<usize>
     ensures { Clears (num_c ⊗ component_c) s.entry.bytes.now s.entry.end at unfit_component result }
 {
     let value = s.le_at(4, at);
-    let kind = Kind::ends_at(s, value);
-    let min = s.opt_num_at(kind);
-    let max = s.opt_num_at(min);
+    let max = format::sizes_end(s, value);
     codes_unfit(s, max)
 }
 
@@ -157,9 +155,7 @@ fn element_unfit(s: Section, at: usize) -> Option<usize>
     ensures { Clears (num_c ⊗ element_c) s.entry.bytes.now s.entry.end at unfit_element result }
 {
     let value = s.le_at(4, at);
-    let kind = Kind::ends_at(s, value);
-    let min = s.opt_num_at(kind);
-    let max = s.opt_num_at(min);
+    let max = format::sizes_end(s, value);
     let components = components_unfit(s, max)?;
     codes_unfit(s, components)
 }
@@ -217,18 +213,6 @@ fn spec_unfit(s: Section, at: usize) -> Option<usize>
 
 // ---- envelope
 
-// Whether c is in the list from i on.
-fn among(marks: &[usize], i: usize, c: usize) -> bool
-    ensures { result ≡ member_of c (drop i marks.now) }
-{
-    for j in i..marks.len() {
-        if c == marks[j] {
-            return true;
-        }
-    }
-    false
-}
-
 // Two separators are equal, or one is textual.
 fn marked(marks: &[usize]) -> bool
     ensures { result ≡ marked marks.now }
@@ -238,7 +222,7 @@ fn marked(marks: &[usize]) -> bool
         if is_textual(c) {
             return true;
         }
-        if among(marks, i + 1, c) {
+        if marks[i + 1..].contains(&c) {
             return true;
         }
     }

@@ -21,21 +21,21 @@ pub place_some : (n : ℕ) → (n ≡ 0 → ⊥) → found_by (row_place n) ≡ 
 place_some zero d = absurd (d refl)
 place_some (suc n) d = rw sub-one
 
-pub above_none : (nest : List ℕ) (base r : ℕ) → get_or nest ((base + r) * 3) 0 ≡ 0 → row_above nest base r ≡ None
+pub above_none : (nest : List ℕ) (base r : ℕ) → nest_at nest base r 0 ≡ 0 → row_above nest base r ≡ None
 unfolding row_above
-above_none nest base r e = place_none (nest_at nest base r 0) (nest_first nest base r ∙ e)
+above_none nest base r e = place_none (nest_at nest base r 0) e
 
-pub above_row : (nest : List ℕ) (base r : ℕ) → (get_or nest ((base + r) * 3) 0 ≡ 0 → ⊥) → row_above nest base r ≡ Some (record { 0 = get_or nest ((base + r) * 3) 0 - 1 })
+pub above_row : (nest : List ℕ) (base r p : ℕ) → p ≡ nest_at nest base r 0 → (p ≡ 0 → ⊥) → row_above nest base r ≡ Some (record { 0 = p - 1 })
 unfolding row_above
-above_row nest base r d = ap (λ n. found_by (row_place n)) (nest_first nest base r) ∙ place_some (get_or nest ((base + r) * 3) 0) d
+above_row nest base r p e d = ap (λ n. found_by (row_place n)) (sym e) ∙ place_some p d
 
-pub held_yes : (nest : List ℕ) (base p r : ℕ) → get_or nest ((base + r) * 3) 0 ≡ p + 1 → held_at nest base p r ≡ true
+pub held_yes : (nest : List ℕ) (base p r : ℕ) → nest_at nest base r 0 ≡ p + 1 → held_at nest base p r ≡ true
 unfolding held_at
-held_yes nest base p r e = eq-eqb (nest_at nest base r 0) (p + 1) (nest_first nest base r ∙ e)
+held_yes nest base p r e = eq-eqb (nest_at nest base r 0) (p + 1) e
 
-pub held_no : (nest : List ℕ) (base p r : ℕ) → (get_or nest ((base + r) * 3) 0 ≡ p + 1 → ⊥) → held_at nest base p r ≡ false
+pub held_no : (nest : List ℕ) (base p r : ℕ) → (nest_at nest base r 0 ≡ p + 1 → ⊥) → held_at nest base p r ≡ false
 unfolding held_at
-held_no nest base p r d = ne_eqb (nest_at nest base r 0) (p + 1) (λ z. d (sym (nest_first nest base r) ∙ z))
+held_no nest base p r d = ne_eqb (nest_at nest base r 0) (p + 1) d
 
 pub hooked_there : (nest : List ℕ) (base l p r : ℕ) → held_at nest base p r ≡ true → eqb (get_or nest ((base + r) * 3 + 1) 0) l ≡ hooked_at nest base l p r
 unfolding hooked_at

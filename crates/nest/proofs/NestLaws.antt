@@ -1,40 +1,27 @@
 -- Nest's definitions, one law for each way that code takes.
-use Prim.Native.Nat.{ℕ, zero, suc, ◌+◌, ◌-◌, ◌*◌, ◌≤◌, ◌<◌}
+use Prim.Native.Nat.{ℕ, zero, suc, ◌+◌, ◌-◌, ◌*◌, ◌<◌}
 use mathlib.Core.Path.{◌≡◌, refl, sym, ap, ◌∙◌}
 use mathlib.Core.Bool.{Bool, true, false, cond, ◌&&◌}
 use mathlib.Core.List.{List, [], ◌∷◌, ◌++◌, append_assoc}
 use native.Mathlib.Numerals.{add-one}
 use native.Mathlib.Omega.{arith}
 use Rattle.std.specs.Prelude.{Option, None, Some}
+use Rattle.std.specs.Option.{option_eq}
 use Rattle.std.proofs.lemmas.Option.{none-some, same_Some}
-use lib.ListN.{length, drop, get_or, length-append, get_or-append}
+use lib.ListN.{length, get_or, length-append, get_or-append}
 use lib.Seq.{get_or-append-add}
 use lib.Dec.{eqb}
 use borrow.Author.Tests.{eq-eqb, ne_eqb, eqb-true, eqb-false}
 use Rattle.nest.specs.Lists.{each, keep, some_of, first, on, from, is, sum, up_to}
 use Rattle.nest.specs.Outline.{Outline, Table, no_table, table_of, table_parent, row_count, repeated}
 use Rattle.nest.specs.Nest.{has_keys, first_row, referred, anchors, Claim, claim_in, settle, Hook, hook, Row, row_of, hangs, held, hooked, repeat_rows, loose_record, hook_record, parent_record, nest_record, table_array, nest_array}
-use Rattle.nest.proofs.Scan.{up_to_all, some_at, some_not_at, some_past}
+use Rattle.nest.proofs.Scan.{up_to_all, some_place}
 
--- ---- keys: the spec's tables from i on
+-- ---- keys: the spec's tables by their numbers
 
-abbrev pub keys_from : Outline → ℕ → ℕ → Bool
-keys_from j u i = some_of (λ (d : Table). some_of (eqb u) d.ancestors) (drop i j.tables)
-
-pub keys_all : (j : Outline) (u : ℕ) → has_keys j u ≡ keys_from j u 0
-unfolding has_keys
-keys_all j u = refl
-
-pub keys_at : (j : Outline) (u i : ℕ) → i < length j.tables → some_of (eqb u) (table_of j i).ancestors ≡ true → keys_from j u i ≡ true
-unfolding table_of
-keys_at j u i h e = some_at _ j.tables i no_table h e
-
-pub keys_next : (j : Outline) (u i : ℕ) → i < length j.tables → some_of (eqb u) (table_of j i).ancestors ≡ false → keys_from j u i ≡ keys_from j u (i + 1)
-unfolding table_of
-keys_next j u i h e = some_not_at _ j.tables i no_table h e
-
-pub keys_end : (j : Outline) (u i : ℕ) → length j.tables ≤ i → keys_from j u i ≡ false
-keys_end j u i h = some_past _ j.tables i h
+pub keys_by : (j : Outline) (u : ℕ) → some_of (λ i. some_of (eqb u) (table_of j i).ancestors) (up_to 0 (length j.tables)) ≡ has_keys j u
+unfolding has_keys table_of
+keys_by j u = some_place (λ (d : Table). some_of (eqb u) d.ancestors) no_table j.tables
 
 -- ---- the first row with a key: the rows from k on (then `first_here`, `first_next`, `first_end`)
 
@@ -175,12 +162,17 @@ record-loose j t r e = go (repeated j t) refl
     go true f = by_hook (hook j t r) refl f
     go false f = by_parent (table_parent j t) refl f
 
-turn : (a b : ℕ) → eqb a b ≡ eqb b a
+pub turn : (a b : ℕ) → eqb a b ≡ eqb b a
 turn a b = go (eqb a b) refl
   where
     go : (s : Bool) → eqb a b ≡ s → s ≡ eqb b a
     go true e = sym (eq-eqb b a (sym (eqb-true a b e)))
     go false e = sym (ne_eqb b a (λ z. eqb-false a b e (sym z)))
+
+-- a number that may be absent, compared with one that is there
+pub is_eq : (x : Option ℕ) (k : ℕ) → option_eq eqb x (Some k) ≡ is x k
+is_eq None k = refl
+is_eq (Some n) k = turn n k
 
 same : (p o : ℕ) → eqb p o ≡ eqb (suc o) (suc p)
 same p o = go (eqb p o) refl

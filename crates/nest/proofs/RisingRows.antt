@@ -143,9 +143,6 @@ module _ (n : List ℕ) (base rows above : ℕ) where
   abbrev pub before_at : ℕ → Bool
   before_at k = ltb (nest_at n base k 0) above
 
-  pub number_first : (k : ℕ) → get_or n ((base + k) * 3) 0 ≡ nest_at n base k 0
-  number_first k = let z : (base + k) * 3 ≡ (base + k) * 3 + 0 = omega arith in ap (λ i. get_or n i 0) z
-
   pub before_turns : Climbs n base rows → Turns before_at rows
   before_turns u i k h l e = lt-ltb _ _ (omega (arith, u.climb i k h l, ltb-true _ _ e))
 

@@ -1,7 +1,7 @@
 -- The words on lists by position, as a loop takes them: what is left from a place on is the element there, and what is left from the next place on.
 use Prim.Native.Nat.{ℕ, zero, suc, ◌+◌, ◌-◌, ◌≤◌, ◌<◌, max}
 use mathlib.Core.Path.{◌≡◌, refl, sym, ap, ap₂, ◌∙◌}
-use mathlib.Core.Bool.{Bool, true, false, cond}
+use mathlib.Core.Bool.{Bool, true, false, cond, ◌||◌}
 use mathlib.Core.List.{List, [], ◌∷◌, ◌++◌, map, append_assoc}
 use native.Mathlib.Numerals.{add-one}
 use native.Mathlib.Omega.{arith}
@@ -187,6 +187,18 @@ some_not_at p xs i d h e = rw (drop_next xs i d h) (rw e)
 
 pub some_past : {A : Type 0} (p : A → Bool) (xs : List A) (i : ℕ) → length xs ≤ i → some_of p (drop i xs) ≡ false
 some_past p xs i h = rw (drop_of_length-le xs h)
+
+some_shift : (p : ℕ → Bool) (n a : ℕ) → some_of p (from (suc a) n) ≡ some_of (λ i. p (suc i)) (from a n)
+some_shift p zero a = refl
+some_shift p (suc n) a = ap (λ b. p (suc a) || b) (some_shift p n (suc a))
+
+some_from : {A : Type 0} (p : A → Bool) (d : A) (xs : List A) → some_of (λ i. p (get_or xs i d)) (from 0 (length xs)) ≡ some_of p xs
+some_from p d [] = refl
+some_from p d (x ∷ xs) = ap (λ b. p x || b) (some_shift (λ i. p (get_or (x ∷ xs) i d)) (length xs) 0 ∙ some_from p d xs)
+
+-- whether the element at a place passes, and whether one of the list does
+pub some_place : {A : Type 0} (p : A → Bool) (d : A) (xs : List A) → some_of (λ i. p (get_or xs i d)) (up_to 0 (length xs)) ≡ some_of p xs
+some_place p d xs = ap (some_of (λ i. p (get_or xs i d))) (up_to_all (length xs)) ∙ some_from p d xs
 
 -- ---- each over lists put together
 

@@ -9,7 +9,7 @@ use Rattle.std.proofs.lemmas.Option.{same_Some, none-some}
 use Rattle.std.specs.Option.{option_map}
 use lib.ListN.{length, get_or, drop, get_or-append}
 use lib.Seq.{sets, sets-eq, length-sets}
-use Rattle.format.specs.Data.{TableData}
+use Rattle.format.specs.Data.{TableData, no_table_data}
 use Rattle.format.specs.Job.{Job}
 use Rattle.format.specs.Ask as A
 use Rattle.format.specs.Refusal.{rows_of_all}
@@ -29,7 +29,7 @@ use Rattle.nest.proofs.Sizes.{rows_past, rows_all}
 use Rattle.nest.proofs.ArrayLaws.{number_at}
 use Rattle.nest.proofs.Reports.{found_row, found_none}
 use Rattle.nest.proofs.FindingLaws.{row_hangs, row_loose}
-use Rattle.nest.proofs.Placing.{before_all, table_length, table_next, room_for}
+use Rattle.nest.proofs.Placing.{before_all, table_length, table_next, room_for, rows_room}
 
 -- ---- where a row's numbers stand
 
@@ -93,6 +93,11 @@ array_in j d n l e = record {
   where
     there : sets d 0 (nest_array (outline_of j)) ≡ nest_array (outline_of j) ++ drop (0 + length (nest_array (outline_of j))) d
     there = sets-eq (nest_array (outline_of j)) d 0 (omega (arith, array_rows j))
+
+-- the rows of a table stand in it
+pub rows_room_in : (j : Job) (n : List ℕ) → ArrayIs (outline_of j) n → (t base rows : ℕ) → base ≡ T.rows_before j.tables t → rows ≡ (A.data_of j t).rows → (base + rows) * 3 ≤ length n
+unfolding A.data_of
+rows_room_in j n w t base rows e q = let z : rows ≡ (get_or j.tables t no_table_data).rows = q in omega (arith, e, z, rows_room j.tables t, w.room, array_rows j)
 
 -- ---- what it says
 

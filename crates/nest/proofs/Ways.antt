@@ -1,61 +1,22 @@
 -- The ways through the searches for keys and rows, and up the loops.
 use Prim.Native.Nat.{ℕ, ◌+◌, ◌-◌, ◌≤◌, ◌<◌}
 use mathlib.Core.Path.{◌≡◌, sym, ap, ◌∙◌}
-use mathlib.Core.Bool.{Bool, true, false}
 use native.Mathlib.Omega.{arith}
-use lib.ListN.{length, get_or, drop}
+use lib.ListN.{length}
 use lib.Dec.{eqb}
-use borrow.Author.Tests.{eq-eqb, ne_eqb}
 use Rattle.format.specs.Job.{Job}
 use Rattle.format.specs.Ask as A
 use Rattle.column.specs.Cell.{reference_of}
 use Rattle.spec.specs.declared.ids.RowId.{RowId}
 use Rattle.std.specs.Prelude.{Option, None, Some}
-use Rattle.nest.specs.Lists.{some_of, keep, first, up_to}
-use Rattle.nest.specs.Outline.{table_of, row_count}
-use Rattle.nest.specs.Nest.{has_keys, first_row, referred, depth, depth_of}
+use Rattle.nest.specs.Lists.{keep, first, up_to}
+use Rattle.nest.specs.Outline.{row_count}
+use Rattle.nest.specs.Nest.{first_row, referred, depth, depth_of}
 use Rattle.nest.specs.Found.{found_by}
 use Rattle.nest.specs.OfJob.{outline_of}
-use Rattle.nest.proofs.Scan.{some_at, some_not_at, some_past}
-use Rattle.nest.proofs.NestLaws.{keys_from, keys_all, keys_at, keys_next, keys_end, referred_null, referred_by}
+use Rattle.nest.proofs.NestLaws.{referred_null, referred_by}
 use Rattle.nest.proofs.Anchors.{depth_top, depth_up, depth_spent}
-use Rattle.nest.proofs.Bridge.{reference_is, table_count_is, loop_count_is, ancestors_is, parent_is}
-
--- ---- whether u is among the ancestors of d: the first k are not
-module _ (j : Job) (d u : ℕ) where
-  abbrev pub named : ℕ → Bool
-  named k = some_of (eqb u) (drop k (table_of (outline_of j) d).ancestors)
-
-  module _ (k n a : ℕ) (c : n ≡ length (A.table_of j d).ancestors) (e : a ≡ get_or (A.table_of j d).ancestors k 0) (h : k < n) (i : named 0 ≡ named k) where
-    here : k < length (table_of (outline_of j) d).ancestors
-    here = rw (ancestors_is j d) (omega arith)
-
-    it : a ≡ get_or (table_of (outline_of j) d).ancestors k 0
-    it = rw (ancestors_is j d) e
-
-    pub names_yes : a ≡ u → true ≡ named 0
-    names_yes q = sym (i ∙ some_at (eqb u) _ k 0 here (eq-eqb _ _ (sym q ∙ it)))
-
-    pub names_no : (a ≡ u → ⊥) → named 0 ≡ named (k + 1)
-    names_no q = i ∙ some_not_at (eqb u) _ k 0 here (ne_eqb _ _ (λ x. q (it ∙ sym x)))
-
-  pub names_end : (k n : ℕ) → n ≡ length (A.table_of j d).ancestors → n ≤ k → named 0 ≡ named k → false ≡ named 0
-  names_end k n c h i = sym (i ∙ some_past (eqb u) _ k (rw (ancestors_is j d) (omega arith)))
-
--- ---- whether u is an ancestor: not of the first i tables
-module _ (j : Job) (u : ℕ) where
-  pub keys_start : has_keys (outline_of j) u ≡ keys_from (outline_of j) u 0
-  keys_start = keys_all (outline_of j) u
-
-  module _ (i n : ℕ) (x : Bool) (c : n ≡ length j.spec.tables) (h : i < n) (e : x ≡ named j i u 0) (k : has_keys (outline_of j) u ≡ keys_from (outline_of j) u i) where
-    pub keys_yes : x ≡ true → true ≡ has_keys (outline_of j) u
-    keys_yes q = sym (k ∙ keys_at (outline_of j) u i (rw (table_count_is j) (omega arith)) (sym e ∙ q))
-
-    pub keys_no : x ≡ false → has_keys (outline_of j) u ≡ keys_from (outline_of j) u (i + 1)
-    keys_no q = k ∙ keys_next (outline_of j) u i (rw (table_count_is j) (omega arith)) (sym e ∙ q)
-
-  pub keys_none : (i n : ℕ) → n ≡ length j.spec.tables → n ≤ i → has_keys (outline_of j) u ≡ keys_from (outline_of j) u i → false ≡ has_keys (outline_of j) u
-  keys_none i n c h k = sym (k ∙ keys_end (outline_of j) u i (rw (table_count_is j) (omega arith)))
+use Rattle.nest.proofs.Bridge.{reference_is, loop_count_is, parent_is}
 
 -- ---- the first row of u with the key v: none of the first k
 module _ (j : Job) (u v : ℕ) where

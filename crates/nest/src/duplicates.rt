@@ -22,7 +22,7 @@ pub fn duplicate_at(job: Job, findings: &mut [u64], at: usize, t: TableId, r: Ro
     let found = first_with(job, t, key);
     match found {
         Some(f) => {
-            if f.0 < r.0 {
+            if f < r {
                 return lent::note_words(
                     findings,
                     at,

@@ -8,7 +8,7 @@ ghost use Rattle.nest.specs.Keys.{Rises, KeysAre, Keyed, MayRepeat};
 ghost use Rattle.nest.specs.Job.{outline_by};
 
 use crate::Job;
-use crate::seek::{first_row_where, halve};
+use crate::seek::{first_row_where, halve, some};
 use spec::ids::{RowId, TableId};
 
 // What is known of a table's keys: no row is found by one; or its rows are gone through; or its keys rise, and halving finds a row.
@@ -24,12 +24,7 @@ pub fn names(job: Job, d: TableId, u: u32) -> bool
     ensures { result ≡ some_of (eqb u) (table_of (outline_by job.entry) d.0).ancestors }
 {
     let n = spec::tables::ancestor_count(job.at, d);
-    for k in 0..n {
-        if spec::tables::ancestor(job.at, d, k) == u {
-            return true;
-        }
-    }
-    false
+    some(n, |k| u == spec::tables::ancestor(job.at, d, k))
 }
 
 // Whether some table has u as its ancestor.
@@ -37,12 +32,7 @@ pub fn has_keys(job: Job, u: TableId) -> bool
     ensures { result ≡ has_keys (outline_by job.entry) u.0 }
 {
     let n = spec::tables::table_count(job.at);
-    for i in 0..n {
-        if names(job, TableId(i), u.0) {
-            return true;
-        }
-    }
-    false
+    some(n, |i| names(job, TableId(i), u.0))
 }
 
 // The first row of u whose key is v, whether or not u has keys.
@@ -189,11 +179,8 @@ pub fn referred(
     requires { Keyed (outline_by job) keys }
     ensures { result ≡ found_by (referred (outline_by job.entry) t.0 r.0 u.0) }
 {
-    let value = tables::data::reference(job.at, t, u.0, r);
-    match value {
-        Some(v) => first_row(job, keys, u, v, near),
-        None => None,
-    }
+    let value = tables::data::reference(job.at, t, u.0, r)?;
+    first_row(job, keys, u, value, near)
 }
 
 // Whether two rows of t may have one key: they have keys, which don't rise.

@@ -4,11 +4,10 @@ ghost use Rattle.std.proofs.lemmas.List.Edits.{sets};
 ghost use Rattle.nest.specs.Lists.{once};
 ghost use Rattle.nest.specs.Found.{ArrayIs};
 ghost use Rattle.format.specs.Refusal.{rows_of_all};
-ghost use Rattle.nest.specs.Rising.{falls, rising_flags, rises, Climbs, Parted};
+ghost use Rattle.nest.specs.Rising.{falls, rising_flags, rises};
 ghost use Rattle.nest.specs.Job.{outline_by, job_by};
 
 use crate::Job;
-use crate::seek::halve;
 use spec::ids::TableId;
 
 // Whether some row of table t hangs on an earlier row than the row before it.
@@ -63,12 +62,4 @@ pub fn rises(nest: &[u32], t: TableId) -> bool
         return nest[i] == 1;
     }
     false
-}
-
-// Where the rows climb: the end of those from `from` on that hang on a row before the row `above` less one. No Option: both callers take it as an end of a range.
-pub fn first_at(nest: &[u32], base: usize, from: usize, rows: usize, above: u32) -> usize
-    requires { ((base + rows) * 3 ≤ length nest.now) × (rows ≤ 4096) × (from ≤ rows) × Climbs nest.now base rows }
-    ensures { Parted nest.now base from rows above result }
-{
-    halve(from, rows, |k| nest[(base + k) * 3] < above)
 }

@@ -12,7 +12,7 @@ ghost use Rattle.nest.specs.Ready.{words};
 ghost use Rattle.nest.specs.Job.{outline_by, job_by};
 
 use crate::hang::{all_depths, claim};
-use crate::{Job, row_above, table_above};
+use crate::{Job, TableRows};
 use spec::ids::{RowId, TableId};
 
 // The finding of ancestor a, if row r of t and the row p of u that it hangs on refer to different rows of it.
@@ -28,33 +28,23 @@ pub fn contradiction_at(
 ) -> usize
     ensures { Noted findings.old at (words (contradiction_at (outline_by job.entry) t.0 r.0 (row_of u.0 p.0) a)) result findings.new }
 {
-    let own = tables::data::reference(job.at, t, a, r);
-    let above = tables::data::reference(job.at, u, a, p);
-    match own {
-        Some(v) => {
-            match above {
-                Some(w) => {
-                    if v == w {
-                        return lent::more(at, 0);
-                    }
-                    return lent::note_words(
-                        findings,
-                        at,
-                        [
-                            2, t.0 as u64, r.0 as u64, a as u64, v, u.0 as u64, p.0 as u64, w, 0, 0,
-                        ],
-                        10,
-                    );
-                }
-                None => {
-                    return lent::more(at, 0);
-                }
-            }
-        }
-        None => {
-            return lent::more(at, 0);
-        }
+    let Some(v) = tables::data::reference(job.at, t, a, r) else {
+        return lent::more(at, 0);
+    };
+    let Some(w) = tables::data::reference(job.at, u, a, p) else {
+        return lent::more(at, 0);
+    };
+    if v == w {
+        return lent::more(at, 0);
     }
+    lent::note_words(
+        findings,
+        at,
+        [
+            2, t.0 as u64, r.0 as u64, a as u64, v, u.0 as u64, p.0 as u64, w, 0, 0,
+        ],
+        10,
+    )
 }
 
 // The contradictions of row r of t with the row p of u that it hangs on, over the ancestors of u.
@@ -128,32 +118,22 @@ pub fn parent_missing(job: Job, findings: &mut [u64], at: usize, t: TableId, r: 
     requires { repeated (outline_by job) t.0 ≡ false }
     ensures { Noted findings.old at (words (missing_at (outline_by job.entry) t.0 r.0)) result findings.new }
 {
-    let parent = spec::tables::table_parent(job.at, t);
-    match parent {
-        Some(u) => {
-            let value = tables::data::reference(job.at, t, u, r);
-            match value {
-                Some(v) => {
-                    return lent::note_words(
-                        findings,
-                        at,
-                        [1, t.0 as u64, r.0 as u64, u as u64, 1, v, 0, 0, 0, 0],
-                        10,
-                    );
-                }
-                None => {
-                    return lent::note_words(
-                        findings,
-                        at,
-                        [1, t.0 as u64, r.0 as u64, u as u64, 0, 0, 0, 0, 0, 0],
-                        10,
-                    );
-                }
-            }
-        }
-        None => {
-            return lent::more(at, 0);
-        }
+    let Some(u) = spec::tables::table_parent(job.at, t) else {
+        return lent::more(at, 0);
+    };
+    match tables::data::reference(job.at, t, u, r) {
+        Some(v) => lent::note_words(
+            findings,
+            at,
+            [1, t.0 as u64, r.0 as u64, u as u64, 1, v, 0, 0, 0, 0],
+            10,
+        ),
+        None => lent::note_words(
+            findings,
+            at,
+            [1, t.0 as u64, r.0 as u64, u as u64, 0, 0, 0, 0, 0, 0],
+            10,
+        ),
     }
 }
 
@@ -176,24 +156,23 @@ pub fn missing(
     parent_missing(job, findings, at, t, r)
 }
 
-// The findings of row r of t, by nest's numbers; the rows of t start at `base`.
+// The findings of row r of t, by nest's numbers.
 pub fn row_findings(
     job: Job,
-    nest: &[u32],
     findings: &mut [u64],
     at: usize,
     depths: [u8; 32],
     t: TableId,
-    base: usize,
+    all: TableRows,
     r: RowId,
 ) -> usize
-    requires { ArrayIs (outline_by job) nest.now × Deep (outline_by job) depths × (base ≡ rows_before (job_by job).tables t.0) × (r.0 < row_count (outline_by job) t.0) }
+    requires { ArrayIs (outline_by job) all.array.now × Deep (outline_by job) depths × (all.base ≡ rows_before (job_by job).tables t.0) × (all.rows ≡ row_count (outline_by job) t.0) × (r.0 < all.rows) }
     ensures { Noted findings.old at (words (row_findings (outline_by job.entry) t.0 r.0)) result findings.new }
 {
-    let above = row_above(nest, base, r);
+    let above = all.row_above(r);
     match above {
         Some(p) => {
-            let table = table_above(nest, base, r);
+            let table = all.table_above(r);
             return contradictions(job, findings, at, t, r, table, p);
         }
         None => {
@@ -202,7 +181,7 @@ pub fn row_findings(
     }
 }
 
-// The findings of the rows of table t.
+// The findings of the rows of table t. Job and array are no struct with `ArrayIs`: three functions take the two with it, and three places would make the struct.
 pub fn table_findings(
     job: Job,
     nest: &[u32],
@@ -216,9 +195,14 @@ pub fn table_findings(
 {
     let base = tables::data::first_row(job.at, t) as usize;
     let n = tables::data::row_count(job.at, t);
+    let all = TableRows {
+        array: nest,
+        base,
+        rows: n as usize,
+    };
     let mut next = lent::more(at, 0);
     for r in 0..n {
-        next = row_findings(job, nest, findings, next, depths, t, base, RowId(r));
+        next = row_findings(job, findings, next, depths, t, all, RowId(r));
     }
     next
 }

@@ -1,6 +1,6 @@
-// Searches through the numbers of rows, by a test.
+// Searches through numbers, by a test.
 ghost use Rattle.std.specs.Prelude.{ℕ, ◌≡◌, ◌≤◌, ◌<◌, ◌^◌, Bool};
-ghost use Rattle.nest.specs.Lists.{keep, first, up_to};
+ghost use Rattle.nest.specs.Lists.{keep, first, some_of, up_to};
 ghost use Rattle.nest.specs.Found.{found_by};
 ghost use Rattle.nest.specs.Seek.{AnswersAs, Turns, SplitAt};
 
@@ -18,6 +18,19 @@ pub fn first_row_where<F: Fn(usize) -> bool>(from: usize, rows: usize, passes: F
         }
     }
     None
+}
+
+// Whether a number below n passes.
+pub fn some<F: Fn(u32) -> bool>(n: u32, passes: F) -> bool
+    requires { (k : ℕ) → k < n → F.pre passes k }
+    ensures { (p : ℕ → Bool) → AnswersAs (F.post passes) p n → result ≡ some_of p (up_to 0 n) }
+{
+    for k in 0..n {
+        if passes(k) {
+            return true;
+        }
+    }
+    false
 }
 
 // Where a test turns: the first number from `low` on, below `high`, that doesn't pass, or else `high`. Each turn halves the numbers that are left.

@@ -2,13 +2,14 @@
 use Prim.Native.Nat.{ℕ, zero, suc, ◌+◌, ◌-◌, ◌≤◌, ◌<◌}
 use mathlib.Core.Path.{◌≡◌, refl, sym, ap, ap₂, ◌∙◌}
 use mathlib.Core.Bool.{Bool, true, false, not, ◌&&◌, ◌||◌, true≢false}
-use mathlib.Core.List.{List}
+use mathlib.Core.List.{List, [], ◌∷◌, map}
 use native.Mathlib.Omega.{arith}
 use native.Mathlib.Numerals.{sub-one}
 use Rattle.std.specs.Prelude.{Option, None, Some}
+use Rattle.std.specs.Option.{option_eq}
 use lib.ListN.{length, get_or}
 use lib.Dec.{eqb, ltb}
-use borrow.Author.Tests.{lt-ltb, le-ltb, not-true, not-false}
+use borrow.Author.Tests.{lt-ltb, le-ltb, not-true, not-false, eq-eqb, eqb-true}
 use Rattle.codec.specs.Codec.{le}
 use Rattle.codec.specs.Field.{count_of}
 use Rattle.format.specs.Plan as P
@@ -23,17 +24,20 @@ use Rattle.plan.specs.declared.answers.Instances.TheVariants.{Rows}
 use Rattle.plan.specs.declared.answers.Source.{Source}
 use Rattle.plan.specs.declared.answers.Source.TheVariants.{Repeat}
 use Rattle.plan.specs.Index.{PlanIndexed}
-use Rattle.nest.specs.Lists.{once, on, is, sum, times}
+use Rattle.nest.specs.Lists.{on, is, sum, times, All}
 use Rattle.nest.specs.Outline.{Outline, Table, Planned, Kind, row_table, loop_of, table_of, kind_of, order_of, segment_of, table_parent, plain, repeated, item_loops, item_segments}
 use Rattle.nest.specs.OfJob.{outline_of, kind_in, source_in}
-use Rattle.nest.proofs.Bridge.{table_is, kind_is, parent_is, planned_is, segment_is, order_is, children_is, occurrences_is, table_parent_is, loops_is}
-use Rattle.walk.specs.Check.{each_below, each_of, how_many, rows_of, named, repeat_table, planned, if_there, past, fits}
+use Rattle.nest.proofs.Bridge.{table_is, kind_is, parent_is, planned_is, segment_is, order_is, occurrences_is, table_parent_is, loops_is}
+use Rattle.nest.proofs.NestLaws.{is_eq}
+use Rattle.walk.specs.Check.{each_below, each_of, how_many, rows_of, named, repeat_table, planned, if_there, past, fits, all_pass}
+use Rattle.walk.proofs.Tests.{tests_all, all_tests, that_is_all, ◌⨾◌}
 use Rattle.complete.specs.Decides.{Decides}
 use Rattle.paths.specs.Tests.{same_item, segment_below, each_loop, order_right, only_planned, row_fits, row_loops, repeats_in, planned_once, anchors_in, names_plain, segment_ordered, loop_ordered}
+use Rattle.paths.specs.Entries.{Entries4}
 use Rattle.paths.specs.Upward.{outcome}
 use Rattle.paths.specs.declared.up.Up.{Up}
 use Rattle.paths.specs.declared.up.Up.TheVariants.{No, Top, On}
-use Rattle.paths.proofs.Tests.{Summing, sum_done, every, unlike, some_times, each_every, loop_times, segment_times, segments_below}
+use Rattle.paths.proofs.Tests.{every, each_every, loop_times, segment_times, segments_below}
 
 -- ---- tests put together
 
@@ -122,11 +126,8 @@ module _ (j : Job) (t : ℕ) (v : Option ℕ) (e : v ≡ (A.table_of j t).parent
   pub parent_none : v ≡ None → true ≡ if_there (table_parent (outline_of j) t) (plain (outline_of j))
   parent_none q = rw (parent_by None q)
 
-  pub parent_same : (u w : ℕ) → v ≡ Some u → eqb w u ≡ is (table_parent (outline_of j) t) w
-  parent_same u w q = rw (parent_by (Some u) q)
-
-  pub parent_none_is : (w : ℕ) → v ≡ None → false ≡ is (table_parent (outline_of j) t) w
-  parent_none_is w q = rw (parent_by None q)
+  pub parent_eq : (w : ℕ) → option_eq eqb v (Some w) ≡ is (table_parent (outline_of j) t) w
+  parent_eq w = rw (parent_by v refl) (is_eq v w)
 
   pub top_no : (u : ℕ) → v ≡ Some u → (h : ℕ) → on (table_parent (outline_of j) t) (λ w. false) true ≡ false
   top_no u q h = rw (parent_by (Some u) q)
@@ -159,20 +160,7 @@ pub repeats_done : (j : Outline) (t l : ℕ) → how_many (planned j l) (repeats
 unfolding repeats_in
 repeats_done j t l = refl
 
--- ---- children, and loops that a table lists
-
-pub child_done : (j : Job) (l k i n seen : ℕ) → Summing (λ y. once (eqb y k)) (A.loop_of j l).children i seen → n ≡ length (A.loop_of j l).children → n ≤ i → seen ≡ times k (loop_of (outline_of j) l).children
-child_done j l k i n seen s c h = sum_done (λ y. once (eqb y k)) (A.loop_of j l).children i n seen s c h ∙ sym (ap (times k) (children_is j l))
-
-module _ (j : Job) (t l : ℕ) where
-  lists_is : ltb 0 (times l (table_of (outline_of j) t).loops) ≡ not (every (unlike l) (A.table_of j t).loops)
-  lists_is = ap (λ xs. ltb 0 (times l xs)) (loops_is j t) ∙ some_times l (A.table_of j t).loops
-
-  pub lists_yes : false ≡ every (unlike l) (A.table_of j t).loops → true ≡ ltb 0 (times l (table_of (outline_of j) t).loops)
-  lists_yes e = ap not e ∙ sym lists_is
-
-  pub lists_no : true ≡ every (unlike l) (A.table_of j t).loops → false ≡ ltb 0 (times l (table_of (outline_of j) t).loops)
-  lists_no e = ap not e ∙ sym lists_is
+-- ---- loops that a table lists
 
 pub planned_of_lem : (j : Job) (t : ℕ) (x : Bool) → x ≡ every (planned_once (outline_of j) t) (A.table_of j t).loops → x ≡ each_of (table_of (outline_of j) t).loops (planned_once (outline_of j) t)
 planned_of_lem j t x e = e ∙ sym (ap (λ xs. each_of xs (planned_once (outline_of j) t)) (loops_is j t) ∙ each_every (planned_once (outline_of j) t) (A.table_of j t).loops)
@@ -299,3 +287,34 @@ module _ (b idx : List ℕ) (x : PlanIndexed b idx) (n : ℕ) where
 
   pub capacity_count : n ≡ le 4 b (get_or idx 1189 0) → n ≡ length (job_of b).layout.capacity
   capacity_count e = count_of b _ n (get_or idx 1189 0) (get_or idx 1189 0) _ _ e refl x.capacity
+
+pub decides_eq : (P : Type 0) (a b : ℕ) → (a ≡ b → P) → (P → a ≡ b) → Decides (eqb a b) P
+decides_eq P a b f g = ((λ e. f (eqb-true a b e)), (λ e p. true≢false (sym (eq-eqb a b (g p)) ∙ e)))
+
+-- the counts of the lists that have one entry a loop
+abbrev pub counts_fit : List ℕ → List ℕ → ℕ → List Bool
+counts_fit b idx n = map (λ k. eqb (le 4 b (get_or idx k 0)) n) (1024 ∷ 1057 ∷ 1090 ∷ 1123 ∷ 1156 ∷ [])
+
+module _ (b idx : List ℕ) (x : PlanIndexed b idx) (n : ℕ) (c : n ≡ length (job_of b).spec.loops) where
+  pub lists_right : all_pass (counts_fit b idx n) ≡ true
+      → (length (job_of b).plan ≡ length (job_of b).spec.loops) × (length (job_of b).layout.order ≡ length (job_of b).spec.loops) × (length (job_of b).layout.forced ≡ length (job_of b).spec.loops)
+      × (length (job_of b).layout.group_columns ≡ length (job_of b).spec.loops) × (length (job_of b).layout.depth ≡ length (job_of b).spec.loops)
+  lists_right e = (
+    sym (plan_count b idx x _ refl) ∙ eqb-true _ _ t.0 ∙ c,
+    sym (order_count b idx x _ refl) ∙ eqb-true _ _ t.1.0 ∙ c,
+    sym (forced_count b idx x _ refl) ∙ eqb-true _ _ t.1.1.0 ∙ c,
+    sym (columns_count b idx x _ refl) ∙ eqb-true _ _ t.1.1.1.0 ∙ c,
+    sym (depth_count b idx x _ refl) ∙ eqb-true _ _ t.1.1.1.1.0 ∙ c,
+  )
+    where
+      t : All (λ y. y ≡ true) (counts_fit b idx n)
+      t = tests_all (counts_fit b idx n) e
+
+  pub lists_pass : Entries4 (job_of b) → all_pass (counts_fit b idx n) ≡ true
+  lists_pass E = all_tests (
+      eq-eqb _ _ (plan_count b idx x _ refl ∙ E.plan ∙ sym c)
+      ⨾ eq-eqb _ _ (order_count b idx x _ refl ∙ E.order ∙ sym c)
+      ⨾ eq-eqb _ _ (forced_count b idx x _ refl ∙ E.entries.forced ∙ sym c)
+      ⨾ eq-eqb _ _ (columns_count b idx x _ refl ∙ E.entries.group_columns ∙ sym c)
+      ⨾ eq-eqb _ _ (depth_count b idx x _ refl ∙ E.entries.depth ∙ sym c)
+      ⨾ that_is_all)

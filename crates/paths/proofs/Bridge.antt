@@ -4,6 +4,7 @@ use mathlib.Core.Path.{◌≡◌, refl, ap}
 use mathlib.Core.Bool.{Bool, true, false}
 use mathlib.Core.List.{List}
 use native.Mathlib.Omega.{arith}
+use native.Mathlib.Decide.{dec_lt}
 use Rattle.std.specs.Prelude.{None, Some}
 use lib.ListN.{length, get_or, get_or-eq_default}
 use lib.Dec.{ltb}
@@ -30,9 +31,9 @@ parent_small b w l p e = go (ltb l (length (job_of b).spec.loops)) refl e
         let z : (get_or (job_of b).spec.loops l S.no_loop).parent ≡ None = ap (λ (s : S.Loop). s.parent) (get_or-eq_default (job_of b).spec.loops S.no_loop {n = l} (ltb-false _ _ q)) in
         absurd (let y : ◌≡◌ {A = ℕ} 0 1 = cc in omega arith)
 
-pub table_loop_small : (b : List ℕ) → Passed b → (t k n m : ℕ) → n ≡ length (A.table_of (job_of b) t).loops → k < n → m ≡ get_or (A.table_of (job_of b) t).loops k 0 → m < 32
+pub table_loop_small : (b : List ℕ) → Passed b → (t k m : ℕ) → m ≡ get_or (A.table_of (job_of b) t).loops k 0 → m < 32
 unfolding A.table_of tangled outside_table outside
-table_loop_small b w t k n m c h e = rw e (go (ltb t (length (job_of b).spec.tables)) refl (rw (← c) h))
+table_loop_small b w t k m e = rw e (low (dec_lt k (length (get_or (job_of b).spec.tables t S.no_table).loops)))
   where
     go : (u : Bool) → ltb t (length (job_of b).spec.tables) ≡ u → k < length (get_or (job_of b).spec.tables t S.no_table).loops → get_or (get_or (job_of b).spec.tables t S.no_table).loops k 0 < 32
     go true q i =
@@ -42,3 +43,7 @@ table_loop_small b w t k n m c h e = rw e (go (ltb t (length (job_of b).spec.tab
     go false q i =
         let z : length (get_or (job_of b).spec.tables t S.no_table).loops ≡ 0 = ap (λ (s : S.Table). length s.loops) (get_or-eq_default (job_of b).spec.tables S.no_table {n = t} (ltb-false _ _ q)) in
         absurd (omega (arith, z, i))
+
+    low : Dec (k < length (get_or (job_of b).spec.tables t S.no_table).loops) → get_or (get_or (job_of b).spec.tables t S.no_table).loops k 0 < 32
+    low (yes i) = go (ltb t (length (job_of b).spec.tables)) refl i
+    low (no i) = let z : get_or (get_or (job_of b).spec.tables t S.no_table).loops k 0 ≡ 0 = get_or-eq_default (get_or (job_of b).spec.tables t S.no_table).loops 0 {n = k} (omega (arith, i)) in omega (arith, z)

@@ -1,61 +1,57 @@
--- Tests over numbers and lists as loops make them: a law for each way through the loop.
-use Prim.Native.Nat.{ℕ, ◌+◌, ◌≤◌, ◌<◌}
-use mathlib.Core.Path.{◌≡◌, refl, sym, ap, ◌∙◌}
-use mathlib.Core.Bool.{Bool, true, false, not, ◌&&◌}
+-- Tests over the places of a list, and how many pass, as tests over the list.
+use Prim.Native.Nat.{ℕ, zero, suc, ◌+◌}
+use mathlib.Core.Path.{◌≡◌, refl, ap, ◌∙◌}
+use mathlib.Core.Bool.{Bool, true, false, ◌&&◌}
 use mathlib.Core.List.{List, [], ◌∷◌, map}
 use native.Mathlib.Omega.{arith}
-use lib.ListN.{length, get_or, drop, drop_of_length-le}
+use lib.ListN.{length, get_or}
 use lib.Dec.{eqb, ltb}
-use borrow.Author.Tests.{not-true, not-false, lt-ltb, eq-eqb, ne_eqb}
 use Rattle.nest.specs.Lists.{once, sum, times}
 use Rattle.nest.specs.Outline as O
 use Rattle.nest.specs.OfJob.{item_in}
-use Rattle.nest.proofs.Scan.{drop_next, sum_at, sum_past}
 use Rattle.format.specs.Layout.{Item, segment_item, loop_item}
-use Rattle.walk.specs.Check.{each_of}
-use Rattle.paths.specs.Tests.{same_item, segment_below}
+use Rattle.walk.specs.Check.{each_of, each_below, how_many}
+use Rattle.paths.specs.Tests.{same, same_item, segment_below}
 
--- ---- a sum over a list, from place i on
-
-pub record Summing {A : Type 0} (f : A → ℕ) (xs : List A) (i seen : ℕ) : Type 0 where
-  pub few : seen ≤ i
-  pub rest : seen + sum f (drop i xs) ≡ sum f xs
-
-module _ {A : Type 0} (f : A → ℕ) (xs : List A) where
-  pub sum_start : Summing f xs 0 0
-  sum_start = record { few = omega arith; rest = omega arith }
-
-  pub sum_on : (d : A) (i n seen x : ℕ) (y : A) → Summing f xs i seen → n ≡ length xs → i < n → x ≡ f y → y ≡ get_or xs i d → x ≤ 1 → Summing f xs (i + 1) (seen + x)
-  sum_on d i n seen x y s c h e g q = record { few = omega (arith, s.few); rest = omega (arith, s.rest, sum_at f xs i d (omega (arith, c, h)), e ∙ ap f g) }
-
-  pub sum_done : (i n seen : ℕ) → Summing f xs i seen → n ≡ length xs → n ≤ i → seen ≡ sum f xs
-  sum_done i n seen s c h = omega (arith, s.rest, sum_past f xs i (omega (arith, c, h)))
-
--- ---- a test of all of a list, from place i on
+-- ---- a test of the places of a list
 
 abbrev pub every : {A : Type 0} → (A → Bool) → List A → Bool
 every p [] = true
 every p (x ∷ xs) = p x && every p xs
 
-module _ {A : Type 0} (p : A → Bool) (xs : List A) (i n : ℕ) (c : n ≡ length xs) where
-  module _ (d : A) (x : Bool) (w : every p xs ≡ every p (drop i xs)) (h : i < n) (e : x ≡ p (get_or xs i d)) where
-    here : every p (drop i xs) ≡ x && every p (drop (i + 1) xs)
-    here = ap (every p) (drop_next xs i d (omega (arith, c, h))) ∙ ap (λ b. b && every p (drop (i + 1) xs)) (sym e)
+swap : (a b c : Bool) → (a && (b && c)) ≡ (b && (a && c))
+swap true b c = refl
+swap false true c = refl
+swap false false c = refl
 
-    pub every_bad : not x ≡ true → false ≡ every p xs
-    every_bad f = sym (w ∙ here ∙ ap (λ b. b && every p (drop (i + 1) xs)) (not-true x f))
+each_shift : (n : ℕ) (p : ℕ → Bool) → each_below (suc n) p ≡ p 0 && each_below n (λ i. p (suc i))
+each_shift zero p = refl
+each_shift (suc n) p = ap (λ b. p (suc n) && b) (each_shift n p) ∙ swap (p (suc n)) (p 0) (each_below n (λ i. p (suc i)))
 
-    pub every_on : not x ≡ false → every p xs ≡ every p (drop (i + 1) xs)
-    every_on f = w ∙ here ∙ ap (λ b. b && every p (drop (i + 1) xs)) (not-false x f)
+many_shift : (n : ℕ) (p : ℕ → Bool) → how_many (suc n) p ≡ once (p 0) + how_many n (λ i. p (suc i))
+many_shift zero p = refl
+many_shift (suc n) p = omega (arith, many_shift n p)
 
-  pub every_done : every p xs ≡ every p (drop i xs) → n ≤ i → true ≡ every p xs
-  every_done w h = sym (w ∙ ap (every p) (drop_of_length-le xs {i = i} (omega (arith, c, h))))
+module _ {A : Type 0} (p : A → Bool) (d : A) where
+  pub each_place : (xs : List A) → each_below (length xs) (λ i. p (get_or xs i d)) ≡ every p xs
+  each_place [] = refl
+  each_place (x ∷ xs) = each_shift (length xs) (λ i. p (get_or (x ∷ xs) i d)) ∙ ap (λ b. p x && b) (each_place xs)
+
+  pub many_places : (f : A → ℕ) → ((x : A) → once (p x) ≡ f x) → (xs : List A) → how_many (length xs) (λ i. p (get_or xs i d)) ≡ sum f xs
+  many_places f q [] = refl
+  many_places f q (x ∷ xs) = omega (arith, many_shift (length xs) (λ i. p (get_or (x ∷ xs) i d)), many_places f q xs, q x)
 
 pub each_every : (p : ℕ → Bool) (xs : List ℕ) → each_of xs p ≡ every p xs
 each_every p [] = refl
 each_every p (x ∷ xs) = ap (λ b. p x && b) (each_every p xs)
 
 -- ---- items of an order
+
+pub same_once : (x v : Item) → once (same x v) ≡ same_item x v
+same_once (segment_item i) (segment_item k) = refl
+same_once (segment_item i) (loop_item l) = refl
+same_once (loop_item l) (segment_item k) = refl
+same_once (loop_item l) (loop_item k) = refl
 
 pub loop_times : (k : ℕ) (xs : List Item) → times k (O.item_loops (map item_in xs)) ≡ sum (same_item (loop_item k)) xs
 loop_times k [] = refl
@@ -71,23 +67,3 @@ pub segments_below : (n : ℕ) (xs : List Item) → each_of (O.item_segments (ma
 segments_below n [] = refl
 segments_below n (segment_item i ∷ xs) = ap (λ b. ltb i n && b) (segments_below n xs)
 segments_below n (loop_item l ∷ xs) = segments_below n xs
-
--- ---- whether a number stands in a list
-
-abbrev pub unlike : ℕ → ℕ → Bool
-unlike k x = not (eqb x k)
-
-pub some_times : (k : ℕ) (xs : List ℕ) → ltb 0 (times k xs) ≡ not (every (unlike k) xs)
-some_times k [] = refl
-some_times k (x ∷ xs) = go (eqb x k) (times k xs) (every (unlike k) xs) (some_times k xs)
-  where
-    go : (b : Bool) (n : ℕ) (v : Bool) → ltb 0 n ≡ not v → ltb 0 (once b + n) ≡ not (not b && v)
-    go true n v e = lt-ltb 0 (1 + n) (omega arith)
-    go false n v e = let z : 0 + n ≡ n = omega arith in rw z e
-
-module _ (k : ℕ) (xs : List ℕ) (i n v : ℕ) (c : n ≡ length xs) (w : every (unlike k) xs ≡ every (unlike k) (drop i xs)) (h : i < n) (e : v ≡ get_or xs i 0) where
-  pub met : v ≡ k → false ≡ every (unlike k) xs
-  met q = every_bad (unlike k) xs i n c 0 (unlike k v) w h (ap (unlike k) e) (rw (eq-eqb v k q))
-
-  pub unmet : (v ≡ k → ⊥) → every (unlike k) xs ≡ every (unlike k) (drop (i + 1) xs)
-  unmet q = every_on (unlike k) xs i n c 0 (unlike k v) w h (ap (unlike k) e) (rw (ne_eqb v k q))

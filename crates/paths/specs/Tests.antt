@@ -14,6 +14,13 @@ same_item (segment_item i) (loop_item l) = 0
 same_item (loop_item l) (segment_item k) = 0
 same_item (loop_item l) (loop_item k) = once (eqb k l)
 
+-- two items are the same
+abbrev pub same : Item → Item → Bool
+same (segment_item i) (segment_item k) = eqb k i
+same (segment_item i) (loop_item l) = false
+same (loop_item l) (segment_item k) = false
+same (loop_item l) (loop_item k) = eqb k l
+
 -- an item names no segment from n on
 abbrev pub segment_below : ℕ → Item → Bool
 segment_below n (segment_item i) = ltb i n

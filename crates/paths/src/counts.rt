@@ -1,13 +1,14 @@
 // Counts and kinds.
 ghost use Rattle.std.specs.Prelude.{◌≡◌, ◌≤◌, ◌<◌, length, true, false};
 ghost use Rattle.plan.specs.Answers.{instances_of, source_of};
-ghost use Rattle.nest.specs.Lists.{is, once as onceOf, on};
+ghost use Rattle.nest.specs.Lists.{is, on};
 ghost use Rattle.nest.specs.Outline.{kind_of, table_parent, plain as plainIn, repeated as repeatedIn, row_table};
 ghost use Rattle.nest.specs.OfJob.{kind_in, source_in};
 ghost use Rattle.walk.specs.Check.{rows_of, named, repeat_table, if_there};
 ghost use Rattle.nest.specs.Job.{outline_by};
 
 use nest::Job;
+use nest::hang::row_table;
 use plan::answers::{Instances, Source};
 use spec::ids::{LoopId, TableId};
 
@@ -21,13 +22,6 @@ pub fn tables(job: Job) -> u32
     ensures { (result ≡ length (outline_by job.entry).tables) × (result ≤ 16) }
 {
     spec::tables::table_count(job.at)
-}
-
-// A test as a number.
-pub fn once(x: bool) -> u32
-    ensures { (result ≡ onceOf x) × (result ≤ 1) }
-{
-    u32::from(x)
 }
 
 // Whether a table of the spec has no repeat segment.
@@ -65,17 +59,14 @@ pub fn kind(job: Job, l: LoopId) -> Instances
 pub fn is_rows(k: Instances, t: TableId) -> bool
     ensures { result ≡ rows_of t.0 (kind_in (instances_of k)) }
 {
-    match k {
-        Instances::Rows(u) => t.0 == u.0,
-        _ => false,
-    }
+    row_table(k) == Some(t.0)
 }
 
 // Whether a loop is a row loop of any table.
 pub fn has_rows(k: Instances) -> bool
     ensures { result ≡ on (row_table (kind_in (instances_of k))) (λ u. true) false }
 {
-    matches!(k, Instances::Rows(_))
+    row_table(k).is_some()
 }
 
 // Whether a segment repeats table t.
@@ -83,7 +74,7 @@ pub fn is_repeat(s: Source, t: TableId) -> bool
     ensures { result ≡ is (repeat_table (source_in (source_of s))) t.0 }
 {
     match s {
-        Source::Repeat(u) => t.0 == u.0,
+        Source::Repeat(u) => t == u,
         _ => false,
     }
 }

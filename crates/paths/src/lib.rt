@@ -1,7 +1,9 @@
 // The plan check, conditions 1 to 4 of document 01.
 #![tactic(auto)]
 
-ghost use Rattle.std.specs.Prelude.{◌≡◌};
+ghost use Rattle.std.specs.Prelude.{◌≡◌, eqb, get_or, [], ◌∷◌};
+ghost use Rattle.std.specs.List.{list_all};
+ghost use Rattle.codec.specs.Codec.{le};
 ghost use Rattle.paths.specs.Tests.{condition1, condition3, condition4};
 ghost use Rattle.paths.specs.Entries.{Entries4, Orders};
 ghost use Rattle.complete.specs.Decides.{Decides};
@@ -12,6 +14,7 @@ use crate::each::{
     tables_planned,
 };
 use nest::Job;
+use plan::index::{CAPACITY, COLUMNS, DEPTH, FORCED, ORDER, PLAN, list_count};
 
 pub mod below;
 pub mod counts;
@@ -20,41 +23,30 @@ pub mod order;
 pub mod repeats;
 pub mod up;
 
+// Whether the lists of plan and layout with one entry a loop have n.
+fn lists_fit(job: Job, n: u32) -> bool
+    ensures { result ≡ list_all (λ k. eqb (le 4 job.entry.at.bytes.now (get_or job.entry.at.index.now k 0)) n) (1024 ∷ 1057 ∷ 1090 ∷ 1123 ∷ 1156 ∷ []) }
+{
+    let lists = [PLAN, ORDER, FORCED, COLUMNS, DEPTH];
+    lists.iter().all(|k| list_count(job.at, *k) == n)
+}
+
 // Whether plan and layout have one entry a loop, capacities and data one a table.
 pub fn entries_fit(job: Job) -> bool
     ensures { Decides result (Entries4 (job_by job.entry)) }
 {
     let n = spec::loops::loop_count(job.at);
-    let plans = plan::index::list_count(job.at, plan::index::PLAN);
-    if plans != n {
-        return false;
-    }
-    let orders = plan::index::list_count(job.at, plan::index::ORDER);
-    if orders != n {
-        return false;
-    }
-    let forced = plan::index::list_count(job.at, plan::index::FORCED);
-    if forced != n {
-        return false;
-    }
-    let columns = plan::index::list_count(job.at, plan::index::COLUMNS);
-    if columns != n {
-        return false;
-    }
-    let depth = plan::index::list_count(job.at, plan::index::DEPTH);
-    if depth != n {
+    let fit = lists_fit(job, n);
+    if !fit {
         return false;
     }
     let all = spec::tables::table_count(job.at);
-    let capacity = plan::index::list_count(job.at, plan::index::CAPACITY);
+    let capacity = list_count(job.at, CAPACITY);
     if capacity != all {
         return false;
     }
     let data = tables::data::data_count(job.at);
-    if data != all {
-        return false;
-    }
-    true
+    data == all
 }
 
 // Condition 1: row loops.

@@ -5,24 +5,20 @@ ghost use Rattle.plan.specs.Answers.{item_of};
 ghost use Rattle.nest.specs.Lists.{sum, times};
 ghost use Rattle.nest.specs.Outline.{loop_of, segment_of, item_segments, order_of as order_in};
 ghost use Rattle.walk.specs.Check.{each_below, planned};
-ghost use Rattle.paths.specs.Tests.{same_item, segment_below, order_right, only_planned};
+ghost use Rattle.paths.specs.Tests.{same, same_item, segment_below, order_right, only_planned};
 ghost use Rattle.nest.specs.Job.{outline_by, job_by};
 
-use crate::below::each;
-use crate::counts::{loops, once};
+use crate::below::{each, how_many};
+use crate::counts::loops;
 use nest::Job;
 use plan::answers::Item;
 use spec::ids::LoopId;
 
-// 1 where two items are the same.
-fn same_item(x: Item, v: Item) -> u32
-    ensures { (result ≡ same_item (item_of x) (item_of v)) × (result ≤ 1) }
+// Whether two items are the same.
+fn same_item(x: Item, v: Item) -> bool
+    ensures { result ≡ same (item_of x) (item_of v) }
 {
-    match (x, v) {
-        (Item::Segment(i), Item::Segment(k)) => once(k == i),
-        (Item::Loop(l), Item::Loop(k)) => once(k.0 == l.0),
-        _ => 0,
-    }
+    v == x
 }
 
 // How often an item stands in the order of a loop.
@@ -31,13 +27,7 @@ fn item_times(job: Job, l: LoopId, x: Item) -> u32
     ensures { result ≡ sum (same_item (item_of x)) (order_of (job_by job.entry) l.0) }
 {
     let n = plan::layout::order_count(job.at, l);
-    let mut seen: u32 = 0;
-    for i in 0..n {
-        let v = plan::layout::item(job.at, l, i);
-        let more = same_item(x, v);
-        seen = seen + more;
-    }
-    seen
+    how_many(n, |i| same_item(x, plan::layout::item(job.at, l, i)))
 }
 
 // How often loop k is a child of loop l.
@@ -45,13 +35,7 @@ fn child_times(job: Job, l: LoopId, k: u32) -> u32
     ensures { result ≡ times k (loop_of (outline_by job.entry) l.0).children }
 {
     let n = spec::loops::child_count(job.at, l);
-    let mut seen: u32 = 0;
-    for i in 0..n {
-        let v = spec::loops::child(job.at, l, i);
-        let more = once(v.0 == k);
-        seen = seen + more;
-    }
-    seen
+    how_many(n, |i| spec::loops::child(job.at, l, i).0 == k)
 }
 
 // Whether the order of loop l names loop k as often as it is a child.
@@ -97,14 +81,7 @@ pub fn only_planned(job: Job, l: LoopId) -> bool
 {
     let most = plan::planned::planned_count(job.at, l);
     let n = plan::layout::order_count(job.at, l);
-    for i in 0..n {
-        let v = plan::layout::item(job.at, l, i);
-        let below = segment_below(v, most);
-        if !below {
-            return false;
-        }
-    }
-    true
+    each(n, |i| segment_below(plan::layout::item(job.at, l, i), most))
 }
 
 // Whether the spec has the occurrence that planned segment i of loop l names.

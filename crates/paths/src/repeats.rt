@@ -8,7 +8,7 @@ ghost use Rattle.walk.specs.Check.{each_of, rows_of, repeat_table, if_there};
 ghost use Rattle.paths.specs.Tests.{row_loops, repeats_in, anchors_in, planned_once};
 ghost use Rattle.nest.specs.Job.{outline_by};
 
-use crate::below::how_many;
+use crate::below::{each, how_many};
 use crate::counts::{has_rows, is_repeat, is_rows, kind, loops, plain, repeated};
 use nest::Job;
 use plan::answers::Source;
@@ -74,14 +74,10 @@ fn all_planned(job: Job, t: TableId) -> bool
     ensures { result ≡ each_of (table_of (outline_by job.entry) t.0).loops (planned_once (outline_by job.entry) t.0) }
 {
     let n = spec::tables::table_loop_count(job.at, t);
-    for i in 0..n {
-        let l = spec::tables::table_loop(job.at, t, i);
-        let right = planned_once(job, t, l);
-        if !right {
-            return false;
-        }
-    }
-    true
+    each(
+        n,
+        |i| planned_once(job, t, spec::tables::table_loop(job.at, t, i)),
+    )
 }
 
 // Whether each row loop that anchors a repeat table plans one repeat segment of it.
@@ -100,13 +96,8 @@ fn lists(job: Job, l: LoopId, t: TableId) -> bool
     ensures { result ≡ ltb 0 (times l.0 (table_of (outline_by job.entry) t.0).loops) }
 {
     let n = spec::tables::table_loop_count(job.at, t);
-    for i in 0..n {
-        let k = spec::tables::table_loop(job.at, t, i);
-        if k.0 == l.0 {
-            return true;
-        }
-    }
-    false
+    let seen = how_many(n, |i| spec::tables::table_loop(job.at, t, i) == l);
+    0 < seen
 }
 
 fn anchors(job: Job, l: LoopId, t: TableId) -> bool

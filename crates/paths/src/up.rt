@@ -25,11 +25,7 @@ pub enum Up {
 fn parent_is(job: Job, w: TableId, v: TableId) -> bool
     ensures { result ≡ is (table_parent (outline_by job.entry) w.0) v.0 }
 {
-    let parent = spec::tables::table_parent(job.at, w);
-    match parent {
-        Some(u) => v.0 == u,
-        None => false,
-    }
+    spec::tables::table_parent(job.at, w) == Some(v.0)
 }
 
 // Above a loop without parent: well where the table has none either.
@@ -56,7 +52,7 @@ fn past_rows(job: Job, p: LoopId, w: TableId, v: TableId) -> Up
 fn past_groups(p: LoopId, w: TableId, v: TableId) -> Up
     ensures { (j : Outline) (h : ℕ) → eqb v.0 w.0 && fitsIn j h p.0 w.0 ≡ outcome j h result }
 {
-    if v.0 == w.0 {
+    if v == w {
         return Up::On(p.0, w.0);
     }
     Up::No

@@ -17,11 +17,11 @@ use Rattle.format.specs.Plan.{Source, from_envelope, from_row, from_repeat, sour
 use Rattle.format.specs.Fields.{source_tag, is_from_row, is_from_repeat, value_tag, is_from_group}
 use Rattle.complete.specs.Complete.{step_in}
 use Rattle.segment.specs.Parts.{rank}
-use Rattle.says.specs.Says.{Says, SaysRest, SaysBefore}
+use Rattle.says.specs.Says.{Says, SaysRest, SaysBefore, any_before}
 use Rattle.says.proofs.Walk.{number_is, both, only}
 use Rattle.codes.proofs.Reading.{there, behind, within}
 use Rattle.places.specs.declared.spots.Spot.{Spot}
-use Rattle.places.specs.Spots.{wrong_spot, wrong_spot_of, clash, clash_of, kind_of, meet, misplaced, mixed, pairs, reach_of, room_in, spot_of, wrong_segment, wrong_spots}
+use Rattle.places.specs.Spots.{wrong_spot, wrong_spot_of, clash, clash_of, fails, kind_of, meet, misplaced, mixed, pairs, reach_of, room_in, spot_of, wrong_segment, wrong_spots}
 
 module _ (b : List ℕ) (e at t room : ℕ) (h : t ≡ tag_at b at e) where
   pub reach_group : t ≡ 1 → Says value_c b e at (reach_of room) room
@@ -50,25 +50,14 @@ module _ (b : List ℕ) (e at t : ℕ) (h : t ≡ tag_at b at e) where
 pub spot_is : (room : ℕ) (v : ElementPlan) (n k r : ℕ) → n ≡ v.element → k ≡ rank v.component → r ≡ reach_of room v.value → record { element = n; rank = k; reach = r } ≡ spot_of room v
 spot_is room v n k r h i j = rw (h, i, j)
 
-pub any_step : {A : Type 0} (f : A → Bool) (y : A) (ys : List A) → any_of f (y ∷ ys) ≡ pick (f y) true (any_of f ys)
-unfolding any_of
-any_step f y ys = refl
+pairs_before : {A : Type 0} (u : A → Bool) (f : A → A → Bool) (es : List A) → any_before (λ ys y. pick (u y) true (any_of (f y) ys)) es ≡ pairs u f es
+unfolding any_before pairs
+pairs_before u f [] = refl
+pairs_before u f (x ∷ es) = rw (pairs_before u f es)
 
-pub any_nil : {A : Type 0} (f : A → Bool) → any_of f [] ≡ false
-unfolding any_of
-any_nil f = refl
-
--- the place at p fails by itself or with one of those behind it
-abbrev pub fails : ℕ → ℕ → ℕ → List ElementPlan → ElementPlan → Bool
-fails kind step room ys y = pick (wrong_spot_of step room y) true (any_of (clash_of kind step room y) ys)
-
-pub spots_step : (kind step room : ℕ) (y : ElementPlan) (ys : List ElementPlan) → wrong_spots kind step room (y ∷ ys) ≡ pick (fails kind step room ys y) true (wrong_spots kind step room ys)
-unfolding wrong_spots pairs
-spots_step kind step room y ys = refl
-
-pub spots_nil : (kind step room : ℕ) → wrong_spots kind step room [] ≡ false
-unfolding wrong_spots pairs
-spots_nil kind step room = refl
+pub spots_fail : (kind step room : ℕ) (es : List ElementPlan) → any_before (fails kind step room) es ≡ wrong_spots kind step room es
+unfolding wrong_spots
+spots_fail kind step room es = pairs_before (wrong_spot_of step room) (clash_of kind step room) es
 
 pub spots_before : (b : List ℕ) (e p m q kind step room : ℕ) (x : Spot) (a c r : Bool) → Says element_plan_c b e p (spot_of room) x → a ≡ wrong_spot step x
     → SaysRest element_plan_c b e m q (any_of (λ (v : ElementPlan). clash kind step x (spot_of room v))) c → r ≡ pick a true c → SaysBefore element_plan_c b e p m q (fails kind step room) r

@@ -69,6 +69,10 @@ wrong_spot_of step room e = wrong_spot step (spot_of room e)
 abbrev pub clash_of : ℕ → ℕ → ℕ → ElementPlan → ElementPlan → Bool
 clash_of kind step room a b = clash kind step (spot_of room a) (spot_of room b)
 
+-- an element fails by itself or with one of those behind it
+abbrev pub fails : ℕ → ℕ → ℕ → List ElementPlan → ElementPlan → Bool
+fails kind step room ys y = pick (wrong_spot_of step room y) true (any_of (clash_of kind step room y) ys)
+
 unfoldable pub wrong_spots : ℕ → ℕ → ℕ → List ElementPlan → Bool
 wrong_spots kind step room es = pairs (wrong_spot_of step room) (clash_of kind step room) es
 

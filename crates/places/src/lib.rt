@@ -12,8 +12,9 @@ ghost use Rattle.places.specs.Fits.{Fits5, SegmentsFit};
 ghost use Rattle.nest.specs.Job.{job_by};
 
 use codec::Section;
-use codes::{codes_clear, maps_fit, rules_fit, start};
+use codes::{codes_clear, maps_fit, rules_fit};
 use nest::Job;
+use spec::read::start;
 
 fn both(x: bool, y: bool) -> bool
     ensures { result ≡ pick x y false }

@@ -9,8 +9,8 @@ ghost use Rattle.format.specs.Ask.{capacity_of, step_of};
 ghost use Rattle.segment.specs.Parts.{rank};
 ghost use Rattle.spec.specs.Index.{SpecIndexed};
 ghost use Rattle.plan.specs.Index.{PlanIndexed};
-ghost use Rattle.says.specs.Says.{Says, SaysRest};
-ghost use Rattle.places.specs.Spots.{wrong_spot, clash, front, hits, meet, misplaced, mixed, reach_of, spot_of, wrong_plan, wrong_segment, wrong_spots};
+ghost use Rattle.says.specs.Says.{Says, SaysBefore};
+ghost use Rattle.places.specs.Spots.{wrong_spot, clash, fails, front, hits, meet, misplaced, mixed, reach_of, spot_of, wrong_plan, wrong_segment, wrong_spots};
 
 use crate::both;
 use codec::{Form, Section};
@@ -156,44 +156,37 @@ fn clashes_at(s: Section, at: usize, kind: u8, step: usize, room: usize, x: Spot
     clashes(kind, step, x, y)
 }
 
-// Whether x clashes with one of the rest.
-fn clash_behind(
+// Whether a place is wrong by itself or with one of the rest behind it, from next on.
+fn spot_fails(
     s: Section,
     at: usize,
     rest: usize,
+    next: usize,
     kind: u8,
     step: usize,
     room: usize,
-    x: Spot,
 ) -> bool
-    ensures { SaysRest element_plan_c s.entry.bytes.now s.entry.end rest at (any_of (λ (e : ElementPlan). clash kind step x (spot_of room e))) result }
+    ensures { SaysBefore element_plan_c s.entry.bytes.now s.entry.end at rest next (fails kind step room) result }
 {
-    let mut p = at;
-    for _i in 0..rest {
-        if clashes_at(s, p, kind, step, room, x) {
-            return true;
-        }
-        p = format::ElementPlan::ends_at(s, p);
-    }
-    false
+    let x = spot_at(s, at, room);
+    let a = spot_wrong(step, x);
+    let c = says::lists::any_rest::<format::ElementPlan, _>(
+        s,
+        next,
+        rest,
+        |p| clashes_at(s, p, kind, step, room, x),
+    );
+    codec::either(a, c)
 }
 
 fn spots_wrong(s: Section, at: usize, kind: u8, step: usize, room: usize) -> bool
     ensures { Says (list_c element_plan_c) s.entry.bytes.now s.entry.end at (wrong_spots kind step room) result }
 {
-    let n = s.count_at(at);
-    let mut p = s.le_at(4, at);
-    for i in 0..n {
-        let x = spot_at(s, p, room);
-        let q = format::ElementPlan::ends_at(s, p);
-        let a = spot_wrong(step, x);
-        let c = clash_behind(s, q, n - i - 1, kind, step, room, x);
-        if codec::either(a, c) {
-            return true;
-        }
-        p = q;
-    }
-    false
+    says::lists::any_before::<format::ElementPlan, _>(
+        s,
+        at,
+        |p, rest, next| spot_fails(s, p, rest, next, kind, step, room),
+    )
 }
 
 fn at_least_1(n: u32) -> usize

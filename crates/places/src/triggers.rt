@@ -17,7 +17,7 @@ ghost use Rattle.nest.specs.Job.{job_by};
 use crate::both;
 use codec::forms::{Le, NumMap};
 use codec::{Form, Section};
-use format::{Component, Element, Instances, Kind, LoopPlan, SegmentPlan, Source};
+use format::{Component, Element, Instances, LoopPlan, SegmentPlan, Source};
 use nest::Job;
 use spec::Indexed;
 use spec::ids::{ControlRule, LoopId};
@@ -61,9 +61,7 @@ fn element_gives(s: Section, at: usize, t: Trigger) -> bool
     let depth = t.depth;
     let repeated = t.repetition;
     let value = s.le_at(4, at);
-    let kind = Kind::ends_at(s, value);
-    let min = s.opt_num_at(kind);
-    let max = s.opt_num_at(min);
+    let max = format::sizes_end(s, value);
     let codes = NumMap::<Component>::ends_at(s, max);
     let n = s.count_at(at);
     let m = s.count_at(codes);
@@ -94,9 +92,7 @@ fn crowded_at(s: Section, at: usize, own: usize, plan: Section) -> bool
     ensures { (es : List ElementPlan) → Is (list_c element_plan_c) plan.entry.bytes.now plan.entry.end own es → Says (num_c ⊗ element_c) s.entry.bytes.now s.entry.end at (crowded es) result }
 {
     let value = s.le_at(4, at);
-    let kind = Kind::ends_at(s, value);
-    let min = s.opt_num_at(kind);
-    let max = s.opt_num_at(min);
+    let max = format::sizes_end(s, value);
     let m = s.count_at(max);
     let n = s.count_at(at);
     let x = parts_at(plan, own, n);
@@ -218,13 +214,9 @@ pub fn loops_wrong(s: Section, index: &[u16], at: usize) -> bool
     requires { Ready s.bytes.now index.now × (count_at s.bytes.now at s.end ≤ 32) }
     ensures { Says (list_c loop_plan_c) s.entry.bytes.now s.entry.end at (any_from (wrong_loop_at (job_of s.entry.bytes.now)) 0) result }
 {
-    let n = s.count_at(at) as u32;
-    let mut p = s.le_at(4, at);
-    for k in 0..n {
-        if loop_wrong(s, index, p, LoopId(k)) {
-            return true;
-        }
-        p = LoopPlan::ends_at(s, p);
-    }
-    false
+    says::lists::any_numbered::<LoopPlan, _>(
+        s,
+        at,
+        |k, p| loop_wrong(s, index, p, LoopId(k as u32)),
+    )
 }

@@ -4,21 +4,22 @@ use mathlib.Core.Path.{◌≡◌, refl, sym, ap, subst, ◌∙◌}
 use mathlib.Core.List.{List, []}
 use mathlib.Core.Bool.{Bool, true, false}
 use native.Mathlib.Omega.{arith}
-use Rattle.std.specs.Prelude.{Option, None, Some}
+use Rattle.std.specs.Prelude.{Option, None, Some, unwrap_or}
 use lib.ListN.{length, get_or, get_or-eq_default}
 use lib.Dec.{leb, ltb, eqb}
 use borrow.Author.Tests.{le-leb, lt-leb, le-ltb, lt-ltb, leb-true, leb-false, ltb-true, ltb-false}
 use Rattle.codec.specs.Codec.{Codec, le, list_c}
-use Rattle.codec.specs.Skip.{skip, Is}
+use Rattle.codec.specs.Skip.{Is}
 use Rattle.codec.specs.Forms.{num_c, opt_c, flag_c}
-use Rattle.codec.specs.Field.{is_at, is_list, is_none, is_some, count_of}
-use Rattle.format.specs.Plan.{LoopPlan, no_loop_plan, loop_plan_c, SegmentPlan, no_segment_plan, segment_plan_c, source_c, element_plan_c}
+use Rattle.codec.specs.Field.{is_at, is_list, count_of}
+use Rattle.format.specs.Plan.{LoopPlan, no_loop_plan, loop_plan_c, SegmentPlan, no_segment_plan, segment_plan_c, element_plan_c}
 use Rattle.format.specs.Layout.{item_c}
 use Rattle.format.specs.Sections.{job_of, layout_start, envelope_start}
-use Rattle.format.specs.Fields.{LoopPlanIs, is_loop_plan, SegmentPlanIs, is_segment_plan}
+use Rattle.format.specs.Fields.{LoopPlanIs, is_loop_plan}
 use Rattle.format.specs.Ask.{on, plan_of, planned_of, order_of, forced_of, group_columns_of, depth_of, capacity_of}
 use Rattle.plan.specs.Answers.{no_item}
 use Rattle.spec.specs.Region.{Listed}
+use Rattle.spec.specs.Reads.{Reads, stands}
 use Rattle.plan.specs.Index.{PlanIndexed, segments_at, inner_count}
 use Rattle.plan.specs.Elements.{run_none}
 use Rattle.plan.specs.declared.answers.Planned.{Planned}
@@ -103,15 +104,6 @@ module _ (b idx : List ℕ) (x : PlanIndexed b idx) where
           go true r = is_at segment_plan_c b (layout_start b) p _ _ q ((x.segments l (ltb-true _ _ r) o).item i no_segment_plan (rw h at m) (omega (arith, x.few l)))
           go false r = absurd (let z : length (plan_of (job_of b) l).segments ≡ 0 = ap (λ (s : LoopPlan). length s.segments) (get_or-eq_default (job_of b).plan no_loop_plan {n = l} (ltb-false _ _ r)) in omega arith)
 
-      pub occurrence_is : (r : ℕ) → r ≡ le 4 b p → r ≡ (planned_of (job_of b) l i).occurrence
-      occurrence_is r s = number_is b (layout_start b) p r _ s (is_segment_plan b (layout_start b) p _ planned_is).occurrence
-
-      pub source_is : Is source_c b (layout_start b) (p + 4) (planned_of (job_of b) l i).source
-      source_is =
-          let f : SegmentPlanIs b (layout_start b) p (planned_of (job_of b) l i) = is_segment_plan b (layout_start b) p _ planned_is in
-          let s : skip num_c b p (layout_start b) ≡ p + 4 = wide_number b (layout_start b) p _ f.occurrence in
-          rw s at f.source
-
   -- ---- the layout
   module _ (l : ℕ) (m : l < 32) where
     pub order_count : (n : ℕ) → n ≡ inner_count b idx 1057 l → n ≡ length (order_of (job_of b) l)
@@ -143,40 +135,28 @@ module _ (b idx : List ℕ) (x : PlanIndexed b idx) where
     unfolding group_columns_of
     column_count n h = h ∙ inner_count_lem num_c b (envelope_start b) idx 1123 _ x.columns l m
 
-    pub column_lacks : (k n : ℕ) → n ≡ length (group_columns_of (job_of b) l) → n ≤ k → 0 ≡ get_or (group_columns_of (job_of b) l) k 0
-    column_lacks k n h q = past (group_columns_of (job_of b) l) 0 k n h q
-
-    pub column_is : (k n p r : ℕ) → n ≡ length (group_columns_of (job_of b) l) → k < n → p ≡ get_or idx (1124 + l) 0 → r ≡ le 4 b (p + 4 + k * 4) → r ≡ get_or (group_columns_of (job_of b) l) k 0
+    pub column_lacks : (k : ℕ) → le 4 b (get_or idx 1123 0) ≤ l → 0 ≡ get_or (group_columns_of (job_of b) l) k 0
     unfolding group_columns_of
-    column_is k n p r h q i s = number_is b (envelope_start b) (p + 4 + k * 4) r _ s (wide_item num_c 4 b (envelope_start b) p _ k 0 (wide_number b (envelope_start b)) (inner_is num_c b (envelope_start b) idx 1123 _ x.columns l m k p (rw h at q) i) (rw h at q))
+    column_lacks k q = rw (get_or-eq_default (job_of b).layout.group_columns [] {n = l} (rw (← count_of b (envelope_start b) _ _ _ (list_c num_c) (job_of b).layout.group_columns refl refl x.columns.list) q)) refl
 
-    module _ (p n : ℕ) (h : p ≡ get_or idx 1156 0) (i : n ≡ le 4 b p) where
-      depth_count : n ≡ length (job_of b).layout.depth
-      depth_count = count_of b (envelope_start b) n p (get_or idx 1156 0) (opt_c num_c) (job_of b).layout.depth i h x.depth.list
+    pub column_is : (p : ℕ) → l < le 4 b (get_or idx 1123 0) → p ≡ get_or idx (1124 + l) 0 → Reads (list_c num_c) b (envelope_start b) p [] (group_columns_of (job_of b) l)
+    unfolding group_columns_of
+    column_is p q i = stands x.layout_end (is_at (list_c num_c) b (envelope_start b) p _ _ i (x.columns.item l [] (rw (← count_of b (envelope_start b) _ _ _ (list_c num_c) (job_of b).layout.group_columns refl refl x.columns.list) q) m))
 
-      pub depth_lacks : n ≤ l → 0 ≡ depth_of (job_of b) l
-      unfolding depth_of
-      depth_lacks q = rw (get_or-eq_default (job_of b).layout.depth None {n = l} (rw (← depth_count) q))
+    depth_count : le 4 b (get_or idx 1156 0) ≡ length (job_of b).layout.depth
+    depth_count = count_of b (envelope_start b) _ _ _ (opt_c num_c) (job_of b).layout.depth refl refl x.depth.list
 
-      module _ (q t : ℕ) (o : l < n) (j : q ≡ get_or idx (1157 + l) 0) (k : t ≡ get_or b q 0) where
-        depth_there : Is (opt_c num_c) b (envelope_start b) q (get_or (job_of b).layout.depth l None)
-        depth_there = is_at (opt_c num_c) b (envelope_start b) q _ _ j (x.depth.item l None (rw (← depth_count) o) m)
+    pub depth_lacks : le 4 b (get_or idx 1156 0) ≤ l → 0 ≡ depth_of (job_of b) l
+    unfolding depth_of
+    depth_lacks q = rw (get_or-eq_default (job_of b).layout.depth None {n = l} (rw (← depth_count) q))
 
-        pub depth_none : t ≡ 0 → 0 ≡ depth_of (job_of b) l
-        unfolding depth_of
-        depth_none z = go (get_or (job_of b).layout.depth l None) depth_there
-          where
-            go : (d : Option ℕ) → Is (opt_c num_c) b (envelope_start b) q d → 0 ≡ on d (λ c. c) 0
-            go None s = refl
-            go (Some c) s = absurd (omega (arith, (is_some num_c b (envelope_start b) q c s).0))
-
-        pub depth_some : (t ≡ 0 → ⊥) → (r : ℕ) → r ≡ le 4 b (q + 1) → r ≡ depth_of (job_of b) l
-        unfolding depth_of
-        depth_some z r w = go (get_or (job_of b).layout.depth l None) depth_there
-          where
-            go : (d : Option ℕ) → Is (opt_c num_c) b (envelope_start b) q d → r ≡ on d (λ c. c) 0
-            go None s = absurd (z (k ∙ is_none num_c b (envelope_start b) q s))
-            go (Some c) s = number_is b (envelope_start b) (q + 1) r c w (is_some num_c b (envelope_start b) q c s).1
+    pub depth_is : (p : ℕ) → l < le 4 b (get_or idx 1156 0) → p ≡ get_or idx (1157 + l) 0 → (r : Option ℕ) → (Reads (opt_c num_c) b (envelope_start b) p None (get_or (job_of b).layout.depth l None) → r ≡ get_or (job_of b).layout.depth l None) → unwrap_or r 0 ≡ depth_of (job_of b) l
+    unfolding depth_of
+    depth_is p q i r f = rw (f (stands x.layout_end (is_at (opt_c num_c) b (envelope_start b) p _ _ i (x.depth.item l None (rw (← depth_count) q) m)))) (either (get_or (job_of b).layout.depth l None))
+      where
+        either : (d : Option ℕ) → unwrap_or d 0 ≡ on d (λ c. c) 0
+        either None = refl
+        either (Some c) = refl
 
   module _ (t p n : ℕ) (h : p ≡ get_or idx 1189 0) (i : n ≡ le 4 b p) where
     capacity_count : n ≡ length (job_of b).layout.capacity

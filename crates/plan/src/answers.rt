@@ -57,7 +57,7 @@ pub struct Order {
 }
 
 // An item of an order: a planned segment of the loop, or a child loop.
-#[derive(Clone, Copy)]
+#[derive(Clone, Copy, PartialEq, Eq)]
 pub enum Item {
     Segment(u32),
     Loop(LoopId),

@@ -9,6 +9,7 @@ use codec::forms::{Flag, Items, Le, Les, Opt};
 use codec::{Form, Section};
 use format::{Instances, Item, LoopPlan, SegmentPlan};
 use spec::Indexed;
+use spec::read::start;
 use spec::region::list_into;
 
 // Where the 33 numbers of each list begin:
@@ -66,25 +67,24 @@ pub fn fill(job: &[u8], index: &mut [u16])
     requires { Passed job.now }
     ensures { PlanFilled job.now index.old index.new }
 {
-    let t = job.len() - 24;
-    let plan = codec::num(job, t + 4);
-    let layout = codec::num(job, t + 8);
-    let envelope = codec::num(job, t + 12);
+    let plan = start(job, 4);
+    let layout = start(job, 8);
+    let envelope = start(job, 12);
     plan_into(
         Section {
             bytes: job,
-            end: layout as u32,
+            end: layout,
         },
         index,
-        plan,
+        plan as usize,
     );
     layout_into(
         Section {
             bytes: job,
-            end: envelope as u32,
+            end: envelope,
         },
         index,
-        layout,
+        layout as usize,
     );
 }
 

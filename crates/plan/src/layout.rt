@@ -11,6 +11,8 @@ use crate::index::{CAPACITY, COLUMNS, DEPTH, FORCED, ORDER};
 use crate::read;
 use spec::Indexed;
 use spec::ids::{LoopId, TableId};
+use spec::read::{item_at, number_at};
+use spec::region::item_place;
 
 // How many items the order of a loop has.
 pub fn order_count(job: Indexed, l: LoopId) -> u32
@@ -80,12 +82,10 @@ pub fn group_column(job: Indexed, l: LoopId, k: u32) -> u32
     requires { PlanIndexed job.bytes.now job.index.now × (l.0 < 32) }
     ensures { result ≡ get_or (group_columns_of (job_of job.entry.bytes.now) l.0) k 0 }
 {
-    let n = group_column_count(job, l);
-    if n <= k {
-        return 0;
+    match item_place(job, COLUMNS, l.0) {
+        None => 0,
+        Some(p) => item_at(job.bytes, p, k),
     }
-    let p = codec::place(job.index, COLUMNS + 1 + l.0 as usize);
-    codec::num(job.bytes, p + 4 + k as usize * 4) as u32
 }
 
 // The depth of a loop among the envelope loops; 0 where it has none.
@@ -93,18 +93,10 @@ pub fn depth(job: Indexed, l: LoopId) -> u32
     requires { PlanIndexed job.bytes.now job.index.now × (l.0 < 32) }
     ensures { result ≡ depth_of (job_of job.entry.bytes.now) l.0 }
 {
-    let i = l.0 as usize;
-    let list = codec::place(job.index, DEPTH);
-    let n = codec::num(job.bytes, list);
-    if n <= i {
-        return 0;
+    match item_place(job, DEPTH, l.0) {
+        None => 0,
+        Some(p) => number_at(job.bytes, p).unwrap_or(0),
     }
-    let p = codec::place(job.index, DEPTH + 1 + i);
-    let mark = codec::byte_at(job.bytes, p);
-    if mark == 0 {
-        return 0;
-    }
-    codec::num(job.bytes, p + 1) as u32
 }
 
 // How many rows a repeat segment of a table takes; 1 where the layout lacks the table.

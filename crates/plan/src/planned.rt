@@ -11,20 +11,17 @@ use crate::index::{PLAN, SEGMENTS};
 use crate::read;
 use spec::Indexed;
 use spec::ids::LoopId;
+use spec::region::item_place;
 
 // Where the instances of a loop come from; Absent where the plan lacks the loop.
 pub fn instances(job: Indexed, l: LoopId) -> Instances
     requires { PlanIndexed job.bytes.now job.index.now × (l.0 < 32) }
     ensures { instances_of result ≡ (plan_of (job_of job.entry.bytes.now) l.0).instances }
 {
-    let i = l.0 as usize;
-    let list = codec::place(job.index, PLAN);
-    let n = codec::num(job.bytes, list);
-    if n <= i {
-        return Instances::Absent;
+    match item_place(job, PLAN, l.0) {
+        None => Instances::Absent,
+        Some(p) => read::instances_at(job.bytes, p),
     }
-    let p = codec::place(job.index, PLAN + 1 + i);
-    read::instances_at(job.bytes, p)
 }
 
 // How many segments are planned for a loop.
@@ -47,12 +44,7 @@ pub fn source(job: Indexed, l: LoopId, i: u32) -> Source
     requires { PlanIndexed job.bytes.now job.index.now × (l.0 < 32) }
     ensures { source_of result ≡ (planned_of (job_of job.entry.bytes.now) l.0 i).source }
 {
-    let n = planned_count(job, l);
-    if n <= i {
-        return Source::Envelope;
-    }
-    let p = codec::place(job.index, SEGMENTS + l.0 as usize * 33 + 1 + i as usize);
-    read::source_at(job.bytes, p + 4)
+    segment(job, l, i).source
 }
 
 // Which occurrence of its loop planned segment i is.
@@ -60,12 +52,7 @@ pub fn occurrence_of(job: Indexed, l: LoopId, i: u32) -> u32
     requires { PlanIndexed job.bytes.now job.index.now × (l.0 < 32) }
     ensures { result ≡ (planned_of (job_of job.entry.bytes.now) l.0 i).occurrence }
 {
-    let n = planned_count(job, l);
-    if n <= i {
-        return 0;
-    }
-    let p = codec::place(job.index, SEGMENTS + l.0 as usize * 33 + 1 + i as usize);
-    codec::num(job.bytes, p) as u32
+    segment(job, l, i).occurrence
 }
 
 // Planned segment i of a loop.

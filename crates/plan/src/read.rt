@@ -1,15 +1,16 @@
 // What stands at a place, read there: each answer is that of whatever structure stands there.
 ghost use Rattle.std.specs.Prelude.{◌≡◌, ℕ, ◌+◌, ◌≤◌, ◌<◌, length};
 ghost use Rattle.codec.specs.Skip.{Is};
-ghost use Rattle.format.specs.Plan.{Instances as InstancesIn, instances_c, Source as SourceIn, source_c, Value as ValueIn, value_c, ElementPlan as ElementPlanIn, element_plan_c, SegmentPlan as SegmentPlanIn, segment_plan_c};
+ghost use Rattle.format.specs.Plan.{Instances as InstancesIn, instances_c, Value as ValueIn, value_c, ElementPlan as ElementPlanIn, element_plan_c, SegmentPlan as SegmentPlanIn, segment_plan_c};
 ghost use Rattle.format.specs.Layout.{Item as ItemIn, item_c};
-ghost use Rattle.plan.specs.Answers.{instances_of, source_of, item_of, ElementRead, ValueRead};
+ghost use Rattle.plan.specs.Answers.{instances_of, item_of, ElementRead, ValueRead};
 ghost use Rattle.plan.specs.Index.{inner_count};
 ghost use Rattle.plan.specs.Planned.{unplanned, SegmentRead};
 
 use crate::answers::{ElementPlan, Instances, Item, Planned, Source, ValueSource};
 use spec::Indexed;
 use spec::ids::{LoopId, Stretch, TableId};
+use spec::region::item_place;
 
 // The instances of the planned loop that stands at a place: the count of its segments is behind them, so that it has five bytes or more.
 pub fn instances_at(job: &[u8], at: usize) -> Instances
@@ -28,19 +29,6 @@ pub fn instances_at(job: &[u8], at: usize) -> Instances
         3 => Instances::Inside(TableId(n as u32)),
         4 => Instances::Groups(TableId(n as u32)),
         _ => Instances::Implied,
-    }
-}
-
-pub fn source_at(job: &[u8], at: usize) -> Source
-    requires { at < 4294967304 }
-    ensures { (e : ℕ) (v : SourceIn) → Is source_c job.now e at v → source_of result ≡ v }
-{
-    let t = codec::byte_at(job, at);
-    let n = codec::num(job, at + 1);
-    match t {
-        0 => Source::Envelope,
-        1 => Source::Row(TableId(n as u32)),
-        _ => Source::Repeat(TableId(n as u32)),
     }
 }
 
@@ -184,11 +172,8 @@ pub fn inner_count(job: Indexed, k: usize, l: u32) -> u32
     requires { k < 4294967296 }
     ensures { result ≡ inner_count job.entry.bytes.now job.entry.index.now k l }
 {
-    let list = codec::place(job.index, k);
-    let n = codec::num(job.bytes, list);
-    if n <= l as usize {
-        return 0;
+    match item_place(job, k, l) {
+        None => 0,
+        Some(p) => codec::num(job.bytes, p) as u32,
     }
-    let p = codec::place(job.index, k + 1 + l as usize);
-    codec::num(job.bytes, p) as u32
 }

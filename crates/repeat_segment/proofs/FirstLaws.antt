@@ -14,6 +14,7 @@ use Rattle.segment.specs.Parts.{Part, pick, rank}
 use Rattle.segment.specs.Calls.{stands_at, first_at, or_text, repeat_text}
 use Rattle.plan.specs.declared.answers.ElementPlan.{ElementPlan as Element}
 use Rattle.plan.specs.Answers.{element_of}
+use Rattle.nest.specs.Finding.{or_zero}
 use Rattle.emit.specs.Puts.{Put, part_at, chunk_put}
 use Rattle.repeat_segment.specs.declared.planned.Planned.{Planned}
 use Rattle.repeat_segment.specs.declared.scan.First.{First}
@@ -21,6 +22,11 @@ use Rattle.repeat_segment.specs.Planned.{plans_of, Of, Along, Read}
 use Rattle.repeat_segment.specs.Places.{place_in, text_in, element_put, row_puts, parts_from, parts_of, Earlier, taken, kept, found_text}
 use Rattle.repeat_segment.proofs.Steps.{take_next, take_end, along_first, row_snoc}
 use Rattle.repeat_segment.proofs.PlaceLaws.{element_parts}
+
+-- a component as findings have it is its rank
+pub word_rank : (c : Option ℕ) → or_zero c ≡ rank c
+word_rank None = refl
+word_rank (Some c) = refl
 
 module _ (p r : ℕ) where
   pub first_behind : (xs ys : List Part) → first_at p r xs ≡ None → first_at p r (xs ++ ys) ≡ first_at p r ys

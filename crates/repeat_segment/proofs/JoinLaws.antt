@@ -8,15 +8,14 @@ use Rattle.std.specs.Prelude.{None, Some}
 use lib.ListN.{length, get_or, take, drop}
 use lib.Seq.{drop-cons}
 use Rattle.lent.specs.Fit.{cap, stretch, Stored}
-use Rattle.lent.proofs.Laws.{stored_length}
 use Rattle.format.specs.Plan.{ElementPlan}
 use Rattle.format.specs.Sections.{job_of}
 use Rattle.segment.specs.declared.Separators.{Separators}
 use Rattle.segment.specs.declared.Pen.{Pen}
 use Rattle.segment.specs.Parts.{Part, highest, joined, sorted}
-use Rattle.segment.specs.Pen.{opened, placed, finished, closing, Penned}
+use Rattle.segment.specs.Pen.{opened, closing, Penned}
 use Rattle.spec.specs.Answers.{stretch_of}
-use Rattle.segment.specs.Calls.{Group, next, finish, Repeat, position, ended, repeat_text, last_component_at, zero_free}
+use Rattle.segment.specs.Calls.{Group, Repeat, position, ended, repeat_text, last_component_at, zero_free}
 use Rattle.emit.specs.declared.state.Counts.{Counts}
 use Rattle.emit.specs.declared.state.From.{From}
 use Rattle.emit.specs.Puts.{chunk_put, chunk_puts}
@@ -29,21 +28,6 @@ use Rattle.repeat_segment.specs.Planned.{plans_of, id_of, Of}
 use Rattle.repeat_segment.specs.Places.{row_puts, parts_from, parts_of, number_by}
 use Rattle.repeat_segment.proofs.FillLaws.{still}
 use Rattle.segment.proofs.Runs.{repeat_run_stored, stuck_run_stored}
-
--- ---- the components of an element, as far as they are written
-
-abbrev pub GroupSoFar : Separators → ℕ → (ℕ → List ℕ) → ℕ → Pen → List ℕ → ℕ → Pen → List ℕ → Type 0
-GroupSoFar s k f p pen d c t d₁ = (c ≤ k + 1) × (length d₁ ≡ length d) × ((r : Pen) (d₂ : List ℕ) → Group s k f p c t d₁ r d₂ → Group s k f p 1 pen d r d₂)
-
-module _ {s : Separators} {k : ℕ} {f : ℕ → List ℕ} {p : ℕ} {pen : Pen} {d : List ℕ} where
-  pub group_start : GroupSoFar s k f p pen d 1 pen d
-  group_start = (omega arith, refl, λ r d₂ g. g)
-
-  pub group_next : {c : ℕ} {t u : Pen} {d₁ d₂ text : List ℕ} → c ≤ k → GroupSoFar s k f p pen d c t d₁ → text ≡ f c → Penned (placed s t p c text) t.at u d₁ d₂ → GroupSoFar s k f p pen d (c + 1) u d₂
-  group_next h w e q = (omega arith, stored_length _ q.stored ∙ w.1, λ r d₃ g. w.2 r d₃ (next (omega arith) (rw e at q) g))
-
-  pub group_end : {c : ℕ} {t u : Pen} {d₁ d₂ : List ℕ} → k < c → GroupSoFar s k f p pen d c t d₁ → Penned (finished s t p k) t.at u d₁ d₂ → Group s k f p 1 pen d u d₂
-  group_end {u = u} {d₂ = d₂} h w q = w.2 u d₂ (finish (omega (arith, w.0)) q)
 
 -- ---- the elements
 

@@ -12,28 +12,6 @@ use nest::Job;
 use segment::{Pen, Separators};
 
 // The components of element p up to the last filled.
-fn put_components(
-    doc: &mut [u8],
-    job: Job,
-    rows: &[u32],
-    count: u32,
-    sep: Separators,
-    s: Planned,
-    pen: Pen,
-    p: u32,
-    last: u32,
-) -> Pen
-    requires { Of job.at.bytes.now s × (count ≤ 256) × (count ≤ length rows.now) }
-    ensures { Group sep last (repeat_text (parts_of job.entry.at.bytes.now s rows.now count) p) p 1 pen doc.old result doc.new }
-{
-    let mut t = pen;
-    for c in 1..=last {
-        let v = scan::component_value(job, rows, count, s, p, c);
-        t = segment::component(doc, job.at.bytes, sep, t, p as usize, c as usize, v);
-    }
-    segment::finish(doc, sep, t, p as usize, last as usize)
-}
-
 fn put_position(
     doc: &mut [u8],
     job: Job,
@@ -49,7 +27,8 @@ fn put_position(
         pen doc.old result doc.new }
 {
     let last = last::highest_in(job, rows, count, s, Some(p));
-    put_components(doc, job, rows, count, sep, s, pen, p, last)
+    let value = |c| scan::component_value(job, rows, count, s, p, c);
+    segment::put_components(doc, job.at.bytes, sep, pen, p as usize, last, value)
 }
 
 // All elements up to the last filled, and the segment's end.

@@ -4,10 +4,11 @@ ghost use Rattle.segment.specs.Pen.{value_text};
 ghost use Rattle.segment.specs.Calls.{first_at, or_text, repeat_text};
 ghost use Rattle.plan.specs.Answers.{element_of};
 ghost use Rattle.repeat_segment.specs.Planned.{Of};
-ghost use Rattle.repeat_segment.specs.Places.{text_in, parts_of, rank_of, Earlier, found_text};
+ghost use Rattle.repeat_segment.specs.Places.{text_in, parts_of, Earlier, found_text};
 
 use crate::places;
 use crate::planned::Planned;
+use emit::signs;
 use nest::Job;
 use plan::answers::{ElementPlan, ValueSource};
 use plan::read;
@@ -22,20 +23,11 @@ pub struct First {
     pub plan: ElementPlan,
 }
 
-fn rank_of(c: Option<u32>) -> u64
-    ensures { result ≡ rank_of c }
-{
-    match c {
-        None => 0,
-        Some(n) => n as u64 + 1,
-    }
-}
-
 fn earlier(f: First, e: ElementPlan, step: u32, p: u32, rank: u64) -> First
     ensures { (b : List ℕ) → Earlier step p rank b f e result }
 {
     let c = e.component;
-    let own = rank_of(c);
+    let own = signs::component_word(c);
     if own == rank {
         let k = places::row_at(e, step, p);
         if k < f.row {

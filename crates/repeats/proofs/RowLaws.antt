@@ -157,11 +157,8 @@ capacity_few b w t = go (dec_lt t (length (job_of b).layout.capacity))
     go (no h) = let q = get_or-eq_default (job_of b).layout.capacity 1 {n = t} (omega arith) in omega (arith, q)
 
 module _ (b : List ℕ) (w : Passed b) (t n : ℕ) (e : n ≡ A.capacity_of (job_of b) t) where
-  pub room_one : n ≡ 0 → (1 ≡ max 1 ((outline_at b).capacity t)) × (1 < 256)
-  room_one z = (omega (arith, capacity_is (job_of b) t, e, z), omega arith)
-
-  pub room_more : (n ≡ 0 → ⊥) → (n ≡ max 1 ((outline_at b).capacity t)) × (n < 256)
-  room_more z = (omega (arith, capacity_is (job_of b) t, e, z), omega (arith, capacity_few b w t, e))
+  pub room_is : (r : ℕ) → r ≡ max n 1 → (r ≡ max 1 ((outline_at b).capacity t)) × (r < 256)
+  room_is r z = (omega (arith, capacity_is (job_of b) t, e, z), omega (arith, capacity_few b w t, e, z))
 
 pub table_is : {b idx : List ℕ} → Ready b idx → (w : Table) → w.base ≡ T.rows_before (job_of b).tables w.t.0 → w.rows ≡ (A.data_of (job_of b) w.t.0).rows
     → (w.room ≡ max 1 ((outline_at b).capacity w.t.0)) × (w.room < 256) → TableIs b w

@@ -16,8 +16,8 @@ ghost use Rattle.nest.specs.Job.{outline_by, job_by};
 
 use emit::state::{Counts, Mark};
 use enter::Entered;
-use nest::Job;
-use nest::order::{first_at, rises};
+use nest::order::rises;
+use nest::{Job, TableRows};
 use repeat_segment::planned::{Planned, planned_segment};
 use repeat_segment::{fill_row, write_chunk};
 use spec::ids::{LoopId, RowId, TableId};
@@ -61,11 +61,7 @@ pub struct Chunk {
 fn room_of(job: Job, t: TableId) -> u32
     ensures { (result ≡ max 1 ((outline_by job.entry).capacity t.0)) × (result < 256) }
 {
-    let n = plan::layout::capacity(job.at, t);
-    if n == 0 {
-        return 1;
-    }
-    n
+    plan::layout::capacity(job.at, t).max(1)
 }
 
 fn table_of(job: Job, t: TableId) -> Table
@@ -89,8 +85,13 @@ fn part_of(nest: Nest, t: TableId, p: RowId) -> Part
 {
     let mut w = table_of(nest.job, t);
     if rises(nest.array, t) {
-        let low = first_at(nest.array, w.base, 0, w.rows, p.0 + 1);
-        let high = first_at(nest.array, w.base, low, w.rows, p.0 + 2);
+        let all = TableRows {
+            array: nest.array,
+            base: w.base,
+            rows: w.rows,
+        };
+        let low = all.first_at(0, p.0 + 1);
+        let high = all.first_at(low, p.0 + 2);
         w.rows = high;
         return Part {
             table: w,
@@ -262,10 +263,15 @@ fn add_rows(
         doc.old doc.new segments.old segments.new findings.old findings.new stops.old stops.new
         × (result.written ≡ first.written + segments_in (left nest.entry.job.at.bytes.now nest.entry.array.now s.l.0 s.i s.table.0 w p.0 first rows.old from)) }
 {
+    let all = TableRows {
+        array: nest.array,
+        base: w.base,
+        rows: w.rows,
+    };
     let mut c = first;
     let mut k = from;
     // No `for`: each row tells where the next is looked for.
-    while let Some(r) = nest::next_hooked(nest.array, w.base, w.rows, k, s.l, p) {
+    while let Some(r) = all.next_hooked(k, s.l, p) {
         c = add_next(nest, rows, doc, segments, findings, stops, c, s, w, r);
         k = r.0 as usize + 1;
     }
@@ -330,7 +336,12 @@ fn write_hooked(
 {
     let part = part_of(nest, t, p);
     let w = part.table;
-    let f = nest::next_hooked(nest.array, w.base, w.rows, part.from, l, p);
+    let all = TableRows {
+        array: nest.array,
+        base: w.base,
+        rows: w.rows,
+    };
+    let f = all.next_hooked(part.from, l, p);
     match f {
         None => Repeated {
             mark: m,

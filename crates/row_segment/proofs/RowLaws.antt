@@ -3,7 +3,6 @@ use Prim.Native.Nat.{ℕ, ◌+◌, ◌≤◌, ◌<◌}
 use mathlib.Core.Path.{◌≡◌, refl, ◌∙◌}
 use Rattle.std.specs.Prelude.{Some, None}
 use mathlib.Core.List.{List}
-use native.Mathlib.Omega.{arith}
 use borrow.Author.Tests.{lt-ltb}
 use lib.ListN.{length}
 use Rattle.lent.specs.Fit.{cap, wide, more, stretch, Stored}
@@ -11,7 +10,7 @@ use Rattle.lent.proofs.Laws.{stored_length}
 use Rattle.segment.specs.declared.Separators.{Separators}
 use Rattle.segment.specs.declared.Pen.{Pen}
 use Rattle.segment.specs.Parts.{joined}
-use Rattle.segment.specs.Pen.{placed, finished, opened, closing, Penned}
+use Rattle.segment.specs.Pen.{opened, closing, Penned}
 use Rattle.segment.specs.Calls.{Group, next, finish, Row, group, close, stays}
 use Rattle.segment.proofs.Runs.{run_stored}
 use Rattle.format.specs.Sections.{job_of}
@@ -33,28 +32,6 @@ use Rattle.row_segment.specs.Groups.{Steps, Rows}
 use Rattle.row_segment.specs.Notes.{Notes, Between, Totals}
 use Rattle.row_segment.proofs.StreamLaws.{parts_here, ahead_none}
 use Rattle.row_segment.proofs.NoteLaws.{all_noted, last_noted}
-
--- ---- one element: calls from component c on complete it
-
-pub record Grouping (s : Separators) (k : ℕ) (f : ℕ → List ℕ) (e : ℕ) (pen : Pen) (d₀ : List ℕ) (c : ℕ) (q : Pen) (d : List ℕ) : Type 0 where
-  pub rest : (t : Pen) (d₂ : List ℕ) → Group s k f e c q d t d₂ → Group s k f e 1 pen d₀ t d₂
-  pub long : length d ≡ length d₀
-  pub within : c ≤ k + 1
-
-pub grouping_start : (s : Separators) (k : ℕ) (f : ℕ → List ℕ) (e : ℕ) (pen : Pen) (d : List ℕ) → Grouping s k f e pen d 1 pen d
-grouping_start s k f e pen d = record { rest = λ t d₂ g. g; long = refl; within = omega arith }
-
-module _ (s : Separators) (k : ℕ) (f : ℕ → List ℕ) (e : ℕ) (pen : Pen) (d₀ : List ℕ) (c : ℕ) (q : Pen) (d : List ℕ) (i : Grouping s k f e pen d₀ c q d) where
-  pub grouping_next : (r : Pen) (d₁ text : List ℕ) → c ≤ k → text ≡ f c → Penned (placed s q e c text) q.at r d d₁ → Grouping s k f e pen d₀ (c + 1) r d₁
-  grouping_next r d₁ text h g w =
-      let w' : Penned (placed s q e c (f c)) q.at r d d₁ = rw g at w in
-      record { rest = λ t d₂ z. i.rest t d₂ (next {c = c} {pen = q} {r = r} {d₁ = d₁} h w' z); long = stored_length _ w.stored ∙ i.long; within = omega arith }
-
-  pub grouping_end : (r : Pen) (d₁ : List ℕ) → k < c → Penned (finished s q e k) q.at r d d₁ → Group s k f e 1 pen d₀ r d₁
-  grouping_end r d₁ h w = i.rest r d₁ (finish (omega (arith, i.within)) w)
-
-  pub grouping_long : (r : Pen) (d₁ : List ℕ) → Penned (finished s q e k) q.at r d d₁ → length d₁ ≡ length d₀
-  grouping_long r d₁ w = stored_length _ w.stored ∙ i.long
 
 group_long : {s : Separators} {k : ℕ} {f : ℕ → List ℕ} {e c : ℕ} {pen r : Pen} {d d₁ : List ℕ} → Group s k f e c pen d r d₁ → length d₁ ≡ length d
 group_long (next h w g) = group_long g ∙ stored_length _ w.stored

@@ -52,7 +52,8 @@ fn put_stretch(
     }
 }
 
-// A cell that was read, and whose text is its own: it holds no separator.
+// A cell that was read, and whose text is its own: it holds no separator. repeat_segment puts such a text alike, but notes no reason there: one
+// function for both would hand the reason out, and be no plainer.
 fn put_own(
     job: Job,
     doc: &mut [u8],

@@ -3,7 +3,6 @@ ghost use Rattle.std.specs.Prelude.{◌≡◌, ◌≤◌, ◌<◌};
 ghost use Rattle.lent.specs.Fit.{cap, Stored};
 ghost use Rattle.segment.specs.Parts.{here, component_text, joined};
 ghost use Rattle.segment.specs.Pen.{value_text, closing};
-ghost use Rattle.segment.specs.Calls.{Group};
 ghost use Rattle.emit.specs.Fold.{separators_of};
 ghost use Rattle.row_segment.specs.Stream.{Lined, Sees, ahead, puts, id_of};
 ghost use Rattle.row_segment.specs.Groups.{Scans, Steps, Rows};
@@ -45,7 +44,7 @@ fn scan(job: Job, findings: &mut [u64], t: Tally, x: Line, y: Tried, n: Look, e:
         let w = parts::text_of(job, x, p);
         let c = p.component;
         let v = w.value;
-        m = parts::raised(job.at.bytes, m, v, signs::component_of(c));
+        m = segment::raised(job.at.bytes, m, v, signs::component_of(c) as usize);
         s = notes::note_text(job.at.bytes, findings, s, x, y, p, w);
         a = parts::next_part(job, x, a.k, a.at);
     }
@@ -57,7 +56,7 @@ fn scan(job: Job, findings: &mut [u64], t: Tally, x: Line, y: Tried, n: Look, e:
 }
 
 // The text at component c of element e: that of the first part there.
-fn component_value(job: Job, x: Line, n: Look, e: u32, c: usize) -> Value
+fn component_value(job: Job, x: Line, n: Look, e: u32, c: u32) -> Value
     requires { Lined job.at.bytes.now x × Sees job.at.bytes.now x n }
     ensures { value_text job.entry.at.bytes.now result ≡ component_text (here e (ahead job.entry.at.bytes.now x n).parts) c }
 {
@@ -68,35 +67,13 @@ fn component_value(job: Job, x: Line, n: Look, e: u32, c: usize) -> Value
             return segment::held(0, 0);
         }
         let component = p.component;
-        if signs::component_of(component) as usize == c {
+        if signs::component_of(component) == c {
             let w = parts::text_of(job, x, p);
             return w.value;
         }
         a = parts::next_part(job, x, a.k, a.at);
     }
     segment::held(0, 0)
-}
-
-// Element e, whose last filled component is k.
-fn put_group(
-    job: Job,
-    doc: &mut [u8],
-    s: Separators,
-    pen: Pen,
-    x: Line,
-    n: Look,
-    e: u32,
-    k: usize,
-) -> Pen
-    requires { Lined job.at.bytes.now x × Sees job.at.bytes.now x n × (k < 4294967296) }
-    ensures { Group s k (component_text (here e (ahead job.entry.at.bytes.now x n).parts)) e 1 pen doc.old result doc.new }
-{
-    let mut q = pen;
-    for c in 1..=k {
-        let v = component_value(job, x, n, e, c);
-        q = segment::component(doc, job.at.bytes, s, q, e as usize, c, v);
-    }
-    segment::finish(doc, s, q, e as usize, k)
 }
 
 fn wide(n: u32) -> usize
@@ -130,7 +107,9 @@ fn put_next(
     ensures { Steps s job.entry.at.bytes.now x a e pen doc.old result doc.new × Between job.entry.at.bytes.now x a result.after t result.tally findings.old findings.new }
 {
     let g = scan(job, findings, t, x, y, a, e);
-    let q = put_group(job, doc, s, pen, x, a, e, g.last);
+    let value = |c| component_value(job, x, a, e, c);
+    let last = g.last as u32;
+    let q = segment::put_components(doc, job.at.bytes, s, pen, e as usize, last, value);
     Step {
         pen: q,
         after: g.after,

@@ -53,7 +53,8 @@ pub fn tried_of(job: Job, x: Line) -> Tried
     }
 }
 
-// The findings on a cell's text.
+// The findings on a cell's text. repeat_segment takes the same steps; one function for both would need a closure for the spot, and a function
+// for that closure in each: no plainer.
 fn note_cell(
     job: &[u8],
     findings: &mut [u64],
@@ -111,7 +112,7 @@ pub fn note_text(
     ensures { Notes (part_put job.now x p) s result findings.old findings.new }
 {
     let v = w.value;
-    let last = parts::raised(job, s.last, v, p.element);
+    let last = segment::raised(job, s.last, v, p.element as usize);
     match p.source {
         Source::Cell(column) => Tally {
             findings: note_cell(job, findings, s.findings, x, y, p, column, w),

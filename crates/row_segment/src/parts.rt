@@ -1,9 +1,7 @@
 // The planned elements of a row segment as parts, one after the other.
-ghost use Rattle.std.specs.Prelude.{◌≡◌, List, ℕ, ◌<◌, max};
+ghost use Rattle.std.specs.Prelude.{◌≡◌, List, ℕ, ◌<◌};
 ghost use Rattle.plan.specs.Answers.{element_of};
 ghost use Rattle.plan.specs.Planned.{PlannedIs};
-ghost use Rattle.segment.specs.Parts.{pick, is_empty};
-ghost use Rattle.segment.specs.Pen.{value_text};
 ghost use Rattle.emit.specs.Written.{Writes};
 ghost use Rattle.row_segment.specs.Stream.{Lined, Stands, Looks, element_put, look_put, outcome_of};
 
@@ -11,7 +9,6 @@ use emit::cells;
 use emit::cells::Written;
 use nest::Job;
 use plan::answers::{ElementPlan, Planned as PlannedSegment, ValueSource};
-use segment::Value;
 use spec::ids::{LoopId, RowId, Stretch, TableId};
 
 // A planned segment of a loop, with its identifier, how many elements it has and from where on they stand, and the row that fills it.
@@ -134,18 +131,4 @@ pub fn text_of(job: Job, x: Line, p: Planned) -> Written
         Source::Cell(c) => cells::cell_text(job, id, t, r, p.element, component, c),
         Source::Code(s) => cells::code_text(s),
     }
-}
-
-// The higher of a number and that of a text, which counts where the text is filled.
-pub fn raised(job: &[u8], m: usize, v: Value, n: u32) -> usize
-    ensures { result ≡ max m (pick (is_empty (value_text job.now v)) 0 n) }
-{
-    if segment::is_empty(job, v) {
-        return m;
-    }
-    let k = n as usize;
-    if m < k {
-        return k;
-    }
-    m
 }

@@ -5,7 +5,7 @@ use mathlib.Core.Bool.{Bool, true, false}
 use mathlib.Core.List.{List, [], ◌∷◌}
 use native.Mathlib.Omega.{arith}
 use native.Mathlib.Decide.{dec_lt}
-use Rattle.std.specs.Prelude.{Option, Some, None}
+use Rattle.std.specs.Prelude.{Option, Some, None, is_some}
 use lib.ListN.{length, get_or, get_or-eq_default}
 use lib.Dec.{ltb}
 use borrow.Author.Tests.{ltb-true, ltb-false, leb-false}
@@ -17,28 +17,30 @@ use Rattle.format.specs.Sections.{job_of}
 use Rattle.format.specs.Refusal.{tangled, tangled_loops, outside, outside_order, loops_in}
 use Rattle.format.specs.Passed.{Passed, few}
 use Rattle.format.specs.Ask as A
-use Rattle.spec.specs.Answers.{control_of, HoldsText}
+use Rattle.spec.specs.Answers.{control_of, text_of, HoldsText}
 use Rattle.spec.specs.declared.ids.ControlRule.{ControlRule}
 use Rattle.spec.specs.declared.ids.Stretch.{Stretch}
 use Rattle.nest.specs.Outline.{Planned, loop_of, segment_of, row_count}
-use Rattle.nest.specs.OfJob.{outline_of, source_in, item_in}
+use Rattle.nest.specs.OfJob.{outline_of, source_in, item_in, is_there}
 use Rattle.nest.specs.Ready.{outline_at}
 use Rattle.nest.proofs.Bridge.{controlled_is, ends_is, segment_is, data-count-is}
 use Rattle.nest.proofs.Sizes.{rows_past}
 use Rattle.run.specs.Went.{item_loop}
 
 module _ (j : Job) where
-  pub with_control : (l : ℕ) (k : Option ControlRule) (r : ControlRule) → control_of k ≡ (A.loop_of j l).control → k ≡ Some r → true ≡ (loop_of (outline_of j) l).controlled
-  with_control l k r e q = sym (controlled_is j l ∙ rw (← e) (rw q refl))
+  pub controlled_by : (l : ℕ) (k : Option ControlRule) → control_of k ≡ (A.loop_of j l).control → is_some k ≡ (loop_of (outline_of j) l).controlled
+  controlled_by l k e = sym (controlled_is j l ∙ rw (← e) (go k))
+    where
+      go : (x : Option ControlRule) → is_there (control_of x) ≡ is_some x
+      go None = refl
+      go (Some r) = refl
 
-  pub without_control : (l : ℕ) (k : Option ControlRule) → control_of k ≡ (A.loop_of j l).control → k ≡ None → false ≡ (loop_of (outline_of j) l).controlled
-  without_control l k e q = sym (controlled_is j l ∙ rw (← e) (rw q refl))
-
-  pub with_end : (b : List ℕ) (l : ℕ) (k : Option Stretch) (s : Stretch) → HoldsText b k (A.loop_of j l).end → k ≡ Some s → true ≡ (loop_of (outline_of j) l).ends
-  with_end b l k s h q = sym (ends_is j l ∙ rw (← h.bytes) (rw q refl))
-
-  pub without_end : (b : List ℕ) (l : ℕ) (k : Option Stretch) → HoldsText b k (A.loop_of j l).end → k ≡ None → false ≡ (loop_of (outline_of j) l).ends
-  without_end b l k h q = sym (ends_is j l ∙ rw (← h.bytes) (rw q refl))
+  pub ends_by : (b : List ℕ) (l : ℕ) (k : Option Stretch) → HoldsText b k (A.loop_of j l).end → is_some k ≡ (loop_of (outline_of j) l).ends
+  ends_by b l k h = sym (ends_is j l ∙ rw (← h.bytes) (go k))
+    where
+      go : (x : Option Stretch) → is_there (text_of b x) ≡ is_some x
+      go None = refl
+      go (Some s) = refl
 
   pub source_is : (l i : ℕ) → (segment_of (outline_of j) l i).source ≡ source_in (A.planned_of j l i).source
   source_is l i = ap (λ (p : Planned). p.source) (segment_is j l i)

@@ -15,11 +15,7 @@ use spec::ids::{LoopId, Stretch};
 fn ends(job: Job, l: LoopId) -> bool
     ensures { result ≡ (loop_of (outline_by job.entry) l.0).ends }
 {
-    let end = spec::loops::loop_end(job.at, l);
-    match end {
-        Some(_) => true,
-        None => false,
-    }
+    spec::loops::loop_end(job.at, l).is_some()
 }
 
 // Whether a loop has `end` and `control`.

@@ -36,11 +36,8 @@ pub fn row_of(c: Context, t: TableId) -> Option<RowId>
 fn owner_in(c: Context, t: TableId) -> Option<Owner>
     ensures { owner_by result ≡ option_map (row_of t.0) ((context_by c).row t.0) }
 {
-    let f = row_of(c, t);
-    match f {
-        Some(row) => Some(Owner { table: t, row }),
-        None => None,
-    }
+    let row = row_of(c, t)?;
+    Some(Owner { table: t, row })
 }
 
 // The row that opened an instance of loop l.
@@ -49,11 +46,8 @@ pub fn own_row(job: Job, l: LoopId, c: Context) -> Option<Owner>
     ensures { owner_by result ≡ own_row (kind_of (outline_by job.entry) l.0) (context_by c) }
 {
     let kind = plan::planned::instances(job.at, l);
-    let table = nest::hang::row_table(kind);
-    match table {
-        Some(t) => owner_in(c, TableId(t)),
-        None => None,
-    }
+    let table = nest::hang::row_table(kind)?;
+    owner_in(c, TableId(table))
 }
 
 // An instance of a `Rows` loop stops at the row that opened it.

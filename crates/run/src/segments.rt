@@ -26,11 +26,7 @@ pub enum Due {
 pub fn controlled(job: Job, l: LoopId) -> bool
     ensures { result ≡ (loop_of (outline_by job.entry) l.0).controlled }
 {
-    let rule = spec::loops::control(job.at, l);
-    match rule {
-        Some(_) => true,
-        None => false,
-    }
+    spec::loops::control(job.at, l).is_some()
 }
 
 // The trigger of a loop with `control`.
@@ -61,11 +57,8 @@ fn row_due(job: Job, l: LoopId, i: u32, s: Planned, t: TableId, c: Context) -> O
     requires { (l.0 < 32) × PlannedIs job.at.bytes.now l.0 i s }
     ensures { Gives (outline_by job.entry) l.0 i (from_source (outline_by job.entry) l.0 i (context_by c) (of_row t.0)) result }
 {
-    let f = own::row_of(c, t);
-    match f {
-        Some(r) => due_at(job, l, i, s, t, r),
-        None => None,
-    }
+    let r = own::row_of(c, t)?;
+    due_at(job, l, i, s, t, r)
 }
 
 // The repeat segments of an instance that a row opened.
@@ -88,19 +81,12 @@ pub fn segment_due(job: Job, l: LoopId, i: u32, s: Planned, c: Context) -> Optio
     requires { Sound (outline_by job) (context_by c) × (l.0 < 32) × PlannedIs job.at.bytes.now l.0 i s }
     ensures { Gives (outline_by job.entry) l.0 i (segment_steps (outline_by job.entry) l.0 (context_by c) i) result }
 {
-    if s.there {
-        let source = s.source;
-        match source {
-            Source::Envelope => {
-                return opener_due(job, l);
-            }
-            Source::Row(t) => {
-                return row_due(job, l, i, s, t, c);
-            }
-            Source::Repeat(t) => {
-                return repeat_due(job, l, i, s, t, c);
-            }
-        }
+    if !s.there {
+        return None;
     }
-    None
+    match s.source {
+        Source::Envelope => opener_due(job, l),
+        Source::Row(t) => row_due(job, l, i, s, t, c),
+        Source::Repeat(t) => repeat_due(job, l, i, s, t, c),
+    }
 }

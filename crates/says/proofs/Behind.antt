@@ -7,8 +7,9 @@ use native.Mathlib.Omega.{arith}
 use lib.ListN.{length, get_or}
 use Rattle.codec.specs.Codec.{Codec, pick, le_c, list_c}
 use Rattle.codec.specs.Skip.{skip, steps, count_at, Is}
+use Rattle.codec.specs.Limits.{any_of}
 use Rattle.format.specs.Words.{any_from}
-use Rattle.says.specs.Says.{Says, Rest, Exactly, SaysRest, SaysBefore}
+use Rattle.says.specs.Says.{Says, Rest, Exactly, SaysRest, SaysBefore, any_before}
 use Rattle.says.proofs.Walk.{rest_start, rest_again, rest_found, rest_done}
 
 -- the first of what is left, and the rest behind it
@@ -46,6 +47,18 @@ module _ {A : Type 0} (C : Codec A) (b : List ℕ) (e n₀ p₀ : ℕ) (f : List
   pub still_none : f [] ≡ false → (n p : ℕ) → Still C b e n₀ p₀ f n p → n ≤ 0 → SaysRest C b e n₀ p₀ f false
   still_none z n p d h ws w = sym (rest_done C b e (Same f ws) n p (d ws w) h ∙ z)
 
+pub any_step : {A : Type 0} (f : A → Bool) (y : A) (ys : List A) → any_of f (y ∷ ys) ≡ pick (f y) true (any_of f ys)
+unfolding any_of
+any_step f y ys = refl
+
+pub any_nil : {A : Type 0} (f : A → Bool) → any_of f [] ≡ false
+unfolding any_of
+any_nil f = refl
+
+-- an answer for one test of lists is one for another that says the same
+pub rest_says : {A : Type 0} (C : Codec A) (b : List ℕ) (e n p : ℕ) (f g : List A → Bool) (r : Bool) → SaysRest C b e n p f r → ((vs : List A) → f vs ≡ g vs) → SaysRest C b e n p g r
+rest_says C b e n p f g r s h ws w = s ws w ∙ h ws
+
 -- g tells whether some item passes u, which looks at the items behind it
 abbrev pub NoneBehind : {A : Type 0} → Codec A → List ℕ → ℕ → ℕ → (List A → Bool) → ℕ → ℕ → Type 0
 NoneBehind {A} C b e at g n p = (vs : List A) → Is (list_c C) b e at vs → Rest C b e (Same g vs) n p
@@ -66,6 +79,14 @@ module _ {A : Type 0} (C : Codec A) (b : List ℕ) (e at : ℕ) (g : List A → 
 
   pub behind_none : g [] ≡ false → (n p : ℕ) → NoneBehind C b e at g n p → n ≤ 0 → Says (list_c C) b e at g false
   behind_none z n p d h vs j = sym (rest_done C b e (Same g vs) n p (d vs j) h ∙ z)
+
+pub before_step : {A : Type 0} (u : List A → A → Bool) (y : A) (ys : List A) → any_before u (y ∷ ys) ≡ pick (u ys y) true (any_before u ys)
+unfolding any_before
+before_step u y ys = refl
+
+pub before_nil : {A : Type 0} (u : List A → A → Bool) → any_before u [] ≡ false
+unfolding any_before
+before_nil u = refl
 
 -- ---- tests with an item's number
 abbrev pub Numbered : {A : Type 0} → (ℕ → A → Bool) → List A → ℕ → List A → Type 0

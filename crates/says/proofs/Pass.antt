@@ -1,6 +1,6 @@
 -- Tests that also step: walks that go through a job once are proved by these.
 use Prim.Native.Nat.{ℕ, ◌-◌, ◌≤◌, ◌<◌}
-use mathlib.Core.Path.{◌≡◌, refl, sym, ◌∙◌}
+use mathlib.Core.Path.{◌≡◌, refl, ◌∙◌}
 use mathlib.Core.List.{List, [], ◌∷◌}
 use mathlib.Core.Bool.{Bool, true, false}
 use native.Mathlib.Omega.{arith}
@@ -100,6 +100,10 @@ told_is true true r n h i = refl
 told_is true false r n h i = absurd (let z : ◌≡◌ {A = ℕ} 0 1 = cc in omega arith)
 told_is false true r n h i = absurd (let z : ◌≡◌ {A = ℕ} 0 1 = cc in omega arith)
 told_is false false r n h i = refl
+
+-- it found something where it tells no place
+pub clears_found : {A : Type 0} (C : Codec A) (b : List ℕ) (e p : ℕ) (f : A → Bool) (r : Option ℕ) (x : Bool) → Clears C b e p f r → is_some r ≡ not x → Says C b e p f x
+clears_found C b e p f r x s h v i = told_is _ _ _ _ (s v i) h
 
 -- ---- a test of a field, with the place behind it
 pub clears_at : {A : Type 0} (C : Codec A) (b : List ℕ) (e p q : ℕ) (f : A → Bool) (r : Option ℕ) (v : A) → Clears C b e p f r → Is C b e q v → p ≡ q → r ≡ pick (f v) None (Some (skip C b q e))

@@ -1,7 +1,7 @@
 -- What a test answers: of whatever stands at a place, what the definition says of it.
-use Rattle.std.specs.Prelude.{ℕ, ◌<◌, ◌^◌, ◌≡◌, List, Bool, false, length, get_or, Option, Some, None}
+use Rattle.std.specs.Prelude.{ℕ, ◌<◌, ◌^◌, ◌≡◌, List, [], ◌∷◌, Bool, true, false, length, get_or, Option, Some, None}
 use Rattle.codec.specs.Codec.{Codec, pick}
-use Rattle.codec.specs.Skip.{Is, skip, steps}
+use Rattle.codec.specs.Skip.{Is, count_at, skip, steps}
 
 abbrev pub Says : {A B : Type 0} → Codec A → List ℕ → ℕ → ℕ → (A → B) → B → Type 0
 Says {A} C b e at f r = (v : A) → Is C b e at v → r ≡ f v
@@ -35,3 +35,16 @@ SaysRest {A} C b e n p f r = (ws : List A) → Rest C b e (Exactly ws) n p → r
 -- the test of the item at p, behind which m stand, from q on
 abbrev pub SaysBefore : {A : Type 0} → Codec A → List ℕ → ℕ → ℕ → ℕ → ℕ → (List A → A → Bool) → Bool → Type 0
 SaysBefore {A} C b e p m q u r = (ws : List A) → Rest C b e (Exactly ws) m q → Says C b e p (u ws) r
+
+-- whether some item is found, by a test u of the items behind it and of it
+unfoldable pub any_before : {A : Type 0} → (List A → A → Bool) → List A → Bool
+any_before u [] = false
+any_before u (x ∷ xs) = pick (u xs x) true (any_before u xs)
+
+-- t, told a place, how many stand behind the item there and where they do, says what u does
+abbrev pub TestsBefore : {A : Type 0} → Codec A → List ℕ → ℕ → (ℕ → ℕ → ℕ → Bool → Type 0) → (List A → A → Bool) → Type 0
+TestsBefore C b e t u = (p m q : ℕ) (r : Bool) → p < 2 ^ 64 → m < 2 ^ 64 → q < 2 ^ 64 → t p m q r → SaysBefore C b e p m q u r
+
+-- t, told the number of an item of the list at a place and where the item stands, says what f does
+abbrev pub TestsNumbered : {A : Type 0} → Codec A → List ℕ → ℕ → ℕ → (ℕ → ℕ → Bool → Type 0) → (ℕ → A → Bool) → Type 0
+TestsNumbered C b e at t f = (k p : ℕ) (r : Bool) → k < count_at b at e → p < 2 ^ 64 → t k p r → Says C b e p (f k) r

@@ -7,7 +7,8 @@ ghost use Rattle.std.specs.Prelude.{◌≡◌, ◌+◌, ◌-◌, length, false};
 ghost use Rattle.codec.specs.Codec.{le};
 ghost use Rattle.format.specs.Sections.{broken};
 
-// One of the trailer's numbers: k is its place there.
+// One of the trailer's numbers: k is its place there. Not `spec::read::start`: each caller here knows that the job isn't broken, which by that
+// one's clause would be two bounds to show at each call.
 pub fn start(b: &[u8], k: u8) -> u32
     requires { broken b.now ≡ false }
     ensures { result ≡ le 4 b.now (length b.now - 24 + k) }

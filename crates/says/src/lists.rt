@@ -1,10 +1,11 @@
 // Tests of lists and options, made where the items stand. A test tells whether something is wrong with what stands at a place.
-ghost use Rattle.std.specs.Prelude.{Bool};
+ghost use Rattle.std.specs.Prelude.{Bool, List, ℕ, ◌<◌, ◌^◌};
 ghost use Rattle.codec.specs.Codec.{list_c};
 ghost use Rattle.codec.specs.Forms.{opt_c};
+ghost use Rattle.codec.specs.Skip.{count_at};
 ghost use Rattle.codec.specs.Limits.{any_of};
-ghost use Rattle.format.specs.Words.{if_some};
-ghost use Rattle.says.specs.Says.{Says, Tests, Clears, Clearing};
+ghost use Rattle.format.specs.Words.{any_from, if_some};
+ghost use Rattle.says.specs.Says.{Says, SaysRest, Tests, TestsBefore, TestsNumbered, Clears, Clearing, any_before};
 
 use codec::{Form, Section};
 
@@ -13,15 +14,7 @@ pub fn any_at<F: Form, T: Fn(usize) -> bool>(s: Section, at: usize, test: T) -> 
     requires { T.IsAlwaysCallable test }
     ensures { (f : F.Value → Bool) → Tests F.codec s.entry.bytes.now s.entry.end (T.post test) f → Says (list_c F.codec) s.entry.bytes.now s.entry.end at (any_of f) result }
 {
-    let n = s.count_at(at);
-    let mut p = s.le_at(4, at);
-    for _i in 0..n {
-        if test(p) {
-            return true;
-        }
-        p = F::ends_at(s, p);
-    }
-    false
+    any_clear::<F, T>(s, at, test).is_none()
 }
 
 // Whether what an option holds is found.
@@ -69,4 +62,56 @@ pub fn any_clear<F: Form, T: Fn(usize) -> bool>(s: Section, at: usize, test: T) 
         p = F::ends_at(s, p);
     }
     Some(p)
+}
+
+// Whether one of the `rest` items that stand from a place on is found.
+pub fn any_rest<F: Form, T: Fn(usize) -> bool>(s: Section, at: usize, rest: usize, test: T) -> bool
+    requires { T.IsAlwaysCallable test }
+    ensures { (f : F.Value → Bool) → Tests F.codec s.entry.bytes.now s.entry.end (T.post test) f → SaysRest F.codec s.entry.bytes.now s.entry.end rest at (any_of f) result }
+{
+    let mut p = at;
+    for _i in 0..rest {
+        if test(p) {
+            return true;
+        }
+        p = F::ends_at(s, p);
+    }
+    false
+}
+
+// Whether some item of a list is found, by a test that looks at the items behind it too: it is told where the item stands, how many are behind it, and where they do.
+pub fn any_before<F: Form, T: Fn(usize, usize, usize) -> bool>(
+    s: Section,
+    at: usize,
+    test: T,
+) -> bool
+    requires { T.IsAlwaysCallable test }
+    ensures { (u : List F.Value → F.Value → Bool) → TestsBefore F.codec s.entry.bytes.now s.entry.end (T.post test) u → Says (list_c F.codec) s.entry.bytes.now s.entry.end at (any_before u) result }
+{
+    let n = s.count_at(at);
+    let mut p = s.le_at(4, at);
+    for i in 0..n {
+        let q = F::ends_at(s, p);
+        if test(p, n - i - 1, q) {
+            return true;
+        }
+        p = q;
+    }
+    false
+}
+
+// Whether some item of a list is found, by a test that is told its number too and is asked of no number past the last.
+pub fn any_numbered<F: Form, T: Fn(usize, usize) -> bool>(s: Section, at: usize, test: T) -> bool
+    requires { (k : ℕ) (p : ℕ) → k < count_at s.bytes.now at s.end → p < 2 ^ 64 → T.pre test k p }
+    ensures { (f : ℕ → F.Value → Bool) → TestsNumbered F.codec s.entry.bytes.now s.entry.end at (T.post test) f → Says (list_c F.codec) s.entry.bytes.now s.entry.end at (any_from f 0) result }
+{
+    let n = s.count_at(at);
+    let mut p = s.le_at(4, at);
+    for k in 0..n {
+        if test(k, p) {
+            return true;
+        }
+        p = F::ends_at(s, p);
+    }
+    false
 }

@@ -4,6 +4,7 @@ pub mod Texts
 pub mod Strokes
 pub mod Pending
 pub mod Groups
+pub mod Components
 pub mod Rows
 pub mod Sorting
 pub mod Repeats

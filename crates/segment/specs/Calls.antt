@@ -5,7 +5,8 @@ use Rattle.lent.specs.Fit.{Stored}
 use Rattle.segment.specs.declared.Separators.{Separators}
 use Rattle.segment.specs.declared.Pen.{Pen}
 use Rattle.segment.specs.Parts.{Part, pick, rank, component_of, highest, last_component, here, after, component_text}
-use Rattle.segment.specs.Pen.{placed, finished, closing, Penned}
+use Rattle.segment.specs.declared.Value.{Value}
+use Rattle.segment.specs.Pen.{value_text, placed, finished, closing, Penned}
 
 -- ---- parts that are numbered: `part` gives each
 
@@ -24,6 +25,10 @@ up_to part i e = numbered part (e - i) i
 pub data Group (s : Separators) (k : ℕ) (f : ℕ → List ℕ) (p : ℕ) : ℕ → Pen → List ℕ → Pen → List ℕ → Type 0 where
   next : {c : ℕ} {pen r t : Pen} {d d₁ d₂ : List ℕ} → c ≤ k → Penned (placed s pen p c (f c)) pen.at r d d₁ → Group s k f p (c + 1) r d₁ t d₂ → Group s k f p c pen d t d₂
   finish : {c : ℕ} {pen r : Pen} {d d₁ : List ℕ} → c ≡ k + 1 → Penned (finished s pen p k) pen.at r d d₁ → Group s k f p c pen d r d₁
+
+-- who is asked answers each component with its text by f
+abbrev pub Gives : List ℕ → (ℕ → Value → Type 0) → (ℕ → List ℕ) → Type 0
+Gives job asked f = (c : ℕ) (v : Value) → asked c v → value_text job v ≡ f c
 
 -- ---- a row segment: group by group in the order of its parts
 

@@ -1,6 +1,6 @@
 -- Writing a segment in the standard's sequence (X12.6): identifier, then for each filled place the separators that are still due and its text,
 -- then the terminator. A pen holds how many bytes are written, how many element separators, and how many component separators in that element.
-use Rattle.std.specs.Prelude.{ℕ, ◌-◌, ◌≡◌, Bool, true, false, List, [], ◌∷◌, ◌++◌, take, replicate, eqb, ltb}
+use Rattle.std.specs.Prelude.{ℕ, ◌-◌, ◌≤◌, ◌≡◌, Bool, true, false, List, [], ◌∷◌, ◌++◌, take, replicate, eqb, ltb}
 use Rattle.lent.specs.Fit.{stretch, Stored}
 use Rattle.segment.specs.declared.Separators.{Separators}
 use Rattle.segment.specs.declared.Value.{Value}
@@ -11,6 +11,12 @@ use Rattle.segment.specs.Parts.{pick, is_empty}
 -- zeros, then bytes of the value's own, then a stretch of the job, then spaces
 unfoldable pub value_text : List ℕ → Value → List ℕ
 value_text job v = replicate v.zeros 48 ++ (take v.count v.bytes ++ (stretch job v.start v.len ++ replicate v.spaces 32))
+
+-- no zeros, no spaces, and no more bytes of its own than there are
+pub record Plain (v : Value) : Type 0 where
+  pub zeros : v.zeros ≡ 0
+  pub spaces : v.spaces ≡ 0
+  pub few : v.count ≤ 48
 
 -- whether a byte of a text passes a test
 unfoldable pub holds_any : (ℕ → Bool) → List ℕ → Bool

@@ -3,10 +3,11 @@
 
 pub mod read;
 
-ghost use Rattle.std.specs.Prelude.{◌≡◌, List, [], ◌++◌, ℕ, ◌+◌, ◌-◌, ◌<◌, take, replicate};
+ghost use Rattle.std.specs.Prelude.{◌≡◌, List, [], ◌++◌, ℕ, ◌+◌, ◌-◌, ◌≤◌, ◌<◌, max, take, replicate};
 ghost use Rattle.lent.specs.Fit.{more, stretch, Stored};
-ghost use Rattle.segment.specs.Parts.{is_empty};
-ghost use Rattle.segment.specs.Pen.{value_text, holds, holds_any, one_of, components_in, reached, placed, finished, opened, ending, closing, Penned};
+ghost use Rattle.segment.specs.Calls.{Gives, Group};
+ghost use Rattle.segment.specs.Parts.{pick, is_empty};
+ghost use Rattle.segment.specs.Pen.{value_text, Plain, holds, holds_any, one_of, components_in, reached, placed, finished, opened, ending, closing, Penned};
 
 // The bytes that part a document, and whether a line feed follows each terminator.
 #[derive(Clone, Copy)]
@@ -58,9 +59,20 @@ pub fn is_empty(job: &[u8], v: Value) -> bool
     true
 }
 
+// The higher of a number and that of a text, which counts where the text is filled.
+pub fn raised(job: &[u8], m: usize, v: Value, n: usize) -> usize
+    ensures { result ≡ max m (pick (is_empty (value_text job.now v)) 0 n) }
+{
+    if is_empty(job, v) {
+        return m;
+    }
+    m.max(n)
+}
+
 // A text of the job.
 pub fn held(start: usize, len: usize) -> Value
-    ensures { (job : List ℕ) → value_text job result ≡ stretch job start len }
+    ensures text { (job : List ℕ) → value_text job result ≡ stretch job start len }
+    ensures plain { Plain result }
 {
     Value {
         zeros: 0,
@@ -74,7 +86,8 @@ pub fn held(start: usize, len: usize) -> Value
 
 // A text of its own.
 pub fn own(bytes: [u8; 48], count: usize) -> Value
-    ensures { (job : List ℕ) → value_text job result ≡ take count bytes }
+    ensures text { (job : List ℕ) → value_text job result ≡ take count bytes }
+    ensures plain { count ≤ 48 → Plain result }
 {
     Value {
         zeros: 0,
@@ -303,6 +316,27 @@ pub fn finish(doc: &mut [u8], s: Separators, pen: Pen, p: usize, c: usize) -> Pe
         return stay(pen);
     }
     reach(doc, s, pen, p, c)
+}
+
+// The components of element p up to the last filled, by who gives each its text.
+pub fn put_components<F: Fn(u32) -> Value>(
+    doc: &mut [u8],
+    job: &[u8],
+    s: Separators,
+    pen: Pen,
+    p: usize,
+    last: u32,
+    value: F,
+) -> Pen
+    requires { F.IsAlwaysCallable value }
+    ensures { (f : ℕ → List ℕ) → Gives job.now (F.post value) f → Group s last f p 1 pen doc.old result doc.new }
+{
+    let mut t = pen;
+    for c in 1..=last {
+        let v = value(c);
+        t = component(doc, job, s, t, p, c as usize, v);
+    }
+    finish(doc, s, t, p, last as usize)
 }
 
 fn put_ending(doc: &mut [u8], s: Separators, at: usize) -> usize

@@ -1,7 +1,7 @@
 -- What an index holds of a list of a job: its place, then the places of its first 32 items.
-use Rattle.std.specs.Prelude.{ℕ, ◌+◌, ◌*◌, ◌≤◌, ◌<◌, ◌≡◌, List, length, get_or, set, ltb}
+use Rattle.std.specs.Prelude.{ℕ, ◌+◌, ◌*◌, ◌≤◌, ◌<◌, ◌≡◌, List, length, get_or, set, ltb, Option, None, Some}
 use Rattle.std.proofs.Common.{arith}
-use Rattle.codec.specs.Codec.{Codec, pick, le_c, list_c}
+use Rattle.codec.specs.Codec.{Codec, pick, le, le_c, list_c}
 use Rattle.codec.specs.Skip.{skip, steps, count_at, Is}
 use Rattle.codec.specs.Rows.{small}
 use Rattle.spec.specs.Kept.{Kept}
@@ -22,6 +22,11 @@ pub record Lists {A B : Type 0} (C : Codec A) (D : Codec B) (b : List ℕ) (e : 
 pub record Listed {A : Type 0} (C : Codec A) (b : List ℕ) (e : ℕ) (idx : List ℕ) (k : ℕ) (vs : List A) : Type 0 where
   pub list : Is (list_c C) b e (get_or idx k 0) vs
   pub item : (i : ℕ) (d : A) → i < length vs → i < 32 → Is C b e (get_or idx (k + 1 + i) 0) (get_or vs i d)
+
+-- where item i stands, by the index and the count of the list whose numbers begin at k
+abbrev pub ItemAt : List ℕ → List ℕ → ℕ → ℕ → Option ℕ → Type 0
+ItemAt b idx k i None = le 4 b (get_or idx k 0) ≤ i
+ItemAt b idx k i (Some p) = (i < le 4 b (get_or idx k 0)) × (p ≡ get_or idx (k + 1 + i) 0) × (p < 4294967296)
 
 -- an index that agrees on these numbers holds the same
 pub listed_kept : {A : Type 0} (C : Codec A) (b : List ℕ) (e k : ℕ) (idx new : List ℕ) (vs : List A) → ((i : ℕ) → k ≤ i → i < k + 33 → get_or new i 0 ≡ get_or idx i 0) → Listed C b e idx k vs → Listed C b e new k vs

@@ -8,7 +8,7 @@ ghost use Rattle.spec.specs.Cursor.{Entries, ElementSays, is_numeric, first_of};
 
 use crate::ids::{Element, Elements, Stretch};
 use crate::read::{spec_end, stretch_at};
-use crate::segments::{element_max, element_min};
+use crate::segments::{element_min, max_at};
 use codec::forms::NumMap;
 use codec::{Form, Section};
 use format::Component;
@@ -32,9 +32,7 @@ pub fn numeric_at(b: &[u8], at: usize) -> bool
 pub fn first_code(s: Section, at: usize) -> Option<Stretch>
     ensures { (d : ElementDef) → Is element_c s.entry.bytes.now s.entry.end at d → HoldsText s.entry.bytes.now result (first_of d.codes) }
 {
-    let kind = format::Kind::ends_at(s, at);
-    let min = s.opt_num_at(kind);
-    let max = s.opt_num_at(min);
+    let max = format::sizes_end(s, at);
     let codes = NumMap::<Component>::ends_at(s, max);
     if (s.end as usize) < codes {
         return None;
@@ -60,7 +58,7 @@ pub fn element(job: &[u8], c: Elements) -> Element
     let value = s.le_at(4, at);
     let numeric = numeric_at(job, value);
     let min = element_min(s, value);
-    let max = element_max(s, value);
+    let max = max_at(s, value);
     let code = first_code(s, value);
     Element {
         number,

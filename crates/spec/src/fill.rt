@@ -1,5 +1,5 @@
 // The index is filled: a second pass over a job that passed the refusals 1 to 5.
-ghost use Rattle.std.specs.Prelude.{◌≤◌, ◌<◌, ◌≡◌, [], ◌∷◌, length};
+ghost use Rattle.std.specs.Prelude.{◌≤◌, ◌≡◌, [], ◌∷◌, length};
 ghost use Rattle.codec.specs.Codec.{◌⊗◌, list_c};
 ghost use Rattle.codec.specs.Forms.{bytes_c};
 ghost use Rattle.codec.specs.Skip.{skip, count_at};
@@ -14,31 +14,13 @@ ghost use Rattle.spec.specs.Segments.{SegmentsIndexed};
 ghost use Rattle.spec.specs.Kept.{Kept};
 ghost use Rattle.spec.specs.Rows.{loop_row, table_row, loop_rows, table_rows, entry_rows};
 
-use crate::read::spec_end;
+use crate::read::{spec_end, start};
 use codec::forms::{Bytes, Items, Le, NumMap, Opt};
 use codec::{Form, Section};
 use format::{Control, Element, Repeat};
 
-pub fn put6(
-    index: &mut [u16],
-    k: u32,
-    p0: usize,
-    p1: usize,
-    p2: usize,
-    p3: usize,
-    p4: usize,
-    p5: usize,
-)
-    requires { k < 10752 }
-    ensures { index.new ≡ stored index.old k (small p0 ∷ small p1 ∷ small p2 ∷ small p3 ∷ small p4 ∷ small p5 ∷ []) }
-{
-    codec::put3(index, k, p0, p1, p2);
-    codec::put3(index, k + 3, p3, p4, p5);
-}
-
 // Stores where the parts of a loop stand.
 pub fn loop_into(s: Section, index: &mut [u16], k: u32, at: usize) -> usize
-    requires { k < 10752 }
     ensures { (result ≡ skip loop_c s.entry.bytes.now at s.entry.end) × (index.new ≡ stored index.old k (loop_row s.entry.bytes.now s.entry.end at)) }
 {
     let trigger = s.opt_num_at(at);
@@ -47,14 +29,16 @@ pub fn loop_into(s: Section, index: &mut [u16], k: u32, at: usize) -> usize
     let last = s.case_at(2, usage);
     let control = s.opt_bytes_at(last);
     let children = Opt::<Control>::ends_at(s, control);
-    put6(index, k, at, trigger, occurrences, usage, last, control);
-    codec::put(index, k as usize + 6, children);
+    codec::put_all(
+        index,
+        k,
+        &[at, trigger, occurrences, usage, last, control, children],
+    );
     s.les_at(4, children)
 }
 
 // Stores where the parts of a table stand.
 pub fn table_into(s: Section, index: &mut [u16], k: u32, at: usize) -> usize
-    requires { k < 10752 }
     ensures { (result ≡ skip table_c s.entry.bytes.now at s.entry.end) × (index.new ≡ stored index.old k (table_row s.entry.bytes.now s.entry.end at)) }
 {
     let segment = s.les_at(4, at);
@@ -62,7 +46,7 @@ pub fn table_into(s: Section, index: &mut [u16], k: u32, at: usize) -> usize
     let columns = Opt::<Repeat>::ends_at(s, repeat);
     let parent = s.le_at(4, columns);
     let ancestors = s.opt_num_at(parent);
-    put6(index, k, at, segment, repeat, columns, parent, ancestors);
+    codec::put_all(index, k, &[at, segment, repeat, columns, parent, ancestors]);
     s.les_at(4, ancestors)
 }
 
@@ -110,8 +94,7 @@ pub fn entries_into(s: Section, index: &mut [u16], at: usize) -> usize
 pub fn heads_into(index: &mut [u16], roots: usize, tables: usize, version: usize)
     ensures { index.new ≡ stored index.old 0 (small 0 ∷ small roots ∷ small tables ∷ small version ∷ []) }
 {
-    codec::put2(index, 0, 0, roots);
-    codec::put2(index, 2, tables, version);
+    codec::put_all(index, 0, &[0, roots, tables, version]);
 }
 
 // The region of the segments, whose list stands at a place; answers the place behind it.
@@ -156,27 +139,27 @@ pub fn envelope_into(s: Section, index: &mut [u16], at: usize)
     let segment = s.le_at(1, component);
     let repetition = s.le_at(1, segment);
     let line_break = Opt::<Le<1>>::ends_at(s, repetition);
-    put6(
+    codec::put_all(
         index,
         2560,
-        at,
-        sender_id,
-        receiver_qualifier,
-        receiver_id,
-        application_sender,
-        application_receiver,
+        &[
+            at,
+            sender_id,
+            receiver_qualifier,
+            receiver_id,
+            application_sender,
+            application_receiver,
+            date,
+            time,
+            usage_indicator,
+            control_number,
+            element,
+            component,
+            segment,
+            repetition,
+            line_break,
+        ],
     );
-    put6(
-        index,
-        2566,
-        date,
-        time,
-        usage_indicator,
-        control_number,
-        element,
-        component,
-    );
-    codec::put3(index, 2572, segment, repetition, line_break);
 }
 
 // The region of the envelope.
@@ -185,17 +168,9 @@ pub fn fill_envelope(job: &[u8], index: &mut [u16])
     ensures envelope_indexed { 10752 ≤ length index.old → EnvelopeIndexed job.now index.new }
     ensures kept { Kept 2560 2624 index.old index.new }
 {
-    let t = job.len() - 24;
-    let at = codec::num(job, t + 12);
-    let end = codec::num(job, t + 16);
-    envelope_into(
-        Section {
-            bytes: job,
-            end: end as u32,
-        },
-        index,
-        at,
-    );
+    let at = start(job, 12);
+    let end = start(job, 16);
+    envelope_into(Section { bytes: job, end }, index, at as usize);
 }
 
 // All three regions.

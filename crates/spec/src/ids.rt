@@ -1,13 +1,13 @@
 // The numbers of loops, tables and rows, and the answers that stand for parts of a job.
 
 // A loop's number. No field says that it is below 32: it is read from the job, readers answer for any, and such a field would ask more of whoever makes one.
-#[derive(Clone, Copy)]
+#[derive(Clone, Copy, PartialEq, Eq)]
 pub struct LoopId(pub u32);
 
-#[derive(Clone, Copy)]
+#[derive(Clone, Copy, PartialEq, Eq)]
 pub struct TableId(pub u32);
 
-#[derive(Clone, Copy)]
+#[derive(Clone, Copy, PartialEq, Eq, PartialOrd, Ord)]
 pub struct RowId(pub u32);
 
 // A byte string, where it stands in the job.

@@ -12,6 +12,7 @@ use crate::read::{
 };
 use codec::Section;
 
+// Readers of one field each, as in `envelope`: each promises a field of its own, in the type of that field.
 pub fn loop_count(job: Indexed) -> u32
     requires { SpecIndexed job.bytes.now job.index.now }
     ensures { result ≡ length (job_of job.entry.bytes.now).spec.loops }

@@ -1,6 +1,6 @@
 // Readers by place. Past the job's end every byte reads as 0, so that a place there reads as none, empty, false or 0.
-ghost use Rattle.std.specs.Prelude.{ℕ, ◌+◌, ◌*◌, ◌<◌, ◌≤◌, ◌≡◌, List, [], get_or, length, Option, None};
-ghost use Rattle.codec.specs.Codec.{list_c};
+ghost use Rattle.std.specs.Prelude.{ℕ, ◌+◌, ◌-◌, ◌*◌, ◌<◌, ◌≤◌, ◌≡◌, List, [], get_or, length, Option, None};
+ghost use Rattle.codec.specs.Codec.{le, list_c};
 ghost use Rattle.codec.specs.Skip.{steps};
 ghost use Rattle.codec.specs.Forms.{num_c, byte_c, bytes_c, opt_c};
 ghost use Rattle.format.specs.Spec.{Control, control_c, Repeat, repeat_c};
@@ -111,13 +111,21 @@ pub fn string_at(s: Section, at: usize, k: u32) -> usize
     p
 }
 
+// One of the trailer's numbers: k is its place there.
+pub fn start(b: &[u8], k: u8) -> u32
+    requires { (24 ≤ length b.now) × (length b.now ≤ 65536) }
+    ensures { result ≡ le 4 b.now (length b.now - 24 + k) }
+{
+    let t = b.len() - 24;
+    codec::num(b, t + k as usize) as u32
+}
+
 // Where the spec ends.
 pub fn spec_end(b: &[u8]) -> u32
     requires { (24 ≤ length b.now) × (length b.now ≤ 65536) }
     ensures { result ≡ plan_start b.now }
 {
-    let t = b.len() - 24;
-    codec::num(b, t + 4) as u32
+    start(b, 4)
 }
 
 // The place of field f of row i, past every job where the list has no such row. No Option: a place past the job reads as none, empty, false or 0,

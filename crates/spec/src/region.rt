@@ -3,8 +3,9 @@ ghost use Rattle.std.specs.Prelude.{◌≡◌, length, ◌+◌, ◌<◌, ◌≤�
 ghost use Rattle.codec.specs.Codec.{list_c};
 ghost use Rattle.codec.specs.Skip.{skip};
 ghost use Rattle.spec.specs.Kept.{Kept};
-ghost use Rattle.spec.specs.Region.{put_item, Stored};
+ghost use Rattle.spec.specs.Region.{put_item, Stored, ItemAt};
 
+use crate::Indexed;
 use codec::{Form, Section};
 
 // Stores the place of item i of the list whose numbers begin at k, if it is among the first 32.
@@ -30,4 +31,16 @@ pub fn list_into<F: Form>(s: Section, index: &mut [u16], k: usize, at: usize) ->
     }
     codec::put(index, k, at);
     p
+}
+
+// Where item i stands of the list whose numbers begin at k, if the list has it.
+pub fn item_place(job: Indexed, k: usize, i: u32) -> Option<usize>
+    requires { k < 1152921504606846976 }
+    ensures { ItemAt job.entry.bytes.now job.entry.index.now k i result }
+{
+    let list = codec::place(job.index, k);
+    if codec::num(job.bytes, list) <= i as usize {
+        return None;
+    }
+    Some(codec::place(job.index, k + 1 + i as usize))
 }

@@ -104,16 +104,10 @@ pub fn element_min(s: Section, at: usize) -> Option<u32>
     number_in(s, min)
 }
 
-pub fn element_max(s: Section, at: usize) -> Option<u32>
-    ensures { (d : ElementDef) → Is element_c s.entry.bytes.now s.entry.end at d → result ≡ d.max }
-{
-    let min = Kind::ends_at(s, at);
-    let max = s.opt_num_at(min);
-    number_in(s, max)
-}
-
-pub fn component_max(s: Section, at: usize) -> Option<u32>
-    ensures { (d : ComponentDef) → Is component_c s.entry.bytes.now s.entry.end at d → result ≡ d.max }
+// The most that the element or the component at a place takes: both begin with the same fields.
+pub fn max_at(s: Section, at: usize) -> Option<u32>
+    ensures element { (d : ElementDef) → Is element_c s.entry.bytes.now s.entry.end at d → result ≡ d.max }
+    ensures component { (d : ComponentDef) → Is component_c s.entry.bytes.now s.entry.end at d → result ≡ d.max }
 {
     let min = Kind::ends_at(s, at);
     let max = s.opt_num_at(min);
@@ -130,11 +124,8 @@ pub fn max_of_component(s: Section, at: usize, component: u32) -> Option<u32>
     if (s.end as usize) < components {
         return None;
     }
-    let place = map_place::<Component>(s, components, component);
-    match place {
-        None => None,
-        Some(p) => component_max(s, p),
-    }
+    let place = map_place::<Component>(s, components, component)?;
+    max_at(s, place)
 }
 
 // The most that the element at a place takes, or its component.
@@ -142,7 +133,7 @@ pub fn max_in(s: Section, at: usize, component: Option<u32>) -> Option<u32>
     ensures { (d : ElementDef) → Is element_c s.entry.bytes.now s.entry.end at d → result ≡ max_in d component }
 {
     match component {
-        None => element_max(s, at),
+        None => max_at(s, at),
         Some(c) => max_of_component(s, at, c),
     }
 }

@@ -1,3 +1,4 @@
 pub mod Tree
 pub mod Places
 pub mod Names
+pub mod ByNumber

@@ -6,7 +6,7 @@ use mathlib.Core.Bool.{Bool, true, false}
 use native.Mathlib.Omega.{arith}
 use lib.ListN.{length, get_or-eq_default}
 use lib.Dec.{leb, eqb}
-use Rattle.codec.specs.Codec.{pick, le_c, list_c}
+use Rattle.codec.specs.Codec.{le_c, list_c, pick}
 use Rattle.codec.specs.Forms.{opt_c, num_c}
 use Rattle.codec.specs.Skip.{skip, steps, count_at, tag_at, skip_le}
 use Rattle.codec.specs.Field.{ListIs, is_list, is_in, is_none, is_some, count_list}
@@ -17,9 +17,9 @@ use Rattle.format.specs.Spec.{Loop, loop_c, no_loop}
 use Rattle.format.specs.Layout.{Item, segment_item, loop_item, item_c}
 use Rattle.format.specs.Fields.{loop_children, item_tag, is_loop_item, is_loop}
 use Rattle.format.specs.Refusal.{loop_at, loops_in, outside}
-use Rattle.says.specs.Says.{Says, SaysRest, SaysBefore}
+use Rattle.says.specs.Says.{Says, SaysRest, SaysBefore, any_before}
 use Rattle.std.specs.Prelude.{Some, None}
-use Rattle.tree.specs.Parts.{on_loop, held}
+use Rattle.tree.specs.Parts.{again, on_loop, held}
 use Rattle.says.proofs.Walk.{number_is, says_at}
 
 pub outside_says : (b : List ℕ) (e at m n : ℕ) → m ≡ count_at b at e → Says num_c b e at (outside n) (leb n m)
@@ -96,24 +96,14 @@ module _ (b : List ℕ) (e at t : ℕ) (h : t ≡ tag_at b at e) where
       absurd (i (h ∙ tag_in b at e (omega arith) ∙ m.0))
 
 -- ---- numbers that repeat
-abbrev pub again : List ℕ → ℕ → Bool
-again ys y = member_of y ys
-
-pub member_step : (x y : ℕ) (ys : List ℕ) → member_of x (y ∷ ys) ≡ pick (eqb x y) true (member_of x ys)
-unfolding member_of
-member_step x y ys = refl
-
-pub member_nil : (x : ℕ) → member_of x [] ≡ false
-unfolding member_of
-member_nil x = refl
+pub repeats_again : (xs : List ℕ) → any_before again xs ≡ repeats xs
+unfolding any_before repeats
+repeats_again [] = refl
+repeats_again (x ∷ xs) = rw (repeats_again xs)
 
 pub repeat_step_lem : (y : ℕ) (ys : List ℕ) → repeats (y ∷ ys) ≡ pick (again ys y) true (repeats ys)
 unfolding repeats
 repeat_step_lem y ys = refl
-
-pub repeat_nil : repeats [] ≡ false
-unfolding repeats
-repeat_nil = refl
 
 -- the number x that stands at p is met again behind it
 pub again_says : (b : List ℕ) (e p x m q : ℕ) (r : Bool) → x ≡ count_at b p e → SaysRest num_c b e m q (member_of x) r → SaysBefore num_c b e p m q again r

@@ -13,8 +13,8 @@ ghost use Rattle.format.specs.Spec.{Loop, loop_c, spec_c, table_c};
 ghost use Rattle.format.specs.Layout.{item_c};
 ghost use Rattle.format.specs.Fields.{loop_children, spec_roots, spec_tables};
 ghost use Rattle.format.specs.Refusal.{loop_at, outside, outside_loop, outside_order, outside_table};
-ghost use Rattle.says.specs.Says.{Says, Clears, SaysRest};
-ghost use Rattle.tree.specs.Parts.{on_loop, Placed, Noted, outside_spec};
+ghost use Rattle.says.specs.Says.{Says, Clears, SaysBefore};
+ghost use Rattle.tree.specs.Parts.{again, on_loop, Placed, Noted, outside_spec};
 
 use codec::forms::{Bytes, Items, Le, Opt};
 use codec::{Form, Section};
@@ -189,35 +189,19 @@ fn note_numbers(s: Section, at: usize, names: &mut [usize]) -> usize
     n
 }
 
-// Whether x is among the numbers that stand from a place on, of which there are `rest`.
-fn member_behind(s: Section, at: usize, rest: usize, x: usize) -> bool
-    ensures { SaysRest num_c s.entry.bytes.now s.entry.end rest at (member_of x) result }
+// Whether the number at a place is one of the rest behind it, from next on.
+fn number_again(s: Section, at: usize, rest: usize, next: usize) -> bool
+    ensures { SaysBefore num_c s.entry.bytes.now s.entry.end at rest next again result }
 {
-    let mut p = at;
-    for _i in 0..rest {
-        if same_at(s, p, x) {
-            return true;
-        }
-        p = s.le_at(4, p);
-    }
-    false
+    let x = s.count_at(at);
+    says::lists::any_rest::<Le<4>, _>(s, next, rest, |p| same_at(s, p, x))
 }
 
 // Whether a number stands in the list twice, by a search behind each.
 fn numbers_searched(s: Section, at: usize) -> bool
     ensures { Says (list_c num_c) s.entry.bytes.now s.entry.end at repeats result }
 {
-    let n = s.count_at(at);
-    let mut p = s.le_at(4, at);
-    for i in 0..n {
-        let x = s.count_at(p);
-        let q = s.le_at(4, p);
-        if member_behind(s, q, n - i - 1, x) {
-            return true;
-        }
-        p = q;
-    }
-    false
+    says::lists::any_before::<Le<4>, _>(s, at, |p, rest, next| number_again(s, p, rest, next))
 }
 
 // Some number stands in the list twice: numbers below 32 repeat within the first 33. The search is left for other lists.

@@ -1,14 +1,14 @@
 // The loops of a spec, each by its number.
-ghost use Rattle.std.specs.Prelude.{◌≡◌, List, ℕ, ◌<◌, eqb};
+ghost use Rattle.std.specs.Prelude.{◌≡◌, List, ℕ, ◌<◌, Bool, eqb};
 ghost use Rattle.codec.specs.Codec.{le_c, list_c};
 ghost use Rattle.codec.specs.Forms.{num_c, opt_c};
 ghost use Rattle.codec.specs.Skip.{count_at, skip, steps};
-ghost use Rattle.format.specs.Words.{if_some, member_of};
-ghost use Rattle.format.specs.Spec.{loop_c};
+ghost use Rattle.format.specs.Words.{any_from, if_some, member_of};
+ghost use Rattle.format.specs.Spec.{Loop, loop_c};
 ghost use Rattle.format.specs.Fields.{loop_children};
 ghost use Rattle.format.specs.Refusal.{loop_at};
 ghost use Rattle.says.specs.Says.{Says};
-ghost use Rattle.tree.specs.Parts.{Placed, held};
+ghost use Rattle.tree.specs.Parts.{LoopAt, Placed, TestsLoops, held};
 
 use codec::forms::Le;
 use codec::{Form, Section};
@@ -84,6 +84,22 @@ impl<'a, 'p> Loops<'a, 'p> {
         }
         let children = self.below(c);
         member_at(self.section, children, i)
+    }
+
+    // Whether some loop is found, by a test that is told its number, where it stands and where its children do.
+    pub fn some<T: Fn(usize, usize, usize) -> bool>(self, test: T) -> bool
+        requires { (k : ℕ) (p : ℕ) (q : ℕ) → LoopAt self.section.bytes.now self.section.end self.at k p q → T.pre test k p q }
+        ensures { (f : ℕ → Loop → Bool) → TestsLoops self.entry.section.bytes.now self.entry.section.end self.entry.at (T.post test) f → Says (list_c loop_c) self.entry.section.bytes.now self.entry.section.end self.entry.at (any_from f 0) result }
+    {
+        let n = self.section.count_at(self.at);
+        for k in 0..n {
+            let p = self.place_of(k);
+            let children = self.below(k);
+            if test(k, p, children) {
+                return true;
+            }
+        }
+        false
     }
 }
 

@@ -23,7 +23,7 @@ use Rattle.segment.specs.declared.Separators.{Separators}
 use Rattle.segment.specs.declared.Pen.{Pen}
 use Rattle.segment.specs.declared.Value.{Value}
 use Rattle.segment.specs.Parts.{pick, is_empty, highest, last_element, last_component, component_text}
-use Rattle.segment.specs.Pen.{value_text}
+use Rattle.segment.specs.Pen.{value_text, Plain}
 use Rattle.segment.specs.Calls.{Group}
 use Rattle.nest.specs.Lists.{on}
 use Rattle.nest.specs.Finding.{field, number_from}
@@ -59,18 +59,9 @@ module _ {s : Separators} {pen : Pen} {d : List ℕ} (t : Bool) (p : ℕ) (text 
       go true = left
       go false = nothing
 
-module _ (last p : ℕ) (text : List ℕ) where
-  pub reach_empty : is_empty text ≡ true → last ≡ max last (last_element (part_at p None text ∷ []))
-  unfolding highest
-  reach_empty e = rw e (omega arith)
-
-  pub reach_up : is_empty text ≡ false → last < p → p ≡ max last (last_element (part_at p None text ∷ []))
-  unfolding highest
-  reach_up e h = rw e (omega arith)
-
-  pub reach_same : is_empty text ≡ false → p ≤ last → last ≡ max last (last_element (part_at p None text ∷ []))
-  unfolding highest
-  reach_same e h = rw e (omega arith)
+pub reach_one : (last p n : ℕ) (text : List ℕ) → n ≡ max last (pick (is_empty text) 0 p) → n ≡ max last (last_element (part_at p None text ∷ []))
+unfolding highest
+reach_one last p n text e = omega (arith, e)
 
 pub reach_none : (last : ℕ) → last ≡ max last (last_element [])
 unfolding highest
@@ -92,11 +83,13 @@ field_stored j trigger text f p reason checked t e h x y =
 
 -- ---- the text of a source
 
-pub raw_value : (job : List ℕ) (v : Value) (d : ElementDef) (reason : ℕ) → 0 < reason → v.zeros ≡ 0 → v.spaces ≡ 0
-    → value_text job v ≡ padded_to d reason (take v.count v.bytes ++ stretch job v.start v.len)
+pub raw_text : (d : ElementDef) (reason : ℕ) (text : List ℕ) → 0 < reason → text ≡ padded_to d reason text
+raw_text d zero text h = absurd (omega arith)
+raw_text d (suc n) text h = refl
+
+pub plain_text : (job : List ℕ) (v : Value) → Plain v → take v.count v.bytes ++ stretch job v.start v.len ≡ value_text job v
 unfolding value_text
-raw_value job v d zero h e f = absurd (omega arith)
-raw_value job v d (suc n) h e f = rw (e, f, append-nil (stretch job v.start v.len))
+plain_text job v h = rw (h.zeros, h.spaces, append-nil (stretch job v.start v.len))
 
 numeric_is : (k : Kind) → cursor.is_numeric k ≡ is_numeric k
 numeric_is kind_an = refl
@@ -120,11 +113,11 @@ put_as j trigger p d None g text e = rw e
 put_as j trigger p d (Some f) g text e = rw e
 
 module _ (j : Job) (trigger : List ℕ) (b : List ℕ) (o : Option Sourced) (n : ℕ) (y : ℕ × ElementDef) (k : n ≡ y.0) where
-  pub source_put_lem : (src : Source) → Tells b (Some src) o → (text : List ℕ) → text ≡ padded_to y.1 (why_in src.reason) (text_in b src)
-      → put_by j trigger n src.field (why_in src.reason) src.checked text ≡ on o (put_sourced j trigger y.0 y.1) P.nothing
+  pub source_put_lem : (src : Source) → Tells b (Some src) o → (text : List ℕ) → text ≡ padded_to y.1 (why_in src.given.reason) (text_in b src)
+      → put_by j trigger n src.field (why_in src.given.reason) src.checked text ≡ on o (put_sourced j trigger y.0 y.1) P.nothing
   source_put_lem src h text q =
       let s = h.says in
-      rw (← s, k) (put_as j trigger y.0 y.1 src.field (record { text = text_in b src; reason = why_in src.reason; checked = src.checked }) text q)
+      rw (← s, k) (put_as j trigger y.0 y.1 src.field (record { text = text_in b src; reason = why_in src.given.reason; checked = src.checked }) text q)
 
   pub source_none : Tells b None o → P.nothing ≡ on o (put_sourced j trigger y.0 y.1) P.nothing
   source_none h = let s = h.says in rw (← s)

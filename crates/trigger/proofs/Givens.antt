@@ -20,36 +20,25 @@ use Rattle.spec.specs.Answers.{stretch_of, Holds, HoldsText}
 use Rattle.spec.specs.Cursor.{ElementSays, first_of}
 use Rattle.spec.specs.VersionIs.{HoldsVersion, version_rule}
 use Rattle.spec.specs.Found.{same_at, same_lists, same_lengths, stretch_long, stretch_byte}
-use Rattle.texts.specs.declared.Text.{Text}
 use Rattle.std.specs.Prelude as Rust
-use Rattle.std.specs.Prelude.{Some, None, Result, Option}
-use Rattle.std.specs.Result.{result_err}
-use Rattle.texts.specs.declared.render.Refused.{Refused}
-use Rattle.texts.specs.Held.{held}
-use Rattle.texts.specs.Reason.{Outcome, Says, text_of, why_in}
+use Rattle.std.specs.Prelude.{Some, None, Option}
+use Rattle.std.specs.Option.{unwrap_or}
+use Rattle.segment.specs.Pen.{Plain}
+use Rattle.texts.specs.Reason.{Outcome}
 use Rattle.texts.specs.DateText.{envelope_date}
 use Rattle.texts.specs.Clock.{envelope_time}
 use Rattle.texts.specs.Floor.{signed32}
 use Rattle.nest.specs.Lists.{on, first}
 use Rattle.emit.specs.Envelope.{Sourced, plainly, outcome, separator, is_white, unless_last, trim_end, field_given, field_at, fielded, version_at, versioned, unsourced}
-use Rattle.emit.proofs.TextLaws.{held_text, why_err}
+use Rattle.emit.specs.declared.cells.Written.{Written}
+use Rattle.emit.specs.Written.{Writes}
 use Rattle.trigger.specs.declared.given.Source.{Source}
 use Rattle.trigger.specs.Source.{Tells, otherwise}
 
 -- ---- the forms of a text
 
-pub told_stretch : (job v : List ℕ) (f : Rust.Option ℕ) (s : Stretch) → Holds job s v
-    → Tells job (Some (record { field = f; bytes = replicate 48 0; count = 0; start = s.start; len = s.len; reason = None; checked = true })) (Some (record { field = f; given = plainly v }))
-unfolding stretch_of
-told_stretch job v f s h = record { says = rw h.bytes; short = omega arith }
-
-pub told_said : (job : List ℕ) (o : Outcome) (f : Rust.Option ℕ) (said : Result Text Refused) (t : Text) (e : Rust.Option Refused) → length o.text ≤ 48 → Says said o → t ≡ text_of said → e ≡ result_err said
-    → Tells job (Some (record { field = f; bytes = t.bytes; count = t.len; start = 0; len = 0; reason = e; checked = true })) (Some (record { field = f; given = outcome o }))
-unfolding held
-told_said job o f said t e h s x y =
-    let z : t ≡ held o.text = x ∙ s.text in
-    let q : t.len ≡ length o.text = ap (λ (u : Text). u.len) z in
-    record { says = rw (append-nil (take t.len t.bytes), held_text t o.text z, ap why_in y ∙ why_err said ∙ s.reason); short = omega arith }
+pub told : (job : List ℕ) (o : Outcome) (f : Rust.Option ℕ) (w : Written) → Writes job w o → Plain w.value → Tells job (Some (record { field = f; given = w; checked = true })) (Some (record { field = f; given = outcome o }))
+told job o f w h p = record { says = rw (h.text, h.reason); short = p }
 
 -- ---- white space
 
@@ -202,15 +191,17 @@ module _ (r : Rust.Option ℕ) (v : Option ℕ) (e : r ≡ v) where
 
 -- ---- the spec
 
-pub code_of : (d : ElementDef) (code : List ℕ) → first d.codes ≡ Some code → unsourced d ≡ record { field = None; given = plainly code }
-code_of d code h = rw h
-
-pub no_code : (d : ElementDef) → first d.codes ≡ None → unsourced d ≡ record { field = None; given = plainly [] }
-no_code d h = rw h
-
-pub nothing_holds : (b : List ℕ) → Holds b (record { start = 0; len = 0 }) []
+nothing_holds : (b : List ℕ) → Holds b (record { start = 0; len = 0 }) []
 unfolding stretch_of
 nothing_holds b = record { bytes = refl; within = omega arith }
+
+-- the first code, empty where there is none
+pub code_or : {b : List ℕ} {x : Element} {y : ℕ × ElementDef} → ElementSays b x y → (s : Stretch) → s ≡ unwrap_or x.code (record { start = 0; len = 0 }) → Holds b s (on (first y.1.codes) (λ v. v) [])
+code_or {b} {x} {y} h s e = rw e (go x.code refl)
+  where
+    go : (k : Option Stretch) → x.code ≡ k → Holds b (unwrap_or k (record { start = 0; len = 0 })) (on (first y.1.codes) (λ v. v) [])
+    go None q = rw (code_gone h q) (nothing_holds b)
+    go (Some c) q = rw (code_there h c q) (code_holds h c q)
 
 module _ (b : List ℕ) (r : Option VersionRule) (j : Job) (h : HoldsVersion b r j.spec.version) (trigger : List ℕ) (position : ℕ) where
   pub unversioned : r ≡ None → version_at j trigger position ≡ None

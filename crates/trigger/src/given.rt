@@ -10,6 +10,7 @@ ghost use Rattle.emit.specs.Envelope.{plainly, outcome, separator, trim_end, is_
 ghost use Rattle.trigger.specs.Source.{Tells, otherwise};
 ghost use Rattle.nest.specs.Job.{job_by};
 
+use emit::cells::Written;
 use emit::{cells, envelope, signs};
 use nest::Job;
 use spec::envelope as caller;
@@ -18,16 +19,11 @@ use spec::segments::same_at;
 use texts::render::Refused;
 use texts::{parse, render};
 
-// A text's field; its bytes: the first `count` of `bytes`, then `len` bytes of the job from `start` on; why there are none; whether it is
-// tried for separators.
+// A text with the reason why there is none, the field that it comes from, and whether it is tried for separators.
 #[derive(Clone, Copy)]
 pub struct Source {
     pub field: Option<u8>,
-    pub bytes: [u8; 48],
-    pub count: usize,
-    pub start: usize,
-    pub len: usize,
-    pub reason: Option<Refused>,
+    pub given: Written,
     pub checked: bool,
 }
 
@@ -36,13 +32,10 @@ pub struct Source {
 fn of_stretch(field: Option<u8>, s: Stretch) -> Source
     ensures { (job v : List ℕ) → Holds job s v → Tells job (Some result) (Some (record { field = field; given = plainly v })) }
 {
+    let given = cells::code_text(s);
     Source {
         field,
-        bytes: [0u8; 48],
-        count: 0,
-        start: s.start,
-        len: s.len,
-        reason: None,
+        given,
         checked: true,
     }
 }
@@ -50,15 +43,10 @@ fn of_stretch(field: Option<u8>, s: Stretch) -> Source
 fn of_said(field: Option<u8>, said: Result<texts::Text, Refused>) -> Source
     ensures { (job : List ℕ) (o : Outcome) → length o.text ≤ 48 → Says said o → Tells job (Some result) (Some (record { field = field; given = outcome o })) }
 {
-    let text = cells::text_in(said);
-    let bytes = text.bytes;
+    let given = cells::of_said(said);
     Source {
         field,
-        bytes,
-        count: text.len,
-        start: 0,
-        len: 0,
-        reason: said.err(),
+        given,
         checked: true,
     }
 }
@@ -69,13 +57,13 @@ fn of_byte(field: Option<u8>, b: u8) -> Source
 {
     let mut bytes = [0u8; 48];
     bytes[0] = b;
+    let value = segment::own(bytes, 1);
     Source {
         field,
-        bytes,
-        count: 1,
-        start: 0,
-        len: 0,
-        reason: None,
+        given: Written {
+            value,
+            reason: None,
+        },
         checked: false,
     }
 }
@@ -127,14 +115,11 @@ fn repetition_source(job: Job, f: u8, x: Element) -> Option<Source>
     requires { f ≡ 10 }
     ensures { (y : ℕ × ElementDef) → ElementSays job.entry.at.bytes.now x y → Tells job.entry.at.bytes.now result (fielded (job_by job.entry).envelope y.1 f) }
 {
-    let code = x.code;
-    match code {
-        Some(s) => Some(of_stretch(Some(f), s)),
-        None => match signs::repetition_of(job.at) {
-            Some(b) => Some(of_byte(Some(f), b)),
-            None => None,
-        },
+    if let Some(s) = x.code {
+        return Some(of_stretch(Some(f), s));
     }
+    let b = signs::repetition_of(job.at)?;
+    Some(of_byte(Some(f), b))
 }
 
 // What a field gives an element. Fields stay numbers: the layout and the findings have them so, and an enum would be made of its number and turned back into it.
@@ -158,13 +143,13 @@ fn field_source(job: Job, f: u8, x: Element) -> Option<Source>
         }
         6 => {
             let days = parse::from_bits(caller::date(job.at));
-            Some(of_said(Some(f), render::envelope_date(days, cells::max_by(x.max))))
+            Some(of_said(Some(f), render::envelope_date(days, cells::width_of(x.max))))
         }
         7 => {
             let seconds = parse::from_bits(caller::time(job.at));
             Some(of_said(
                 Some(f),
-                render::envelope_time(seconds, cells::max_by(x.max)),
+                render::envelope_time(seconds, cells::width_of(x.max)),
             ))
         }
         8 => Some(of_stretch(Some(f), caller::usage_indicator(job.at))),
@@ -195,11 +180,7 @@ fn same(job: &[u8], a: Stretch, b: Stretch) -> bool
 fn code_source(x: Element) -> Source
     ensures { (job : List ℕ) (y : ℕ × ElementDef) → ElementSays job x y → Tells job (Some result) (Some (unsourced y.1)) }
 {
-    let code = x.code;
-    match code {
-        Some(s) => of_stretch(None, s),
-        None => of_stretch(None, Stretch { start: 0, len: 0 }),
-    }
+    of_stretch(None, x.code.unwrap_or(Stretch { start: 0, len: 0 }))
 }
 
 // The version where it names this element, or else the first code.
@@ -208,24 +189,16 @@ fn spec_source(job: Job, id: Stretch, x: Element) -> Source
     ensures { (y : ℕ × ElementDef) → ElementSays job.entry.at.bytes.now x y
         → Tells job.entry.at.bytes.now (Some result) (Some (on (version_at (job_by job.entry) (stretch_of job.entry.at.bytes.now id) y.0) versioned (unsourced y.1))) }
 {
-    let version = spec::version::version(job.at);
-    match version {
-        Some(v) => {
-            let named = v.segment;
-            let first = v.first;
-            let here = same(job.at.bytes, named, id);
-            if here {
-                if v.element == x.number {
-                    return of_stretch(Some(12), first);
-                }
-                return code_source(x);
-            }
-            return code_source(x);
-        }
-        None => {
-            return code_source(x);
-        }
+    let Some(v) = spec::version::version(job.at) else {
+        return code_source(x);
+    };
+    if !same(job.at.bytes, v.segment, id) {
+        return code_source(x);
     }
+    if v.element == x.number {
+        return of_stretch(Some(12), v.first);
+    }
+    code_source(x)
 }
 
 // What an element of a trigger takes that is not the control number's.

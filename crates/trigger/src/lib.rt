@@ -95,19 +95,14 @@ pub fn write_opener(
     requires { Within s × (l.0 < 32) }
     ensures { (p : List ℕ) → DidNumber l.0 (opener_out (job_by job.entry) l.0) number result.number s result.counts doc.old doc.new segments.old segments.new findings.old findings.new p p }
 {
-    let control = spec::loops::control(job.at, l);
-    match control {
-        None => {
-            return Numbered { counts: s, number };
-        }
-        Some(c) => {
-            let counts = open_loop(job, doc, segments, findings, s, number, l, c.opener);
-            let after = state::next_number(number);
-            return Numbered {
-                counts,
-                number: after,
-            };
-        }
+    let Some(c) = spec::loops::control(job.at, l) else {
+        return Numbered { counts: s, number };
+    };
+    let counts = open_loop(job, doc, segments, findings, s, number, l, c.opener);
+    let after = state::next_number(number);
+    Numbered {
+        counts,
+        number: after,
     }
 }
 
@@ -150,30 +145,25 @@ fn close_loop(
     requires { Within s × (l.0 < 32) × ((loop_of (job_by job) l.0).control ≡ Some (rule_of c)) }
     ensures { (f p : List ℕ) → DidNumber l.0 (closer_out (job_by job.entry) l.0 opened children count) number number s result doc.old doc.new segments.old segments.new f f p p }
 {
-    let end = spec::loops::loop_end(job.at, l);
-    match end {
-        None => {
-            return s;
-        }
-        Some(id) => {
-            let control = repeated(job, number, l, c.opener, opened);
-            let n = counted(c.children, children, count);
-            let sep = signs::separators_of(job.at);
-            return closer::write_closer(
-                doc,
-                segments,
-                job.at.bytes,
-                s,
-                sep,
-                id.start,
-                id.len,
-                c.closer as usize,
-                control,
-                c.count as usize,
-                n,
-            );
-        }
-    }
+    let Some(id) = spec::loops::loop_end(job.at, l) else {
+        return s;
+    };
+    let control = repeated(job, number, l, c.opener, opened);
+    let n = counted(c.children, children, count);
+    let sep = signs::separators_of(job.at);
+    closer::write_closer(
+        doc,
+        segments,
+        job.at.bytes,
+        s,
+        sep,
+        id.start,
+        id.len,
+        c.closer as usize,
+        control,
+        c.count as usize,
+        n,
+    )
 }
 
 // The closer of loop l: its count, and the control number of its instance.
@@ -191,13 +181,8 @@ pub fn write_close(
     requires { Within s × (l.0 < 32) }
     ensures { (f p : List ℕ) → DidNumber l.0 (closer_out (job_by job.entry) l.0 opened children count) number number s result doc.old doc.new segments.old segments.new f f p p }
 {
-    let control = spec::loops::control(job.at, l);
-    match control {
-        None => {
-            return s;
-        }
-        Some(c) => {
-            return close_loop(job, doc, segments, s, number, l, c, opened, children, count);
-        }
+    match spec::loops::control(job.at, l) {
+        None => s,
+        Some(c) => close_loop(job, doc, segments, s, number, l, c, opened, children, count),
     }
 }

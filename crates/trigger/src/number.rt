@@ -5,16 +5,10 @@ ghost use Rattle.segment.specs.Pen.{value_text};
 ghost use Rattle.emit.specs.Envelope.{control_in};
 ghost use Rattle.nest.specs.Job.{job_by};
 
+use emit::cells::width_of;
 use nest::Job;
 use segment::Value;
 use spec::ids::LoopId;
-
-// A width as a length.
-pub fn min_by(n: Option<u32>) -> Option<usize>
-    ensures { result ≡ n }
-{
-    n.map(|x| x as usize)
-}
 
 // A control number in the trigger of loop l, at the opener's element.
 pub fn control_in(job: Job, l: LoopId, opener: u32, number: u64) -> Value
@@ -22,5 +16,5 @@ pub fn control_in(job: Job, l: LoopId, opener: u32, number: u64) -> Value
 {
     let id = spec::loops::trigger(job.at, l);
     let min = spec::segments::min_of(job.at, id, opener);
-    emit::envelope::control_value(number, min_by(min))
+    emit::envelope::control_value(number, width_of(min))
 }

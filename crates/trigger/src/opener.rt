@@ -1,5 +1,5 @@
 // The trigger of an envelope loop, element by element.
-ghost use Rattle.std.specs.Prelude.{◌≡◌, true, List, [], ◌∷◌, ℕ, ◌+◌, ◌≤◌, ◌<◌, max, length, ltb, Option, None};
+ghost use Rattle.std.specs.Prelude.{◌≡◌, true, List, [], ◌∷◌, ℕ, ◌+◌, ◌≤◌, ◌<◌, length, ltb, Option, None};
 ghost use Rattle.lent.specs.Fit.{stretch, Noted, more};
 ghost use Rattle.format.specs.Spec.{Control, ElementDef, SegmentDef};
 ghost use Rattle.format.specs.Job.{Job};
@@ -7,9 +7,9 @@ ghost use Rattle.format.specs.Refusal.{separators};
 ghost use Rattle.format.specs.Ask.{loop_of, min_of, segment_def};
 ghost use Rattle.spec.specs.Answers.{stretch_of};
 ghost use Rattle.spec.specs.Cursor.{Entries, ElementSays};
-ghost use Rattle.segment.specs.Parts.{pick, last_element, joined};
+ghost use Rattle.segment.specs.Parts.{pick, joined};
 ghost use Rattle.segment.specs.declared.Separators as Signs;
-ghost use Rattle.segment.specs.Pen.{value_text};
+ghost use Rattle.segment.specs.Pen.{value_text, Plain};
 ghost use Rattle.nest.specs.Lists.{on};
 ghost use Rattle.nest.specs.Finding.{Origin, Place as In, field, number_from};
 ghost use Rattle.emit.specs.Puts.{nothing, put_all, part_at, place_of, held_in};
@@ -17,19 +17,17 @@ ghost use Rattle.emit.specs.Written.{spot_of, words_of, tried};
 ghost use Rattle.emit.specs.Envelope.{Sourced, field_findings, padded_to, put_sourced, opener_put};
 ghost use Rattle.codec.specs.Maps.{rises_from};
 ghost use Rattle.texts.specs.Reason.{why_in};
-ghost use Rattle.trigger.specs.Source.{text_in, Short, Tells};
+ghost use Rattle.trigger.specs.Source.{text_in, sourced_by, Short, Tells};
 ghost use Rattle.trigger.specs.Drawn.{Framed, element_put, put_by, Draws, Adds, Known, Opening, Drew, Told, Opened};
 ghost use Rattle.nest.specs.Job.{job_by};
 
 use crate::given::{Source, source_of};
-use crate::number::min_by;
-use emit::cells::max_by;
+use emit::cells::{Written, width_of};
 use emit::findings::{Delimiters, Spot};
 use emit::{closer, envelope, findings};
 use segment::{Pen, Separators, Value};
 use spec::elements;
 use spec::ids::{Element, Elements, Stretch};
-use texts::render::Refused;
 
 // A trigger: the separators, its identifier, that as a number, its depth, the element of its control number and that number's text.
 #[derive(Clone, Copy)]
@@ -80,26 +78,10 @@ fn sticks(stuck: bool, p: usize) -> bool
     false
 }
 
-// The last filled element.
-fn reach(job: &[u8], last: usize, p: usize, v: Value) -> usize
-    ensures { result ≡ max last (last_element (part_at p None (value_text job.now v) ∷ [])) }
-{
-    if segment::is_empty(job, v) {
-        return last;
-    }
-    if last < p {
-        return p;
-    }
-    last
-}
-
 fn entries_of(field: Option<u8>) -> usize
     ensures { result ≡ on field (λ f. 1) 0 }
 {
-    match field {
-        None => 0,
-        Some(_) => 1,
-    }
+    usize::from(field.is_some())
 }
 
 fn try_checked(
@@ -128,12 +110,10 @@ fn note_field(
     w: Frame,
     f: u8,
     p: u32,
-    v: Value,
-    reason: Option<Refused>,
-    checked: bool,
+    src: Source,
 ) -> usize
     ensures { (j : Job) (trigger : List ℕ) → tried w.tried ≡ separators j.envelope → w.name ≡ number_from 0 trigger
-        → Noted findings.old at (words_of (field_findings j trigger p f (record { text = value_text job.now v; reason = why_in reason; checked = checked }) (value_text job.now v))) result findings.new }
+        → Noted findings.old at (words_of (field_findings j trigger p f (sourced_by job.now src).given (text_in job.now src))) result findings.new }
 {
     let spot = Spot {
         origin: 1,
@@ -145,27 +125,17 @@ fn note_field(
         component: 0,
     };
     let d = w.tried;
-    let a = try_checked(job, findings, at, v, spot, d, checked);
-    findings::note_reason(findings, a, spot, reason)
+    let a = try_checked(job, findings, at, src.given.value, spot, d, src.checked);
+    findings::note_reason(findings, a, spot, src.given.reason)
 }
 
-fn note_text(
-    job: &[u8],
-    findings: &mut [u64],
-    at: usize,
-    w: Frame,
-    field: Option<u8>,
-    p: u32,
-    v: Value,
-    reason: Option<Refused>,
-    checked: bool,
-) -> usize
+fn note_text(job: &[u8], findings: &mut [u64], at: usize, w: Frame, p: u32, src: Source) -> usize
     ensures { (j : Job) (trigger : List ℕ) → tried w.tried ≡ separators j.envelope → w.name ≡ number_from 0 trigger
-        → Noted findings.old at (words_of (put_by j trigger p field (why_in reason) checked (value_text job.now v)).findings) result findings.new }
+        → Noted findings.old at (words_of (put_by j trigger p src.field (why_in src.given.reason) src.checked (text_in job.now src)).findings) result findings.new }
 {
-    match field {
+    match src.field {
         None => lent::more(at, 0),
-        Some(f) => note_field(job, findings, at, w, f, p, v, reason, checked),
+        Some(f) => note_field(job, findings, at, w, f, p, src),
     }
 }
 
@@ -175,23 +145,21 @@ fn put_text(
     doc: &mut [u8],
     findings: &mut [u64],
     w: Frame,
-    field: Option<u8>,
     p: u32,
-    v: Value,
-    reason: Option<Refused>,
-    checked: bool,
+    src: Source,
     at: Drawn,
 ) -> Drawn
     ensures { (j : Job) (trigger : List ℕ) → tried w.tried ≡ separators j.envelope → w.name ≡ number_from 0 trigger
-        → Adds w.sep (put_by j trigger p field (why_in reason) checked (value_text job.now v)) at result doc.old doc.new findings.old findings.new }
+        → Adds w.sep (put_by j trigger p src.field (why_in src.given.reason) src.checked (text_in job.now src)) at result doc.old doc.new findings.old findings.new }
 {
-    let noted = note_text(job, findings, at.findings, w, field, p, v, reason, checked);
+    let noted = note_text(job, findings, at.findings, w, p, src);
+    let v = src.given.value;
     let s = w.sep;
     let before = at.pen;
     let pen = draw(doc, job, s, before, at.stuck, p as usize, v);
     let stuck = sticks(at.stuck, p as usize);
-    let last = reach(job, at.last, p as usize, v);
-    let entries = lent::more(at.entries, entries_of(field));
+    let last = segment::raised(job, at.last, v, p as usize);
+    let entries = lent::more(at.entries, entries_of(src.field));
     Drawn {
         pen,
         stuck,
@@ -205,32 +173,16 @@ fn put_text(
 
 // The text of a source, padded to its element's width unless it was refused.
 fn value_of(job: &[u8], src: Source, x: Element) -> Value
-    requires { (length job.now ≤ 65536) × (src.count ≤ 48) }
-    ensures { (y : ℕ × ElementDef) → ElementSays job.now x y → value_text job.now result ≡ padded_to y.1 (why_in src.reason) (text_in job.now src) }
+    requires { (length job.now ≤ 65536) × Plain src.given.value }
+    ensures { (y : ℕ × ElementDef) → ElementSays job.now x y → value_text job.now result ≡ padded_to y.1 (why_in src.given.reason) (text_in job.now src) }
 {
-    let bytes = src.bytes;
-    if src.reason.is_some() {
-        return Value {
-            zeros: 0,
-            bytes,
-            count: src.count,
-            start: src.start,
-            len: src.len,
-            spaces: 0,
-        };
+    let v = src.given.value;
+    if src.given.reason.is_some() {
+        return v;
     }
-    let least = x.min;
-    let most = x.max;
-    envelope::padded_value(
-        job,
-        bytes,
-        src.count,
-        src.start,
-        src.len,
-        x.numeric,
-        min_by(least),
-        max_by(most),
-    )
+    let min = width_of(x.min);
+    let max = width_of(x.max);
+    envelope::padded_value(job, v.bytes, v.count, v.start, v.len, x.numeric, min, max)
 }
 
 // An element that is left out.
@@ -265,19 +217,13 @@ fn put_source(
 {
     match src {
         Some(from) => {
-            let v = value_of(job, from, x);
-            put_text(
-                job,
-                doc,
-                findings,
-                w,
-                from.field,
-                x.number,
-                v,
-                from.reason,
-                from.checked,
-                at,
-            )
+            let value = value_of(job, from, x);
+            let given = Written {
+                value,
+                reason: from.given.reason,
+            };
+            let padded = Source { given, ..from };
+            put_text(job, doc, findings, w, x.number, padded, at)
         }
         None => skip(at),
     }
@@ -297,19 +243,15 @@ fn put_element(
         → Adds w.sep (element_put job.entry.at.bytes.now l k number y) at result doc.old doc.new findings.old findings.new }
 {
     if x.number == w.opener {
-        let v = w.control;
-        return put_text(
-            job.at.bytes,
-            doc,
-            findings,
-            w,
-            Some(9),
-            x.number,
-            v,
-            None,
-            true,
-            at,
-        );
+        let number = Source {
+            field: Some(9),
+            given: Written {
+                value: w.control,
+                reason: None,
+            },
+            checked: true,
+        };
+        return put_text(job.at.bytes, doc, findings, w, x.number, number, at);
     }
     let id = w.id;
     let src = source_of(job, id, w.depth, x);
@@ -355,14 +297,9 @@ fn elements_in(job: nest::Job, id: Stretch) -> Elements
     ensures { Entries job.entry.at.bytes.now result (on (segment_def (job_by job.entry) (stretch_of job.entry.at.bytes.now id)) (λ d. d) [])
         × (rises_from 0 (on (segment_def (job_by job.entry) (stretch_of job.entry.at.bytes.now id)) (λ d. d) []) ≡ true) }
 {
-    let place = spec::segments::elements_of(job.at, id);
-    match place {
-        None => {
-            return Elements { left: 0, at: 0 };
-        }
-        Some(p) => {
-            return elements::elements(job.at.bytes, p);
-        }
+    match spec::segments::elements_of(job.at, id) {
+        None => Elements { left: 0, at: 0 },
+        Some(p) => elements::elements(job.at.bytes, p),
     }
 }
 

@@ -26,29 +26,26 @@ pub(crate) fn lengths(
     Ok(plus(s.at, end))
 }
 
-fn flip(input: &[u8], s: State, i: usize, mask: u8, work: &mut [u8]) {
-    put(work, i, byte(input, plus(s.job, i)) ^ mask);
-}
-
-fn flipped(
+// One edit at every place before `end`. It takes as many bytes as it changes, and its answers stand behind them.
+fn sweep<E: Fn(&mut [u8], usize)>(
     rt: &impl Print,
     input: &[u8],
     s: State,
-    i: usize,
+    bytes: usize,
+    end: usize,
     work: &mut [u8],
     counts: &mut [u64],
-) -> io::Result<()> {
-    flip(input, s, i, byte(input, s.at), work);
-    judge(
-        rt,
-        work,
-        s.len,
-        i,
-        byte(input, plus(plus(s.at, 1), i)),
-        counts,
-    )?;
-    flip(input, s, i, 0, work);
-    Ok(())
+    edit: E,
+) -> io::Result<usize>
+    requires { E.IsAlwaysCallable edit }
+{
+    let answers = plus(s.at, bytes);
+    for i in 0..end {
+        edit(work, i);
+        judge(rt, work, s.len, i, byte(input, plus(answers, i)), counts)?;
+        copy(input, plus(s.job, i), work, i, bytes);
+    }
+    Ok(plus(answers, end))
 }
 
 // Every byte, with the mask's bits turned over.
@@ -59,31 +56,9 @@ pub(crate) fn flips(
     work: &mut [u8],
     counts: &mut [u64],
 ) -> io::Result<usize> {
-    for i in 0..s.len {
-        flipped(rt, input, s, i, work, counts)?;
-    }
-    Ok(plus(plus(s.at, 1), s.len))
-}
-
-fn stamped(
-    rt: &impl Print,
-    input: &[u8],
-    s: State,
-    i: usize,
-    work: &mut [u8],
-    counts: &mut [u64],
-) -> io::Result<()> {
-    copy(input, s.at, work, i, 4);
-    judge(
-        rt,
-        work,
-        s.len,
-        i,
-        byte(input, plus(plus(s.at, 4), i)),
-        counts,
-    )?;
-    copy(input, plus(s.job, i), work, i, 4);
-    Ok(())
+    sweep(rt, input, s, 1, s.len, work, counts, |w, i| {
+        put(w, i, byte(input, plus(s.job, i)) ^ byte(input, s.at));
+    })
 }
 
 // Four bytes at every place that has room for them.
@@ -95,8 +70,7 @@ pub(crate) fn stamps(
     counts: &mut [u64],
 ) -> io::Result<usize> {
     let end = s.len.saturating_sub(3);
-    for i in 0..end {
-        stamped(rt, input, s, i, work, counts)?;
-    }
-    Ok(plus(plus(s.at, 4), end))
+    sweep(rt, input, s, 4, end, work, counts, |w, i| {
+        copy(input, s.at, w, i, 4);
+    })
 }

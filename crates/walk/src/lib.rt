@@ -84,21 +84,23 @@ pub fn row_in(c: Context, t: TableId) -> Option<RowId>
 }
 
 // Where the rows of table t start in the parent's list.
+#[tactic(auto, unfolding(crate::specs::Contexts::start_by))]
 pub fn start_in(c: Context, t: TableId) -> usize
     ensures { result ≡ start_by c t.0 }
 {
     match c.run {
-        Some(r) => if r.table.0 == t.0 { r.start } else { 0 },
+        Some(r) => if r.table == t { r.start } else { 0 },
         None => 0,
     }
 }
 
 // And where they end, of n rows.
+#[tactic(auto, unfolding(crate::specs::Contexts::end_by))]
 pub fn end_in(c: Context, t: TableId, n: usize) -> usize
     ensures { result ≡ end_by c t.0 n }
 {
     match c.run {
-        Some(r) => if r.table.0 == t.0 { r.end } else { n },
+        Some(r) => if r.table == t { r.end } else { n },
         None => n,
     }
 }

@@ -2,8 +2,11 @@ use mathlib.Core.Path.{sym, ◌∙◌}
 use Rattle.census.proofs.Widths.{rows_room_for, rows_small, rows_climb, fan_all, fan_hung}
 use Rattle.census.proofs.fan.Goals as goal
 
+pub invariant_of-longest : goal.invariant_of-longest
+invariant_of-longest c = record { within = rows_room_for c.args.nest.nested _ _ c.row_count-rows.ensures _ c.first_row-base.ensures; few = rows_small c.args.nest.nested _ _ c.row_count-rows.ensures }
+
 pub longest-requires : goal.longest-requires
-longest-requires c = (rows_room_for c.args.nest.nested _ _ c.row_count-rows.ensures _ c.first_row-base.ensures, rows_small c.args.nest.nested _ _ c.row_count-rows.ensures, rows_climb c.args.nest.nested _ _ c.row_count-rows.ensures _ c.first_row-base.ensures (sym c.rises.ensures ∙ c.if-rises.true))
+longest-requires c = rows_climb c.args.nest.nested _ _ c.row_count-rows.ensures _ c.first_row-base.ensures (sym c.rises.ensures ∙ c.if-rises.true)
 
 pub returns-then-rises : goal.returns-then-rises
 returns-then-rises c = fan_hung c.args.nest.nested _ _ c.row_count-rows.ensures _ c.first_row-base.ensures _ _ _ c.table_parent-parent.ensures c.in-Some.is c.longest.ensures

@@ -1,16 +1,6 @@
-use mathlib.Core.Path.{refl}
-use Rattle.loops.proofs.ByNumber.{upto_start, upto_again, upto_found, upto_none}
-use native.Mathlib.Omega.{arith}
+use Rattle.std.proofs.Common.{rules}
+use Rattle.format.specs.Refusal.{ringed}
 use Rattle.loops.proofs.rings.Goals as goal
 
-pub loop-k-init : goal.loop-k-init
-loop-k-init c = λ ls q. upto_start _ _ _ _ _ c.count_at-n.ensures.0
-
-pub returns-then-ringed_at : goal.returns-then-ringed_at
-returns-then-ringed_at c = λ ls q. upto_found _ _ _ _ _ c.count_at-n.ensures.0 _ _ _ (c.loop-k.invariant ls q) (omega arith) (λ i. refl) (λ v l. c.ringed_at.ensures ls q v) c.if-ringed_at.true
-
-pub loop-k-preserved : goal.loop-k-preserved
-loop-k-preserved c = λ ls q. upto_again _ _ _ _ _ c.count_at-n.ensures.0 _ _ _ (c.loop-k.invariant ls q) (omega arith) (λ i. refl) (λ v l. c.ringed_at.ensures ls q v) c.if-ringed_at.false
-
 pub returns : goal.returns
-returns c = λ ls q. upto_none _ _ _ _ _ c.count_at-n.ensures.0 _ (c.loop-k.invariant ls q) (omega arith)
+returns c ls q = c.some.ensures (ringed ls) (λ k p r t h u. search rules)

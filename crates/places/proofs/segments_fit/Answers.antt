@@ -1,5 +1,4 @@
 use Rattle.places.proofs.Whole.{segments_decided}
-use native.Mathlib.Omega.{arith}
 use borrow.Author.Rules.{rules}
 use Rattle.places.proofs.segments_fit.Goals as goal
 

@@ -1,5 +1,4 @@
 use Rattle.places.proofs.Whole.{plan_few, alone_decided}
-use native.Mathlib.Omega.{arith}
 use Rattle.places.proofs.separators_alone.Goals as goal
 
 pub loops_wrong-requires : goal.loops_wrong-requires

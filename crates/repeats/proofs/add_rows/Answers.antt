@@ -10,8 +10,8 @@ use Rattle.repeats.proofs.add_rows.Goals.{Start}
 pub loop-r-init : goal.loop-r-init
 loop-r-init c = so_start _ _ _ _ _ _ _ _ _ c.requires.0 c.requires.4
 
-pub next_hooked-requires : goal.next_hooked-requires
-next_hooked-requires c = (omega (arith, c.requires.3.among, c.args.nest.nested.room), omega (arith, c.requires.3.within), c.requires.2)
+pub invariant_of-all : goal.invariant_of-all
+invariant_of-all c = record { within = omega (arith, c.requires.3.among, c.args.nest.nested.room); few = omega (arith, c.requires.3.within) }
 
 pub close-requires : goal.close-requires
 close-requires c = let x = c.loop-r.invariant in (so_small _ _ _ _ _ _ _ _ _ _ _ x, c.requires.6, omega (arith, x.holds.fits, x.holds.few, x.holds.space), omega (arith, x.holds.fits, x.holds.few), so_written _ _ _ _ _ _ _ _ _ _ _ x c.requires.5)

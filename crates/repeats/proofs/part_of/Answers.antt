@@ -3,11 +3,14 @@ use native.Mathlib.Omega.{arith}
 use Rattle.repeats.proofs.RowLaws.{part_all, part_climbs, part_narrow}
 use Rattle.repeats.proofs.part_of.Goals as goal
 
+pub invariant_of-all : goal.invariant_of-all
+invariant_of-all c = record { within = omega (arith, c.table_of-w.ensures.1.among, c.args.nest.nested.room); few = omega (arith, c.table_of-w.ensures.1.within) }
+
 pub first_at-low-requires : goal.first_at-low-requires
-first_at-low-requires c = (omega (arith, c.table_of-w.ensures.1.among, c.args.nest.nested.room), omega (arith, c.table_of-w.ensures.1.within), omega arith, part_climbs c.args.nest.nested _ c.args.p.0 _ c.table_of-w.ensures.0 c.table_of-w.ensures.1 c.table_of-w.ensures.2 c.requires.1 (sym c.rises.ensures ∙ c.if-rises.true))
+first_at-low-requires c = (omega arith, part_climbs c.args.nest.nested _ c.args.p.0 _ c.table_of-w.ensures.0 c.table_of-w.ensures.1 c.table_of-w.ensures.2 c.requires.1 (sym c.rises.ensures ∙ c.if-rises.true))
 
 pub first_at-high-requires : goal.first_at-high-requires
-first_at-high-requires c = (omega (arith, c.table_of-w.ensures.1.among, c.args.nest.nested.room), omega (arith, c.table_of-w.ensures.1.within), c.first_at-low.ensures.within, part_climbs c.args.nest.nested _ c.args.p.0 _ c.table_of-w.ensures.0 c.table_of-w.ensures.1 c.table_of-w.ensures.2 c.requires.1 (sym c.rises.ensures ∙ c.if-rises.true))
+first_at-high-requires c = (c.first_at-low.ensures.within, part_climbs c.args.nest.nested _ c.args.p.0 _ c.table_of-w.ensures.0 c.table_of-w.ensures.1 c.table_of-w.ensures.2 c.requires.1 (sym c.rises.ensures ∙ c.if-rises.true))
 
 pub returns-then-rises : goal.returns-then-rises
 returns-then-rises c = part_narrow c.args.nest.nested _ _ _ c.table_of-w.ensures.0 c.table_of-w.ensures.1 c.table_of-w.ensures.2 c.requires.1 _ _ c.first_at-low.ensures c.first_at-high.ensures

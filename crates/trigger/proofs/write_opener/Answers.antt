@@ -4,8 +4,8 @@ use mathlib.Core.Path.{refl}
 use Rattle.emit.proofs.DidLaws.{did_nothing}
 use Rattle.trigger.proofs.write_opener.Goals as goal
 
-pub returns-in-None : goal.returns-in-None
-returns-in-None c = λ p high counter b. rw (open_uncontrolled _ _ _ (control_gone _ _ c.control-control.ensures c.in-None.is)) (did_nothing _ c.requires.0)
+pub returns-in_default : goal.returns-in_default
+returns-in_default c = λ p high counter b. rw (open_uncontrolled _ _ _ (control_gone _ _ c.control.ensures c.in_default.is)) (did_nothing _ c.requires.0)
 
-pub returns-in-Some : goal.returns-in-Some
-returns-in-Some c = λ p. rw c.next_number-after.ensures (c.open_loop-counts.ensures _ p refl (control_there _ _ c.control-control.ensures _ c.in-Some.is))
+pub returns : goal.returns
+returns c = λ p. rw c.next_number-after.ensures (c.open_loop-counts.ensures _ p refl (control_there _ _ c.control.ensures _ c.in-Some.is))

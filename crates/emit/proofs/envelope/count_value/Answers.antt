@@ -1,6 +1,6 @@
-use Rattle.emit.proofs.TextLaws.{held_text}
-use mathlib.Core.Path.{◌∙◌}
+use Rattle.texts.specs.Pad.{zero_padded, control_text}
 use Rattle.emit.proofs.envelope.count_value.Goals as goal
 
 pub returns : goal.returns
-returns c = λ job. c.own.ensures job ∙ held_text c.count_text-text.result _ c.count_text-text.ensures
+unfolding control_text zero_padded
+returns c = λ job. c.control_value.ensures job

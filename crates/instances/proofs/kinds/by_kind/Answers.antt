@@ -5,10 +5,10 @@ use Rattle.instances.proofs.Made.{kind_of_lem, of_absent, of_envelope_lem, of_ro
 use Rattle.instances.proofs.kinds.by_kind.Goals as goal
 
 pub returns-in-Absent : goal.returns-in-Absent
-returns-in-Absent c = of_absent _ _ _ _ c.requires.0 c.requires.1 _ (kind_of_lem _ _ c.args.kind c.requires.2 ∙ ap (λ k. kind_in (instances_of k)) c.in-Absent.is) c.no_instance.ensures
+returns-in-Absent c = of_absent _ _ _ _ c.requires.0 c.requires.1 _ (kind_of_lem _ _ c.args.kind c.requires.2 ∙ ap (λ k. kind_in (instances_of k)) c.in-Absent.is) c.rowless.ensures
 
 pub returns-in-Envelope : goal.returns-in-Envelope
-returns-in-Envelope c = of_envelope_lem _ _ _ _ c.requires.0 c.requires.1 _ (kind_of_lem _ _ c.args.kind c.requires.2 ∙ ap (λ k. kind_in (instances_of k)) c.in-Envelope.is) c.context_itself.ensures
+returns-in-Envelope c = of_envelope_lem _ _ _ _ c.requires.0 c.requires.1 _ (kind_of_lem _ _ c.args.kind c.requires.2 ∙ ap (λ k. kind_in (instances_of k)) c.in-Envelope.is) c.rowless-in-Envelope.ensures
 
 pub returns-in-Rows : goal.returns-in-Rows
 returns-in-Rows c = of_rows _ _ _ _ c.requires.0 c.requires.1 _ _ (kind_of_lem _ _ c.args.kind c.requires.2 ∙ ap (λ k. kind_in (instances_of k)) c.in-Rows.is) c.listed.ensures

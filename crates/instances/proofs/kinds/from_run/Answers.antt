@@ -9,7 +9,7 @@ pub returns-then-own : goal.returns-then-own
 returns-then-own c = from_own _ _ _ c.own_parent-own.ensures c.if-own.true
 
 pub returns-in-Some : goal.returns-in-Some
-returns-in-Some c = c.moved.ensures ∙ from_head _ _ _ c.start_in-start.ensures c.if-start-eq0.false _ c.own_parent-own.ensures c.if-own.false _ c.row_of-head.ensures _ c.in-Some.is
+returns-in-Some c = c.moved.ensures ∙ from_head _ _ _ c.start_in-start.ensures c.if-start-eq0.false _ c.own_parent-own.ensures c.if-own.false _ c.row_of.ensures _ c.in-Some.is
 
 pub returns-in-None : goal.returns-in-None
-returns-in-None c = from_nowhere _ _ _ c.start_in-start.ensures c.if-start-eq0.false _ c.own_parent-own.ensures c.if-own.false _ c.row_of-head.ensures c.in-None.is
+returns-in-None c = from_nowhere _ _ _ c.start_in-start.ensures c.if-start-eq0.false _ c.own_parent-own.ensures c.if-own.false _ c.row_of.ensures c.in-None.is

@@ -1,7 +1,6 @@
 use native.Mathlib.Omega.{arith}
-use mathlib.Core.Path.{refl}
 use Rattle.instances.proofs.Stretches.{reached_at}
 use Rattle.instances.proofs.stretch.far_enough.Goals as goal
 
-pub returns-else-nest-i : goal.returns-else-nest-i
-returns-else-nest-i c = reached_at _ _ _ _ _ c.requires.3 _ _ refl (omega arith) (omega (arith, c.loop-step-test.true)) c.if-nest-i.false
+pub returns-else-above : goal.returns-else-above
+returns-else-above c = reached_at _ _ _ _ _ c.requires.1 _ _ c.above.ensures (omega arith) (omega (arith, c.loop-step-test.true)) c.if-above.false

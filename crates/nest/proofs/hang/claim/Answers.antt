@@ -1,7 +1,7 @@
 use Rattle.nest.proofs.Claiming.{loop_small, all_left, left_first, left_here, left_passed, left_lower, left_over, tried_none, tried_on, tried_here, tried_next, tried_end}
 use Rattle.nest.proofs.Ways.{refers, refers_not}
 use native.Mathlib.Omega.{arith}
-use mathlib.Core.Path.{sym, ap, ◌∙◌}
+use mathlib.Core.Path.{sym, ◌∙◌}
 use Rattle.nest.proofs.hang.claim.Goals as goal
 use Rattle.nest.proofs.hang.claim.Goals.{in-Some+in-None-reference, in-None}
 

@@ -1,7 +1,7 @@
 use Rattle.nest.proofs.Claiming.{loop_small, all_left, left_first, left_here, left_passed, left_lower, left_over}
 use Rattle.nest.proofs.Lining.{lining_none, lining_on, lining_next, lining_end}
 use native.Mathlib.Omega.{arith}
-use mathlib.Core.Path.{sym, ap, ◌∙◌}
+use mathlib.Core.Path.{sym, ◌∙◌}
 use Rattle.nest.proofs.hang.line_up.Goals as goal
 use Rattle.nest.proofs.hang.line_up.Goals.{in-Some+else-n-eq8, in-None}
 

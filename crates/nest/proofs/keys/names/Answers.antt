@@ -1,15 +1,17 @@
-use Rattle.nest.proofs.Ways.{names_yes, names_no, names_end}
-use mathlib.Core.Path.{refl}
+use mathlib.Core.Path.{sym, ap, ◌∙◌}
+use borrow.Author.Rules.{rules}
+use lib.Dec.{eqb}
+use lib.ListN.{get_or}
+use Rattle.format.specs.Ask as A
+use Rattle.format.specs.Sections.{job_of}
+use Rattle.nest.specs.Lists.{some_of, up_to}
+use Rattle.nest.proofs.Bridge.{ancestors_is}
+use Rattle.nest.proofs.Scan.{some_place}
 use Rattle.nest.proofs.keys.names.Goals as goal
 
-pub loop-k-init : goal.loop-k-init
-loop-k-init c = refl
-
-pub returns-then-ancestor-u : goal.returns-then-ancestor-u
-returns-then-ancestor-u c = names_yes _ _ _ _ _ _ c.ancestor_count-n.ensures c.ancestor.ensures c.loop-k-test.true c.loop-k.invariant c.if-ancestor-u.true
-
-pub loop-k-preserved : goal.loop-k-preserved
-loop-k-preserved c = names_no _ _ _ _ _ _ c.ancestor_count-n.ensures c.ancestor.ensures c.loop-k-test.true c.loop-k.invariant c.if-ancestor-u.false
-
 pub returns : goal.returns
-returns c = names_end _ _ _ _ _ c.ancestor_count-n.ensures c.loop-k-test.false c.loop-k.invariant
+returns c =
+    c.some.ensures (λ i. eqb c.args.u (get_or (A.table_of (job_of c.args.job.at.bytes.now) c.args.d.0).ancestors i 0)) (λ k r h q. search rules)
+    ∙ ap (λ m. some_of (λ i. eqb c.args.u (get_or (A.table_of (job_of c.args.job.at.bytes.now) c.args.d.0).ancestors i 0)) (up_to 0 m)) c.ancestor_count-n.ensures
+    ∙ some_place (eqb c.args.u) 0 (A.table_of (job_of c.args.job.at.bytes.now) c.args.d.0).ancestors
+    ∙ ap (some_of (eqb c.args.u)) (sym (ancestors_is (job_of c.args.job.at.bytes.now) c.args.d.0))

@@ -1,22 +1,21 @@
-use mathlib.Core.Bool.{not}
+use mathlib.Core.Path.{ap, ◌∙◌}
+use borrow.Author.Rules.{rules}
+use lib.ListN.{get_or}
+use Rattle.format.specs.Ask.{table_of}
+use Rattle.format.specs.Sections.{job_of}
+use Rattle.nest.specs.OfJob.{outline_of}
+use Rattle.walk.specs.Check.{each_below}
 use Rattle.paths.specs.Tests.{planned_once}
-use Rattle.paths.proofs.Tests.{every_bad, every_on, every_done}
+use Rattle.paths.proofs.Tests.{each_place}
 use Rattle.paths.proofs.Bridge.{table_loop_small}
 use Rattle.paths.proofs.Answers.{planned_of_lem}
-use mathlib.Core.Path.{refl, ap, ◌∙◌}
 use Rattle.paths.proofs.repeats.all_planned.Goals as goal
 
-pub loop-i-init : goal.loop-i-init
-loop-i-init c = refl
-
-pub planned_once-right-requires : goal.planned_once-right-requires
-planned_once-right-requires c = table_loop_small _ c.args.job.ready.passed _ _ _ _ c.table_loop_count-n.ensures c.loop-i-test.true c.table_loop-l.ensures
-
-pub returns-then-not-right : goal.returns-then-not-right
-returns-then-not-right c = planned_of_lem _ _ _ (every_bad _ _ _ _ c.table_loop_count-n.ensures 0 _ c.loop-i.invariant c.loop-i-test.true (c.planned_once-right.ensures ∙ ap (planned_once _ _) c.table_loop-l.ensures) (ap not c.if-not-right.true))
-
-pub loop-i-preserved : goal.loop-i-preserved
-loop-i-preserved c = every_on _ _ _ _ c.table_loop_count-n.ensures 0 _ c.loop-i.invariant c.loop-i-test.true (c.planned_once-right.ensures ∙ ap (planned_once _ _) c.table_loop-l.ensures) (ap not c.if-not-right.false)
-
 pub returns : goal.returns
-returns c = planned_of_lem _ _ _ (every_done _ _ _ _ c.table_loop_count-n.ensures c.loop-i.invariant c.loop-i-test.false)
+returns c = planned_of_lem _ _ _ (
+    c.each.ensures (λ i. planned_once (outline_of (job_of c.args.job.at.bytes.now)) c.args.t.0 (get_or (table_of (job_of c.args.job.at.bytes.now) c.args.t.0).loops i 0)) (λ k r h q. search rules)
+    ∙ ap (λ m. each_below m (λ i. planned_once (outline_of (job_of c.args.job.at.bytes.now)) c.args.t.0 (get_or (table_of (job_of c.args.job.at.bytes.now) c.args.t.0).loops i 0))) c.table_loop_count-n.ensures
+    ∙ each_place (planned_once (outline_of (job_of c.args.job.at.bytes.now)) c.args.t.0) 0 (table_of (job_of c.args.job.at.bytes.now) c.args.t.0).loops)
+
+pub each-requires : goal.each-requires
+each-requires c = search (rules, table_loop_small _ c.args.job.ready.passed)

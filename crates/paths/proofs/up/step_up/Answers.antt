@@ -1,6 +1,6 @@
 use Rattle.paths.proofs.Bridge.{parent_small}
 use Rattle.paths.proofs.Answers.{up_top, up_past}
-use mathlib.Core.Path.{sym, ap, ◌∙◌}
+use mathlib.Core.Path.{sym, ◌∙◌}
 use Rattle.paths.proofs.up.step_up.Goals as goal
 
 pub past_loop-requires : goal.past_loop-requires

@@ -1,8 +1,8 @@
 use Rattle.plan.proofs.Asking.{column_lacks, column_is}
 use Rattle.plan.proofs.layout.group_column.Goals as goal
 
-pub returns-then-n-k : goal.returns-then-n-k
-returns-then-n-k c = column_lacks _ _ c.requires.0 _ c.requires.1 _ _ c.group_column_count-n.ensures c.if-n-k.true
+pub returns-in-None : goal.returns-in-None
+returns-in-None c = column_lacks _ _ c.requires.0 _ c.requires.1 _ (rw c.in-None.is at c.item_place.ensures)
 
-pub returns : goal.returns
-returns c = column_is _ _ c.requires.0 _ c.requires.1 _ _ _ _ c.group_column_count-n.ensures c.if-n-k.false c.place-p.ensures.0 c.num.ensures.0
+pub returns-in-Some : goal.returns-in-Some
+returns-in-Some c = let i = rw c.in-Some.is at c.item_place.ensures in c.item_at.ensures _ _ (column_is _ _ c.requires.0 _ c.requires.1 _ i.0 i.1)

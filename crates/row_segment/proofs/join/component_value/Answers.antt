@@ -6,7 +6,7 @@ pub loop-a-init : goal.loop-a-init
 loop-a-init c = finding_start _ _ _ _ _ c.requires.1
 
 pub returns-then-p-e : goal.returns-then-p-e
-returns-then-p-e c = found_else _ _ _ _ _ _ c.loop-a.invariant _ (c.held.ensures _) c.in-Some.is c.if-p-e.true
+returns-then-p-e c = found_else _ _ _ _ _ _ c.loop-a.invariant _ (c.held.ensures.text _) c.in-Some.is c.if-p-e.true
 
 pub returns-then-component_of-c : goal.returns-then-component_of-c
 returns-then-component_of-c c = found_here _ _ _ _ _ _ c.loop-a.invariant _ _ c.in-Some.is c.if-p-e.false c.component_of.ensures c.if-component_of-c.true c.text_of-w.ensures.text
@@ -18,4 +18,4 @@ pub loop-a-preserved : goal.loop-a-preserved
 loop-a-preserved c = finding_next _ _ _ _ _ _ c.loop-a.invariant _ _ c.in-Some.is c.if-p-e.false c.component_of.ensures c.if-component_of-c.false c.next_part-a.ensures
 
 pub returns : goal.returns
-returns c = found_none _ _ _ _ _ _ c.loop-a.invariant _ (c.held-2.ensures _) c.in_default.is
+returns c = found_none _ _ _ _ _ _ c.loop-a.invariant _ (c.held-2.ensures.text _) c.in_default.is

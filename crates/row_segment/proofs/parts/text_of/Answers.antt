@@ -7,4 +7,4 @@ returns-in-Cell c = rw c.in-Cell.is (rw c.requires.id.bytes at c.cell_text.ensur
 
 pub returns-in-Code : goal.returns-in-Code
 unfolding outcome_of
-returns-in-Code c = rw c.in-Code.is (c.code_text.ensures _)
+returns-in-Code c = rw c.in-Code.is (c.code_text.ensures.writes _)

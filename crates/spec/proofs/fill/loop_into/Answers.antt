@@ -1,10 +1,9 @@
 use Rattle.format.specs.Spec.{loop_c}
 use Rattle.format.specs.Ends.{skip_usage}
 use Rattle.codec.specs.Skip.{skip_map, skip_pair}
-use Rattle.spec.specs.Kept.{stored_more, stored_one}
-use mathlib.Core.Path.{refl, sym, ◌∙◌}
+use mathlib.Core.Path.{sym, ◌∙◌}
 use Rattle.spec.proofs.fill.loop_into.Goals as goal
 
 pub returns : goal.returns
 unfolding loop_c
-returns c = (simp (skip_map, skip_pair, skip_usage) (cc), rw (c.ends_at-children.ensures, c.opt_bytes_at-control.ensures, c.case_at-last.ensures ∙ sym (skip_usage _ _ _), c.ends_at-usage.ensures, c.bytes_at-occurrences.ensures, c.opt_num_at-trigger.ensures) at (stored_more _ _ _ _ _ _ _ c.put6.ensures refl (stored_one _ _ _ _ c.put.ensures)))
+returns c = (simp (skip_map, skip_pair, skip_usage) (cc), rw (c.ends_at-children.ensures, c.opt_bytes_at-control.ensures, c.case_at-last.ensures ∙ sym (skip_usage _ _ _), c.ends_at-usage.ensures, c.bytes_at-occurrences.ensures, c.opt_num_at-trigger.ensures) at c.put_all.ensures)

@@ -6,8 +6,8 @@ use Rattle.spec.proofs.segments.max_of_component.Goals as goal
 pub returns-then-s-components : goal.returns-then-s-components
 returns-then-s-components c = λ d h. absurd (omega (arith, c.if-s-components.true, is_in _ _ _ _ _ (components_at _ _ _ _ _ _ c.ends_at-min.ensures c.opt_num_at-max.ensures c.opt_num_at-components.ensures d h)))
 
-pub returns-in-None : goal.returns-in-None
-returns-in-None c = λ d h. component_none _ d (place_nowhere _ _ _ _ _ (c.map_place-place.ensures _ (components_at _ _ _ _ _ _ c.ends_at-min.ensures c.opt_num_at-max.ensures c.opt_num_at-components.ensures d h)) c.in-None.is)
+pub returns-in_err-place : goal.returns-in_err-place
+returns-in_err-place c = λ d h. rw c.from_residual.ensures (component_none _ d (place_nowhere _ _ _ _ _ (c.map_place.ensures _ (components_at _ _ _ _ _ _ c.ends_at-min.ensures c.opt_num_at-max.ensures c.opt_num_at-components.ensures d h)) c.in_err-place.was))
 
-pub returns-in-Some : goal.returns-in-Some
-returns-in-Some c = λ d h. component_there _ _ _ _ _ d (place_at _ _ _ _ _ (c.map_place-place.ensures _ (components_at _ _ _ _ _ _ c.ends_at-min.ensures c.opt_num_at-max.ensures c.opt_num_at-components.ensures d h)) _ c.in-Some.is) c.component_max.ensures
+pub returns : goal.returns
+returns c = λ d h. component_there _ _ _ _ _ d (place_at _ _ _ _ _ (c.map_place.ensures _ (components_at _ _ _ _ _ _ c.ends_at-min.ensures c.opt_num_at-max.ensures c.opt_num_at-components.ensures d h)) _ c.in_ok-place.was) c.max_at.ensures.component

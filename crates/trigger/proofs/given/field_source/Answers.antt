@@ -31,10 +31,10 @@ pub returns-in-5 : goal.returns-in-5
 returns-in-5 c = λ y h. tells_as (sym (field_5 _ y.1 _ c.in-5.is)) (c.of_stretch-in-5.ensures _ _ (rw c.receiver_id-id.ensures.bytes at (c.application-in-5.ensures _ c.application_receiver-code.ensures)))
 
 pub returns-in-6 : goal.returns-in-6
-returns-in-6 c = λ y h. tells_as (sym (field_6 _ y.1 _ c.in-6.is)) (c.of_said.ensures _ _ (omega (arith, envelope_date_length (signed32 (job_of c.args.job.at.bytes.now).envelope.date) y.1.max)) (let r = c.from_bits-days in let q = subst (λ (z : ℤ). Says c.envelope_date.result (envelope_date z c.max_by.result)) (back {w = w32} (record { sfits = r.type_inv }) r.ensures) c.envelope_date.ensures in rw (c.date.ensures, c.max_by.ensures, h.max) at q))
+returns-in-6 c = λ y h. tells_as (sym (field_6 _ y.1 _ c.in-6.is)) (c.of_said.ensures _ _ (omega (arith, envelope_date_length (signed32 (job_of c.args.job.at.bytes.now).envelope.date) y.1.max)) (let r = c.from_bits-days in let q = subst (λ (z : ℤ). Says c.envelope_date.result (envelope_date z c.width_of.result)) (back {w = w32} (record { sfits = r.type_inv }) r.ensures) c.envelope_date.ensures in rw (c.date.ensures, c.width_of.ensures, h.max) at q))
 
 pub returns-in-7 : goal.returns-in-7
-returns-in-7 c = λ y h. tells_as (sym (field_7 _ y.1 _ c.in-7.is)) (c.of_said-in-7.ensures _ _ (omega (arith, envelope_time_length (signed32 (job_of c.args.job.at.bytes.now).envelope.time) y.1.max)) (let r = c.from_bits-seconds in let q = subst (λ (z : ℤ). Says c.envelope_time.result (envelope_time z c.max_by-in-7.result)) (back {w = w32} (record { sfits = r.type_inv }) r.ensures) c.envelope_time.ensures in rw (c.time.ensures, c.max_by-in-7.ensures, h.max) at q))
+returns-in-7 c = λ y h. tells_as (sym (field_7 _ y.1 _ c.in-7.is)) (c.of_said-in-7.ensures _ _ (omega (arith, envelope_time_length (signed32 (job_of c.args.job.at.bytes.now).envelope.time) y.1.max)) (let r = c.from_bits-seconds in let q = subst (λ (z : ℤ). Says c.envelope_time.result (envelope_time z c.width_of-in-7.result)) (back {w = w32} (record { sfits = r.type_inv }) r.ensures) c.envelope_time.ensures in rw (c.time.ensures, c.width_of-in-7.ensures, h.max) at q))
 
 pub returns-in-8 : goal.returns-in-8
 returns-in-8 c = λ y h. tells_as (sym (field_8 _ y.1 _ c.in-8.is)) (c.of_stretch-in-8.ensures _ _ c.usage_indicator.ensures)

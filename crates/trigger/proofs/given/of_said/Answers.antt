@@ -1,5 +1,5 @@
-use Rattle.trigger.proofs.Givens.{told_said}
+use Rattle.trigger.proofs.Givens.{told}
 use Rattle.trigger.proofs.given.of_said.Goals as goal
 
 pub returns : goal.returns
-returns c = λ job o h s. told_said job o c.args.field c.args.said _ _ h s c.text_in-text.ensures c.err.ensures.value
+returns c = λ job o h s. told job o c.args.field _ (c.of_said-given.ensures.writes job o s) (c.of_said-given.ensures.plain o s h)

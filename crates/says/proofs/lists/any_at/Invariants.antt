@@ -1,7 +1,0 @@
-use Rattle.std.specs.Prelude.{Bool, ◌-◌, ◌^◌, ◌<◌}
-use Rattle.says.specs.Says.{Tests}
-use Rattle.says.proofs.Walk.{NoneYet}
-use Rattle.says.proofs.lists.any_at.Given as goal
-
-abbrev pub invariant-loop-i : goal.invariant-loop-i
-invariant-loop-i g l = ((f : g.F.Form.Value → Bool) → Tests g.F.Form.codec l.s.bytes.now l.s.end (goal.T-post g l.test) f → NoneYet g.F.Form.codec l.s.bytes.now l.s.end l.at f (l.n - l._i) l.p) × (l.p < 2 ^ 64)

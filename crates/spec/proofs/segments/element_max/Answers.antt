@@ -1,5 +1,0 @@
-use Rattle.spec.specs.Found.{element_max_at}
-use Rattle.spec.proofs.segments.element_max.Goals as goal
-
-pub returns : goal.returns
-returns c = λ d h. c.number_in.ensures _ (element_max_at _ _ _ _ _ 0 c.ends_at-min.ensures c.opt_num_at-max.ensures d h)
