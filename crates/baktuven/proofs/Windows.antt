@@ -9,6 +9,7 @@ use lib.Seq.{sets, length-sets, sets-eq, take_all, take-nil, drop-nil, take-take
 use mathlib.Core.Bool.{Bool, true, false}
 use lib.Dec.{leb}
 use borrow.Author.Tests.{leb-true, leb-false}
+use Rattle.std.proofs.lemmas.List.{take-map, drop-map}
 use Rattle.finding.specs.declared.Finding.{Finding}
 use Rattle.finding.specs.Findings.{findings_in}
 use Rattle.finding.proofs.Sets.{sets_append, sets_fits}
@@ -27,16 +28,6 @@ use Rattle.baktuven.specs.Wrote.{finding_of, in_places, Wrote}
 use Rattle.baktuven.specs.Windows.{blank, records_of, behind}
 
 -- ---- lists
-
-take_map : {A B : Type 0} (f : A → B) (n : ℕ) (xs : List A) → take n (map f xs) ≡ map f (take n xs)
-take_map f zero xs = refl
-take_map f (suc n) [] = refl
-take_map f (suc n) (x ∷ xs) = ap (λ (l : List _). f x ∷ l) (take_map f n xs)
-
-drop_map : {A B : Type 0} (f : A → B) (n : ℕ) (xs : List A) → drop n (map f xs) ≡ map f (drop n xs)
-drop_map f zero xs = refl
-drop_map f (suc n) [] = refl
-drop_map f (suc n) (x ∷ xs) = drop_map f n xs
 
 drop_take : {A : Type 0} (m n : ℕ) (xs : List A) → drop m (take n xs) ≡ take (n - m) (drop m xs)
 drop_take zero n xs = rw (sub-zero n) refl
@@ -59,7 +50,7 @@ window_at zero room w xs from n h q =
     let l = length-map xs finding_of in
     let d = length-drop from xs in
     let t = length-take room (drop from xs) in
-    records_of_lem (take room (drop from xs)) _ n (omega (arith, l, d, t)) ∙ rw (take-take n room (drop from xs) h, drop_map finding_of from xs) (sym (take_map finding_of n (drop from xs)))
+    records_of_lem (take room (drop from xs)) _ n (omega (arith, l, d, t)) ∙ rw (take-take n room (drop from xs) h, drop-map finding_of from xs) (sym (take-map finding_of n (drop from xs)))
 window_at (suc k) room w xs from zero h q = no_records w 0
 window_at (suc k) room w xs from (suc n) h q = let z : suc n ≤ 0 = omega arith in absurd (not-suc-le-zero z)
 

@@ -20,6 +20,9 @@ use plan::answers::{Instances, Item};
 use spec::ids::{LoopId, TableId};
 use walk::{Context, Nest};
 
+// Counts stop here.
+const TOO_MANY: u32 = 65537;
+
 // A count, and whether the loop is a leaf: its order names no loop.
 #[derive(Clone, Copy)]
 struct Count {
@@ -27,7 +30,7 @@ struct Count {
     leaf: bool,
 }
 
-// The count n, and the instances that are entered below an instance of loop l in context c, `height` levels deep.
+// The count n, and the instances that are entered below an instance of loop l in context c, `height` levels deep. (`Sound`: see `instances::kinds`.)
 #[cycle(below_entered)]
 fn below(nest: Nest, l: LoopId, c: Context, height: u32, n: u32) -> Count
     requires { Sound (outline_by nest.job) (context_by c) × (l.0 < 32) × (n ≤ too_many) }
@@ -45,7 +48,7 @@ fn below(nest: Nest, l: LoopId, c: Context, height: u32, n: u32) -> Count
             }
         }
     }
-    Count { n: m, leaf: leaf }
+    Count { n: m, leaf }
 }
 
 // The count n, and the instances that are entered by loop l in context c, `height` levels deep. Past the limit it looks no further. Below a leaf nothing is entered,
@@ -62,7 +65,7 @@ fn entered(nest: Nest, l: LoopId, c: Context, height: u32, n: u32) -> u32
     let mut leaf = false;
     let mut cur = instances::instances(nest, l, c, height);
     // No `for`: the count ends at the limit, wherever the instances stand.
-    while m < 65537 {
+    while m < TOO_MANY {
         let Some(next) = instances::next_instance(nest, cur) else {
             return m;
         };
@@ -75,9 +78,7 @@ fn entered(nest: Nest, l: LoopId, c: Context, height: u32, n: u32) -> u32
             m = b.n;
             leaf = b.leaf;
         }
-        cur.kind = next.kind;
-        cur.seen = next.seen;
-        cur.next = next.next;
+        cur = instances::behind(cur, next);
     }
     m
 }
@@ -97,12 +98,9 @@ fn census(nest: Nest) -> u32
     n
 }
 
-// Counts stop here.
-const TOO_MANY: u32 = 65537;
-
 // Where the rows climb, those that hang on one row are a run: the longest has no fewer rows than hang on any.
 fn longest(all: TableRows) -> u32
-    requires { Climbs all.array.now all.base all.rows }
+    requires { Climbs all.array.now all.base all.rows × (all.rows ≤ 4096) }
     ensures { (result ≤ all.entry.rows) × ((p : ℕ) → held_before all.entry.array.now all.entry.base all.entry.rows p ≤ result) }
 {
     let mut last: u32 = 0;
@@ -128,20 +126,15 @@ fn fan(nest: Nest, t: TableId) -> u32
     let rows = tables::data::row_count(nest.job.at, t);
     let parent = spec::tables::table_parent(nest.job.at, t);
     match parent {
-        Some(_) => {
-            if rises(nest.array, t) {
-                let base = tables::data::first_row(nest.job.at, t) as usize;
-                return longest(TableRows {
-                    array: nest.array,
-                    base,
-                    rows: rows as usize,
-                });
-            }
-            return rows;
+        Some(_) if rises(nest.array, t) => {
+            let base = tables::data::first_row(nest.job.at, t) as usize;
+            longest(TableRows {
+                array: nest.array,
+                base,
+                rows: rows as usize,
+            })
         }
-        None => {
-            return rows;
-        }
+        _ => rows,
     }
 }
 
@@ -203,13 +196,5 @@ fn bound(nest: Nest) -> u32
 pub fn crowded(nest: Nest) -> bool
     ensures { result ≡ ltb 65536 (census (outline_by nest.entry.job)) }
 {
-    let m = bound(nest);
-    if m < 65537 {
-        return false;
-    }
-    let n = census(nest);
-    if n < 65537 {
-        return false;
-    }
-    true
+    TOO_MANY <= bound(nest) && TOO_MANY <= census(nest)
 }

@@ -1,4 +1,5 @@
 // Reading by place: each reader answers the place behind what it reads, or one past the end where it is bad.
+// No Option: the definitions go by such a number (`skip`), and it is past every end, so that the readings behind it need no case for it.
 #![tactic(auto)]
 
 pub mod forms;
@@ -15,7 +16,7 @@ ghost use Rattle.codec.specs.Rows.{stored, small};
 pub use forms::Form;
 pub use section::Section;
 
-// The byte at a place, 0 past the last.
+// The byte at a place, 0 past the last, as the definitions read it (`get_or`): a number that is cut short has its bytes by it, without a case.
 pub fn byte_at(b: &[u8], at: usize) -> usize
     ensures { (result ≡ get_or b.now at 0) × (result < 256) }
 {
@@ -25,12 +26,18 @@ pub fn byte_at(b: &[u8], at: usize) -> usize
     0
 }
 
-// A byte that is there.
-pub(crate) fn byte_in(b: &[u8], at: usize) -> usize
-    requires { at < length b.now }
-    ensures { (result ≡ get_or b.now at 0) × (result < 256) }
+// The place behind a number of w bytes, or one past `end`; the bytes themselves may end before.
+pub fn le_at(b: &[u8], w: u8, at: usize, end: u32) -> usize
+    ensures { result ≡ skip (le_c w) b.now at end }
 {
-    b[at] as usize
+    let e = end as usize;
+    if e < at {
+        return e + 1;
+    }
+    if e - at < w as usize {
+        return e + 1;
+    }
+    at + w as usize
 }
 
 // The number in four bytes that are all there: the compiler makes one load of it.
@@ -38,14 +45,10 @@ pub(crate) fn num_in(b: &[u8], at: usize) -> usize
     requires { at + 4 ≤ length b.now }
     ensures { (result ≡ le 4 b.now at) × (result < 4294967296) }
 {
-    let b0 = byte_in(b, at);
-    let b1 = byte_in(b, at + 1);
-    let b2 = byte_in(b, at + 2);
-    let b3 = byte_in(b, at + 3);
-    b0 + 256 * (b1 + 256 * (b2 + 256 * b3))
+    u32::from_le_bytes([b[at], b[at + 1], b[at + 2], b[at + 3]]) as usize
 }
 
-// The number in four bytes, those past the last being 0.
+// The number in four bytes, those past the last being 0. No `from_le_bytes`, as in `num_in`: it takes bytes, and `byte_at` gives numbers.
 fn num_past(b: &[u8], at: usize) -> usize
     requires { at < 1152921504606846976 }
     ensures { (result ≡ le 4 b.now at) × (result < 4294967296) }
@@ -83,34 +86,21 @@ pub fn long(b: &[u8], at: usize) -> u64
     low + 4294967296 * high
 }
 
-// Whether the byte string at p is before the one at q.
+// Whether the byte string at p is before the one at q. The bound on the places is for the sums.
 pub fn less_at(b: &[u8], p: usize, q: usize) -> bool
     requires { (p < 8589934592) × (q < 8589934592) }
     ensures { result ≡ less_at b.now p q }
 {
-    let mut n = num(b, p);
-    let mut m = num(b, q);
-    let mut i = p + 4;
-    let mut j = q + 4;
-    // No `for`: either of the two counts ends it.
-    while 0 < m {
-        if n == 0 {
-            return true;
-        }
-        let x = byte_at(b, i);
-        let y = byte_at(b, j);
-        if x < y {
-            return true;
-        }
+    let n = num(b, p);
+    let m = num(b, q);
+    for k in 0..n.min(m) {
+        let x = byte_at(b, p + 4 + k);
+        let y = byte_at(b, q + 4 + k);
         if x != y {
-            return false;
+            return x < y;
         }
-        n = n - 1;
-        m = m - 1;
-        i = i + 1;
-        j = j + 1;
     }
-    false
+    n < m
 }
 
 // Whether the key at p may follow the one before, if there is one.
@@ -131,7 +121,6 @@ pub fn put(index: &mut [u16], k: usize, p: usize)
 {
     if k < index.len() {
         index[k] = (p % 65536) as u16;
-        return;
     }
 }
 
@@ -152,7 +141,7 @@ pub fn place_in(index: &[u16], k: usize) -> usize
     index[k] as usize
 }
 
-// The same where the index may be too short for it: 0 past its last.
+// The same where the index may be too short for it: 0 past its last, as in the definitions, so that none of them needs a case for it.
 pub fn place(index: &[u16], k: usize) -> usize
     ensures { (result ≡ get_or index.now k 0) × (result < 4294967296) }
 {
@@ -160,14 +149,4 @@ pub fn place(index: &[u16], k: usize) -> usize
         return place_in(index, k);
     }
     0
-}
-
-// Both tests are made, and joined. No `||`: it parts what is proved behind it into ways, one for each test.
-pub fn either(x: bool, y: bool) -> bool
-    ensures { result ≡ pick x true y }
-{
-    if x {
-        return true;
-    }
-    y
 }

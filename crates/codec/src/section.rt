@@ -1,7 +1,12 @@
 // A stretch of a job's bytes, and its readers: each answers the place behind what it reads, or one past the end.
+// No Option: the definitions go by such a number (`skip`), and it is past every end, so that the readings behind it need no case for it.
 ghost use Rattle.std.specs.Prelude.{◌≤◌, length};
 
-// The bytes up to `end`, which is within them.
+use crate::Form;
+use crate::forms::{Bytes, Le, Opt};
+
+// The bytes up to `end`, which is within them. Made by its literal, and no `Section::of`: of a section that a function hands out a proof knows two
+// equations, by which it has to rewrite. `spec::read::section` is worth that: its end is read where it is made.
 #[derive(Clone, Copy)]
 pub struct Section<'a> {
     pub bytes: &'a [u8],
@@ -17,7 +22,7 @@ impl<'a> Section<'a> {
     ghost use Rattle.codec.specs.Ways.{opt_end};
     ghost use Rattle.codec.specs.Within.{ends};
 
-    // One past the end: where nothing was read.
+    // One past the end: where nothing was read, as in `skip`.
     pub fn past(self) -> usize
         ensures { result ≡ self.entry.end + 1 }
     {
@@ -28,17 +33,10 @@ impl<'a> Section<'a> {
     pub fn le_at(self, w: u8, at: usize) -> usize
         ensures { result ≡ ends (le_c w) self.entry at }
     {
-        let e = self.end as usize;
-        if e < at {
-            return e + 1;
-        }
-        if e - at < w as usize {
-            return e + 1;
-        }
-        at + w as usize
+        crate::le_at(self.bytes, w, at, self.end)
     }
 
-    // The count in front of a list, 0 where there is none.
+    // The count in front of a list, 0 where there is none, as in its definition: a walk over none of a list that isn't there needs no case for it.
     pub fn count_at(self, at: usize) -> usize
         ensures { (result ≡ count_at self.entry.bytes.now at self.entry.end) × (result < 4294967296) }
     {
@@ -68,7 +66,8 @@ impl<'a> Section<'a> {
         p + n * w as usize
     }
 
-    // The byte of a case at a place, if there is one.
+    // The byte of a case at a place, if there is one. A case is a number, as it stands in the job: each structure has cases of its own, and an enum for
+    // them would be made of the number and matched on in the same place.
     pub fn case(self, at: usize) -> Option<u8>
         ensures { result ≡ case_of self.entry.bytes.now at self.entry.end }
     {
@@ -108,16 +107,12 @@ impl<'a> Section<'a> {
     pub fn opt_num_at(self, at: usize) -> usize
         ensures { result ≡ ends (opt_c num_c) self.entry at }
     {
-        let t = self.le_at(1, at);
-        let p = self.le_at(4, t);
-        self.opt_end(at, p)
+        Opt::<Le<4>>::ends_at(self, at)
     }
 
     pub fn opt_bytes_at(self, at: usize) -> usize
         ensures { result ≡ ends (opt_c bytes_c) self.entry at }
     {
-        let t = self.le_at(1, at);
-        let p = self.bytes_at(t);
-        self.opt_end(at, p)
+        Opt::<Bytes>::ends_at(self, at)
     }
 }

@@ -1,7 +1,7 @@
 -- What tests that look for something wrong say, put together; and small laws of reading.
 use Prim.Native.Nat.{ℕ, ◌≤◌}
 use mathlib.Core.Path.{◌≡◌, refl, sym, ◌∙◌}
-use mathlib.Core.Logic.{◌≢◌}
+use mathlib.Core.Logic.{◌≢◌, ◌⊎◌, inl, inr}
 use mathlib.Core.List.{List, [], ◌∷◌}
 use mathlib.Core.Bool.{Bool, true, false, not}
 use native.Mathlib.Omega.{arith}
@@ -13,12 +13,13 @@ use Rattle.codec.specs.Skip.{count_at, Is}
 use Rattle.codec.specs.Forms.{num_c}
 use Rattle.codec.specs.Limits.{any, any_of}
 use Rattle.format.specs.Words.{if_some}
+use Rattle.format.specs.Spec.{Control}
 use Rattle.nest.specs.Lists.{All}
 use Rattle.complete.specs.Complete.{IfThere}
-use Rattle.says.proofs.Walk.{number_is}
+use Rattle.says.proofs.Walk.{number_is, both, only}
 use Rattle.codes.specs.Refutes.{Refutes}
 use Rattle.complete.specs.Decides.{Decides}
-use Rattle.codes.specs.Rules.{low}
+use Rattle.codes.specs.Rules.{low, wrong_control}
 
 -- two numbers that stand at places are compared
 pub same_numbers : (b : List ℕ) (e n m p q p' q' v w : ℕ) → n ≡ count_at b p e → m ≡ count_at b q e → p ≡ p' → q ≡ q' → Is num_c b e p' v → Is num_c b e q' w → eqb n m ≡ eqb v w
@@ -63,12 +64,27 @@ refute_low n = (λ i. ltb-false _ _ i, λ i h. no_way (sym i ∙ le-ltb _ _ h))
 pub refute_same : (n m : ℕ) → Refutes (eqb n m) (n ≢ m)
 refute_same n m = (λ i h. no_way (sym (eq-eqb _ _ h) ∙ i), λ i h. h (eqb-true _ _ i))
 
-pub joined : (r x y s t : Bool) → r ≡ pick x true y → x ≡ s → y ≡ t → r ≡ pick s true t
-joined r x y s t h i j = h ∙ rw (i, j)
+-- x is the first of two tests, and the second is made where x finds nothing
+pub either_first : (x s t : Bool) → x ≡ s → x ≡ true → x ≡ pick s true t
+either_first x s t h i = let z : s ≡ true = sym h ∙ i in rw (i, z)
 
-pub decide_both : (s t : Bool) (P Q : Type 0) → Decides s P → Decides t Q → Decides (pick s t false) (P × Q)
-decide_both true t P Q h k = (λ i. (h.0 refl, k.0 i), λ i q. k.1 i q.1)
-decide_both false t P Q h k = (λ i. no_way (sym i), λ i q. h.1 refl q.0)
+pub either_next : (x s y t : Bool) → x ≡ s → x ≡ false → y ≡ t → y ≡ pick s true t
+either_next x s y t h i j = let z : s ≡ false = sym h ∙ i in rw z j
 
-pub decide_as : (t : Bool) (P Q : Type 0) → (P → Q) → (Q → P) → Decides t P → Decides t Q
-decide_as t P Q f g h = (λ i. f (h.0 i), λ i q. h.1 i (g q))
+-- the same of a list of tests
+pub found_first : (x s : Bool) (ts : List Bool) → x ≡ s → x ≡ true → x ≡ any (s ∷ ts)
+unfolding any
+found_first x s ts h i = either_first x s (any ts) h i
+
+pub found_next : (x s : Bool) (ts : List Bool) → x ≡ s → x ≡ false → {y : Bool} → y ≡ any ts → y ≡ any (s ∷ ts)
+unfolding any
+found_next x s ts h i {y} j = either_next x s y (any ts) h i j
+
+pub one_of_three : (x y z u : Bool) → (x ≡ true) ⊎ (((x ≡ false) × (y ≡ true)) ⊎ ((x ≡ false) × (y ≡ false) × (z ≡ true))) → pick x true (pick y true (pick z true u)) ≡ true
+one_of_three x y z u (inl h) = rw h
+one_of_three x y z u (inr (inl h)) = rw (h.0, h.1)
+one_of_three x y z u (inr (inr h)) = rw (h.0, h.1, h.2)
+
+pub control_says : (c : Control) (x y z u r : Bool) → x ≡ low c.opener → y ≡ low c.closer → z ≡ low c.count → u ≡ eqb c.closer c.count → r ≡ pick x true (pick y true (pick z true u)) → r ≡ wrong_control c
+unfolding wrong_control
+control_says c x y z u r h i j k l = both _ _ _ _ _ l h (both _ _ _ _ _ refl i (both _ _ _ _ _ refl j (only _ _ k)))

@@ -1,8 +1,8 @@
 -- The tests over the sections of a job that passed decide the conditions.
 use Prim.Native.Nat.{ℕ, ◌≤◌}
 use mathlib.Core.Path.{◌≡◌, refl}
-use mathlib.Core.List.{List, [], ◌∷◌}
-use mathlib.Core.Bool.{Bool, true, false, not}
+use mathlib.Core.List.{List}
+use mathlib.Core.Bool.{Bool, true, not}
 use Rattle.codec.specs.Codec.{◌⊗◌, le_c, list_c, pick}
 use Rattle.codec.specs.Forms.{bytes_c}
 use Rattle.codec.specs.Skip.{skip}

@@ -25,10 +25,7 @@ fn mark_at(s: Section, at: usize, m: Marks) -> bool
     ensures { Says byte_c s.entry.bytes.now s.entry.end at (mark m) result }
 {
     let c = codec::byte_at(s.bytes, at);
-    let x = m.element;
-    let y = m.component;
-    let z = m.segment;
-    codec::either(c == x, codec::either(c == y, c == z))
+    c == m.element || c == m.component || c == m.segment
 }
 
 fn text_marked(s: Section, at: usize, m: Marks) -> bool
@@ -48,11 +45,7 @@ fn texts_marked(s: Section, at: usize, m: Marks) -> bool
 fn value_marked(s: Section, at: usize, m: Marks) -> bool
     ensures { Says value_c s.entry.bytes.now s.entry.end at (marked_value m) result }
 {
-    if s.case(at) == Some(2) {
-        let p = s.le_at(1, at);
-        return text_marked(s, p, m);
-    }
-    false
+    s.case(at) == Some(2) && text_marked(s, s.le_at(1, at), m)
 }
 
 fn element_plan_marked(s: Section, at: usize, m: Marks) -> bool
@@ -118,9 +111,7 @@ fn element_marked(s: Section, at: usize, m: Marks) -> bool
     let value = s.le_at(4, at);
     let max = format::sizes_end(s, value);
     let components = NumMap::<Component>::ends_at(s, max);
-    let x = texts_marked(s, components, m);
-    let y = components_marked(s, max, m);
-    codec::either(x, y)
+    texts_marked(s, components, m) || components_marked(s, max, m)
 }
 
 fn elements_marked(s: Section, at: usize, m: Marks) -> bool

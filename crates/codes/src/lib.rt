@@ -20,21 +20,14 @@ use codec::forms::{BytesMap, Items, NumMap};
 use codec::{Form, Section};
 use format::{Element, Loop, Table};
 use nest::Job;
-use spec::read::start;
+use spec::read::{section, spec_of, start};
 
 // Control rules.
 pub fn rules_fit(job: &[u8]) -> bool
     requires { Passed job.now }
     ensures { Decides result (RulesFit (job_of job.now)) }
 {
-    let plan = start(job, 4);
-    !rules::loops_wrong(
-        Section {
-            bytes: job,
-            end: plan,
-        },
-        0,
-    )
+    !rules::loops_wrong(spec_of(job), 0)
 }
 
 // The spec's maps.
@@ -42,10 +35,7 @@ pub fn maps_fit(job: &[u8]) -> bool
     requires { Passed job.now }
     ensures { Decides result (MapsFit (job_of job.now)) }
 {
-    let s = Section {
-        bytes: job,
-        end: start(job, 4),
-    };
+    let s = spec_of(job);
     let loops = Items::<Loop>::ends_at(s, 0);
     let roots = s.les_at(4, loops);
     !maps::segments_low(s, roots)
@@ -71,9 +61,7 @@ fn spec_marked(s: Section, m: Marks) -> bool
     let roots = s.les_at(4, loops);
     let segments = BytesMap::<NumMap<Element>>::ends_at(s, roots);
     let tables = Items::<Table>::ends_at(s, segments);
-    let x = codes::segments_marked(s, roots, m);
-    let y = codes::opt_version_marked(s, tables, m);
-    codec::either(x, y)
+    codes::segments_marked(s, roots, m) || codes::opt_version_marked(s, tables, m)
 }
 
 // Codes in plan and spec, and the version's first value.
@@ -82,21 +70,7 @@ pub fn codes_clear(job: Job) -> bool
 {
     let m = marks(job);
     let plan = start(job.at.bytes, 4);
-    let layout = start(job.at.bytes, 8);
-    let x = codes::plan_marked(
-        Section {
-            bytes: job.at.bytes,
-            end: layout,
-        },
-        plan as usize,
-        m,
-    );
-    let y = spec_marked(
-        Section {
-            bytes: job.at.bytes,
-            end: plan,
-        },
-        m,
-    );
-    !codec::either(x, y)
+    let in_plan = codes::plan_marked(section(job.at.bytes, 8), plan as usize, m);
+    let in_spec = spec_marked(spec_of(job.at.bytes), m);
+    !in_plan && !in_spec
 }

@@ -29,9 +29,7 @@ fn element_low(s: Section, at: usize) -> bool
 {
     let value = s.le_at(4, at);
     let max = format::sizes_end(s, value);
-    let x = low_at(s, at);
-    let y = components_low(s, max);
-    codec::either(x, y)
+    low_at(s, at) || components_low(s, max)
 }
 
 fn elements_low(s: Section, at: usize) -> bool

@@ -29,7 +29,7 @@ fn control_wrong(s: Section, at: usize) -> bool
     let z = low_at(s, count);
     let n = s.count_at(closer);
     let m = s.count_at(count);
-    codec::either(x, codec::either(y, codec::either(z, n == m)))
+    x || y || z || n == m
 }
 
 fn opt_control_wrong(s: Section, at: usize) -> bool
@@ -38,6 +38,7 @@ fn opt_control_wrong(s: Section, at: usize) -> bool
     says::lists::opt_at::<Control, _>(s, at, |p| control_wrong(s, p))
 }
 
+// The fields one after the other, written out: each test keeps other places, so that a walk with a hook for each field would be no plainer.
 fn loop_wrong(s: Section, at: usize) -> bool
     ensures { Says loop_c s.entry.bytes.now s.entry.end at wrong_loop result }
 {

@@ -11,7 +11,7 @@ use lib.ListN.{take, drop}
 use lib.Dec.{leb, eqb}
 use borrow.Author.Tests.{eq-eqb, ne_eqb, leb-false}
 use Rattle.column.specs.Cell.{Cell, both, kind_of, same_bytes, same_cell, same_answer}
-use Rattle.column.specs.Answers.{Reads, cell_at}
+use Rattle.column.specs.Answers.{Reads, Compares, cell_at}
 use Rattle.column.specs.declared.Cell.{Cell as Read}
 use Rattle.column.specs.declared.Cell.TheVariants.{None as NoAnswer, Null, Bytes, Int, Wide, Days, Seconds}
 
@@ -106,6 +106,14 @@ stretch_equal b s n t m r h v i = rw h i
 -- ---- whatever two answers stand for
 pub of_answers : (v : Bool) (b : List ℕ) (a c : Read) → v ≡ same_answer (cell_at b a) (cell_at b c) → (x y : Option Cell) → Reads b a x → Reads b c y → v ≡ same_answer x y
 of_answers v b a c h x y i j = h ∙ rw (i.cell, j.cell)
+
+-- the kinds decide
+pub on_any : (v : Bool) (b : List ℕ) (a c : Read) → ((l : List ℕ) → v ≡ same_answer (cell_at l a) (cell_at l c)) → Compares b a c v
+on_any v b a c h = record { read = of_answers v b a c (h b); apart = λ u l. h l }
+
+-- a is a stretch
+pub on_bytes : (v : Bool) (b : List ℕ) (a c : Read) (s n : ℕ) → a ≡ Bytes s n → ((x y : Option Cell) → Reads b a x → Reads b c y → v ≡ same_answer x y) → Compares b a c v
+on_bytes v b a c s n e h = record { read = h; apart = λ u l. absurd (u s n e) }
 
 pub outside : {A : Type 0} (s n k : ℕ) (v : Bool) → v ≡ leb (s + n) k → v ≡ false → s + n ≤ k → A
 outside s n k v h i l = absurd (omega (arith, leb-false (s + n) k (sym h ∙ i)))

@@ -3,7 +3,7 @@ use Rattle.std.specs.Prelude.{ℕ, ◌+◌, ◌*◌, ◌≤◌, ◌≡◌, List,
 use Rattle.codec.specs.Skip.{Is}
 use Rattle.codec.specs.Forms.{opt_c}
 use Rattle.format.specs.Data.{Column, column_c}
-use Rattle.column.specs.Cell.{Cell}
+use Rattle.column.specs.Cell.{Cell, same_answer}
 use Rattle.column.specs.declared.Cell.{Cell as Read}
 use Rattle.column.specs.declared.Cell.TheVariants.{None as NoAnswer, Null, Bytes, Int, Wide, Days, Seconds}
 
@@ -31,6 +31,11 @@ Within b (Seconds x) = Unit {0}
 pub record Reads (b : List ℕ) (r : Read) (x : Option Cell) : Type 0 where
   pub cell : cell_at b r ≡ x
   pub within : Within b r
+
+-- v says whether the answers a and c are equal; where a is no stretch of the job, whatever bytes c stands for
+pub record Compares (b : List ℕ) (a c : Read) (v : Bool) : Type 0 where
+  pub read : (x y : Option Cell) → Reads b a x → Reads b c y → v ≡ same_answer x y
+  pub apart : ((s n : ℕ) → a ≡ Bytes s n → ⊥) → (l : List ℕ) → v ≡ same_answer (cell_at l a) (cell_at l c)
 
 -- the place of an optional column; nothing where there is no column to look for
 abbrev pub OptColumnAt : List ℕ → ℕ → Option ℕ → Option Column → Type 0

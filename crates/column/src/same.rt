@@ -1,11 +1,12 @@
 // Whether two cells are equal.
 ghost use Rattle.std.specs.Prelude.{◌≡◌, List, ℕ, ◌+◌, ◌*◌, ◌≤◌, ◌<◌, length, take, drop, leb, Option, None, Some};
 ghost use Rattle.column.specs.Cell.{Cell as CellOf, same_bytes, same_answer};
-ghost use Rattle.column.specs.Answers.{cell_at, Within, Reads};
+ghost use Rattle.column.specs.Answers.{Compares};
 
 use crate::Cell;
 
-// Whether two numbers of 128 bits, as halves and scale, are equal.
+// Whether two numbers of 128 bits, as halves and scale, are equal. No struct of three: `Cell::Wide` holds them apart, and the one caller would make two structs
+// just to hand them on, which is no plainer.
 pub fn same_wide(low: u64, high: u64, scale: u8, x: u64, y: u64, z: u8) -> bool
     ensures { result ≡ same_answer (Some (CellOf.decimal (low + 18446744073709551616 * high) scale)) (Some (CellOf.decimal (x + 18446744073709551616 * y) z)) }
 {
@@ -29,7 +30,7 @@ pub fn inside(job: &[u8], s: usize, n: usize) -> bool
 
 // Whether two answers are equal; None and Null differ.
 pub fn same(job: &[u8], a: Cell, b: Cell) -> bool
-    ensures { (x y : Option CellOf) → Reads job.now a x → Reads job.now b y → result ≡ same_answer x y }
+    ensures { Compares job.now a b result }
 {
     match (a, b) {
         (Cell::None, Cell::None) => true,

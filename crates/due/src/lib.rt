@@ -61,12 +61,7 @@ fn row_fills(job: Job, l: LoopId, i: u32, t: TableId, r: RowId) -> bool
     ensures { result ≡ is (source_table (segment_of (outline_by job.entry) l.0 i).source) t.0 && (outline_by job.entry).filled l.0 i t.0 r.0 }
 {
     let s = plan::planned::segment(job.at, l, i);
-    let source = s.source;
-    let mine = filled_by(source, t);
-    if mine {
-        return filled(job, l, i, s, t, r);
-    }
-    false
+    filled_by(s.source, t) && filled(job, l, i, s, t, r)
 }
 
 // Whether row r of table t fills a row segment of loop l.
@@ -95,19 +90,14 @@ pub fn has_data(job: Job, l: LoopId, t: TableId, r: RowId, height: u32) -> bool
     if height == 0 {
         return false;
     }
-    let own = own_data(job, l, t, r);
-    if own {
+    if own_data(job, l, t, r) {
         return true;
     }
     let n = spec::loops::child_count(job.at, l);
     for k in 0..n {
         let c = spec::loops::child(job.at, l, k);
-        let below = inside(job, c, t);
-        if below {
-            let found = has_data(job, c, t, r, height - 1);
-            if found {
-                return true;
-            }
+        if inside(job, c, t) && has_data(job, c, t, r, height - 1) {
+            return true;
         }
     }
     false
@@ -119,12 +109,8 @@ pub fn shown(job: Job, l: LoopId, t: TableId, r: RowId) -> bool
     ensures { result ≡ shown (outline_by job.entry) l.0 t.0 r.0 }
 {
     let n = spec::loops::loop_count(job.at);
-    if l.0 < n {
-        let required = spec::loops::required(job.at, l);
-        if required {
-            return true;
-        }
-        return has_data(job, l, t, r, n);
+    if l.0 < n && spec::loops::required(job.at, l) {
+        return true;
     }
     has_data(job, l, t, r, n)
 }
@@ -162,11 +148,7 @@ fn opener_at(job: Job, l: LoopId, i: u32) -> bool
     ensures { result ≡ ltb i (planned (outline_by job.entry) l.0) && is_opener (segment_of (outline_by job.entry) l.0 i).source }
 {
     let n = plan::planned::planned_count(job.at, l);
-    if n <= i {
-        return false;
-    }
-    let s = plan::planned::source(job.at, l, i);
-    is_opener(s)
+    i < n && is_opener(plan::planned::source(job.at, l, i))
 }
 
 // Whether an item of the order of loop l is its trigger.

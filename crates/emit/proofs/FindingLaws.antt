@@ -5,7 +5,6 @@ use mathlib.Core.Bool.{Bool, true, false}
 use mathlib.Core.List.{List, [], ◌∷◌, ◌++◌, append_assoc, append-nil}
 use lib.Dec.{eqb}
 use lib.ListN.{length}
-use borrow.Author.Tests.{eqb-true, eqb-false, eq-eqb, ne_eqb}
 use Rattle.format.specs.Words.{member_of}
 use Rattle.format.specs.Envelope.{Envelope}
 use Rattle.format.specs.Refusal.{separators}
@@ -20,6 +19,7 @@ use Rattle.lent.proofs.Laws.{stored_none, stored_append, stored_length}
 use Rattle.segment.specs.Parts.{pick}
 use Rattle.segment.specs.Pen.{holds, holds_any, one_of}
 use Rattle.segment.proofs.Texts.{none_of}
+use Rattle.nest.proofs.NestLaws.{turn}
 use Rattle.nest.specs.Finding.{Finding, Origin, cell, field, Place, of_text, delimiter, not_writable, record_of}
 use Rattle.emit.specs.declared.findings.Spot.{Spot}
 use Rattle.emit.specs.Puts.{held_in, unwritten}
@@ -50,17 +50,10 @@ none_stored {d} {at} e = rw e (stored_none d at)
 
 -- ---- one separator
 
-same_test : (a b : ℕ) → eqb a b ≡ eqb b a
-same_test a b = go (eqb a b) refl
-  where
-    go : (t : Bool) → eqb a b ≡ t → eqb a b ≡ eqb b a
-    go true e = e ∙ sym (eq-eqb b a (sym (eqb-true a b e)))
-    go false e = e ∙ sym (ne_eqb b a (λ q. eqb-false a b e (sym q)))
-
 pub holds_member : (b : ℕ) (text : List ℕ) → holds b text ≡ member_of b text
 unfolding holds holds_any member_of
 holds_member b [] = refl
-holds_member b (x ∷ xs) = rw (same_test x b, holds_member b xs) (both (eqb b x))
+holds_member b (x ∷ xs) = rw (turn x b, holds_member b xs) (both (eqb b x))
   where
     both : (t : Bool) → pick t true (member_of b xs) ≡ codec-pick t true (member_of b xs)
     both true = refl

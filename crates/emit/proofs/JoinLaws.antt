@@ -5,9 +5,8 @@ use mathlib.Core.Bool.{Bool, true, false}
 use mathlib.Core.List.{List, [], ◌∷◌}
 use native.Mathlib.Omega.{arith}
 use Rattle.std.specs.Prelude.{None}
-use lib.Dec.{leb, ltb}
-use borrow.Author.Tests.{eq-eqb, ne_eqb, lt-ltb, le-leb, lt-leb, ltb-true, ltb-false}
-use native.Mathlib.Nat.{le_antisymm}
+use lib.Dec.{leb}
+use borrow.Author.Tests.{eq-eqb, ne_eqb, lt-ltb, le-leb, lt-leb}
 use Rattle.lent.specs.Fit.{Stored}
 use Rattle.segment.specs.declared.Separators.{Separators}
 use Rattle.segment.specs.declared.Pen.{Pen}
@@ -92,13 +91,6 @@ module _ {s : Separators} {last : ℕ} {pen : Pen} {d : List ℕ} (p q : ℕ) (v
       let end : Row s last (q + 1) (after q (part_at q None w ∷ [])) u d₂ e d₃ = rw b (close refl x) in
       let rest : Row s last (p + 1) (after p (part_at p None v ∷ part_at q None w ∷ [])) t d₁ e d₃ = rw (a, c) (group m those end) in
       group h these rest
-
-pub apart : {p q : ℕ} → p ≤ q → (p ≡ q → ⊥) → p < q
-apart {p} {q} h k = go (ltb p q) refl
-  where
-    go : (t : Bool) → ltb p q ≡ t → p < q
-    go true e = ltb-true p q e
-    go false e = absurd (k (le_antisymm h (ltb-false p q e)))
 
 -- ---- the closer
 

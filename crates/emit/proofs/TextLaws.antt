@@ -3,10 +3,9 @@ use Prim.Native.Nat.{ℕ, ◌+◌, ◌-◌, ◌*◌, ◌^◌, ◌≤◌}
 use mathlib.Core.Path.{◌≡◌, refl, ap, ◌∙◌}
 use mathlib.Core.Bool.{Bool}
 use mathlib.Core.List.{List, [], ◌++◌, append_assoc, append-nil}
-use native.Mathlib.Omega.{arith}
 use native.Mathlib.Nat.{mul_comm}
 use lib.IntN.{ℤ}
-use lib.ListN.{length, take, replicate, length-append, length-take}
+use lib.ListN.{length, take, replicate, length-append}
 use lib.Seq.{take-append_seam, take-length}
 use mir.Syntax.{Width}
 use mir.Val.{SFits, to_z, of_z}
@@ -25,7 +24,6 @@ use Rattle.texts.specs.Reason.{Width as Room, Outcome, text_of, why_of, why_in, 
 use Rattle.texts.specs.Number.{count_text}
 use Rattle.texts.specs.Pad.{padded, zero_padded, control_text}
 use Rattle.lent.specs.Fit.{stretch}
-use Rattle.lent.proofs.Laws.{length_stretch}
 use Rattle.emit.specs.Written.{Writes}
 
 -- a text, empty where it is refused

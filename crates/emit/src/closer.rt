@@ -14,6 +14,19 @@ ghost use Rattle.emit.specs.Envelope.{closer_put};
 use crate::state::{Counts, From};
 use crate::{envelope, state};
 use segment::{Pen, Separators, Value};
+use spec::ids::Stretch;
+
+// A closer: the separators, its identifier, the element of its control number and that number's text, the element of its count and the
+// count.
+#[derive(Clone, Copy)]
+pub struct Closer {
+    pub sep: Separators,
+    pub id: Stretch,
+    pub closer: usize,
+    pub control: Value,
+    pub count: usize,
+    pub counted: u64,
+}
 
 // A plain text at element p.
 pub fn put_plain(doc: &mut [u8], job: &[u8], s: Separators, pen: Pen, p: usize, v: Value) -> Pen
@@ -30,10 +43,7 @@ pub fn put_plain(doc: &mut [u8], job: &[u8], s: Separators, pen: Pen, p: usize, 
 fn both_empty(job: &[u8], v: Value, w: Value) -> bool
     ensures { result ≡ pick (is_empty (value_text job.now w)) (is_empty (value_text job.now v)) false }
 {
-    if segment::is_empty(job, w) {
-        return segment::is_empty(job, v);
-    }
-    false
+    segment::is_empty(job, w) && segment::is_empty(job, v)
 }
 
 // Two plain texts at element p: the first stands.
@@ -83,14 +93,14 @@ fn put_two(
     segment::close(doc, s, b, last)
 }
 
-// A segment of two plain texts, the second at the same element or behind; its identifier is a stretch of the job.
+// A segment of two plain texts, the second at the same element or behind; its identifier is a stretch of the job. The texts stay apart from
+// the closer that they are of: either may be the first.
 pub fn join_two(
     doc: &mut [u8],
     at: usize,
     job: &[u8],
     s: Separators,
-    start: usize,
-    len: usize,
+    id: Stretch,
     p: usize,
     v: Value,
     q: usize,
@@ -98,35 +108,27 @@ pub fn join_two(
 ) -> usize
     requires { p ≤ q }
     ensures { Stored doc.old at
-        (joined s (stretch job.now start len) (part_at p None (value_text job.now v) ∷ part_at q None (value_text job.now w) ∷ [])) result doc.new }
+        (joined s (stretch job.now id.start id.len) (part_at p None (value_text job.now v) ∷ part_at q None (value_text job.now w) ∷ [])) result doc.new }
 {
     let first = segment::raised(job, 0, v, p);
     let last = segment::raised(job, first, w, q);
-    let pen = segment::begin(doc, at, job, start, len);
+    let pen = segment::begin(doc, at, job, id.start, id.len);
     put_two(doc, job, s, pen, p, v, q, w, last)
 }
 
 // The bytes of a loop's closer: its control number and its count in the order of their elements, the count first where these are equal.
-pub fn put_closer(
-    doc: &mut [u8],
-    at: usize,
-    job: &[u8],
-    s: Separators,
-    start: usize,
-    len: usize,
-    closer: usize,
-    control: Value,
-    count: usize,
-    counted: u64,
-) -> usize
-    ensures { (k : Control) → k.closer ≡ closer → k.count ≡ count
-        → Stored doc.old at (joined s (stretch job.now start len) (closer_put k (value_text job.now control) counted).parts) result doc.new }
+pub fn put_closer(doc: &mut [u8], at: usize, job: &[u8], c: Closer) -> usize
+    ensures { (k : Control) → k.closer ≡ c.closer → k.count ≡ c.count
+        → Stored doc.old at (joined c.sep (stretch job.now c.id.start c.id.len) (closer_put k (value_text job.now c.control) c.counted).parts) result doc.new }
 {
-    let number = envelope::count_value(counted);
-    if count <= closer {
-        return join_two(doc, at, job, s, start, len, count, number, closer, control);
+    let number = envelope::count_value(c.counted);
+    let s = c.sep;
+    let id = c.id;
+    let control = c.control;
+    if c.count <= c.closer {
+        return join_two(doc, at, job, s, id, c.count, number, c.closer, control);
     }
-    join_two(doc, at, job, s, start, len, closer, control, count, number)
+    join_two(doc, at, job, s, id, c.closer, control, c.count, number)
 }
 
 // The trace entries of a closer: one, or two where both texts stand at one element.
@@ -145,30 +147,13 @@ pub fn write_closer(
     segments: &mut [u64],
     job: &[u8],
     state: Counts,
-    s: Separators,
-    start: usize,
-    len: usize,
-    closer: usize,
-    control: Value,
-    count: usize,
-    counted: u64,
+    c: Closer,
 ) -> Counts
-    ensures { (j : Job) (k : Control) (f p : List ℕ) → separators_of j ≡ s → k.closer ≡ closer → k.count ≡ count → Within state
-        → DidCounts (segment_out j (stretch job.now start len) (closer_put k (value_text job.now control) counted).parts (closer_put k (value_text job.now control) counted).findings
-        (closer_put k (value_text job.now control) counted).entries None) state result doc.old doc.new segments.old segments.new f f p p }
+    ensures { (j : Job) (k : Control) (f p : List ℕ) → separators_of j ≡ c.sep → k.closer ≡ c.closer → k.count ≡ c.count → Within state
+        → DidCounts (segment_out j (stretch job.now c.id.start c.id.len) (closer_put k (value_text job.now c.control) c.counted).parts (closer_put k (value_text job.now c.control) c.counted).findings
+        (closer_put k (value_text job.now c.control) c.counted).entries None) state result doc.old doc.new segments.old segments.new f f p p }
 {
-    let at = put_closer(
-        doc,
-        state.bytes,
-        job,
-        s,
-        start,
-        len,
-        closer,
-        control,
-        count,
-        counted,
-    );
-    let entries = closer_entries(closer, count);
+    let at = put_closer(doc, state.bytes, job, c);
+    let entries = closer_entries(c.closer, c.count);
     state::finish_segment(segments, state, From::Envelope, entries, at, state.findings)
 }

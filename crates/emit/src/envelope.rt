@@ -34,40 +34,37 @@ pub fn count_value(count: u64) -> Value
     control_value(count, None)
 }
 
-// Bytes of its own and a stretch of the job behind them, filled up to the width of an element.
+// The bytes of a value, its own and the stretch of the job, filled up to the width of an element.
 pub fn padded_value(
     job: &[u8],
-    bytes: [u8; 48],
-    count: usize,
-    start: usize,
-    len: usize,
+    v: Value,
     numeric: bool,
     min: Option<usize>,
     max: Option<usize>,
 ) -> Value
-    requires { (length job.now ≤ 65536) × (count ≤ 48) }
-    ensures { value_text job.now result ≡ padded numeric min max (take count bytes ++ stretch job.now start len) }
+    requires { (length job.now ≤ 65536) × (v.count ≤ 48) }
+    ensures { value_text job.now result ≡ padded numeric min max (take v.count v.bytes ++ stretch job.now v.start v.len) }
 {
-    let own = lent::stretch_len(&bytes, 0, count);
-    let held = lent::stretch_len(job, start, len);
+    let bytes = v.bytes;
+    let own = lent::stretch_len(&bytes, 0, v.count);
+    let held = lent::stretch_len(job, v.start, v.len);
     let padding = envelope::pad(own + held, numeric, min, max);
     Value {
         zeros: padding.zeros,
-        bytes,
-        count,
-        start,
-        len,
         spaces: padding.spaces,
+        ..v
     }
 }
 
-// ISA, GS and ST, one row for each depth: element positions, each with the number of its field; zeros behind them.
+// ISA, GS and ST, one row for each depth: element positions, each with the number of its field; zeros behind them. Rows of one length, since there
+// is no heap; and so the spec's `table` has them, which the contracts cite.
 const LAYOUT: [[u8; 18]; 3] = [
     [5, 0, 6, 1, 7, 2, 8, 3, 9, 6, 10, 7, 11, 10, 15, 8, 16, 11],
     [2, 4, 3, 5, 4, 6, 5, 7, 0, 0, 0, 0, 0, 0, 0, 0, 0, 0],
     [0, 0, 0, 0, 0, 0, 0, 0, 0, 0, 0, 0, 0, 0, 0, 0, 0, 0],
 ];
 
+// The depths are 0, 1 and 2, the table's rows (ISA, GS and ST): an enum for them would be turned into the row's number at each.
 fn position_in(depth: usize, i: usize) -> u32
     requires { (depth < 3) × (i < 9) }
     ensures { result ≡ get_or (get_or table depth []) (i * 2) 0 }
@@ -98,11 +95,8 @@ fn search(depth: usize, position: u32) -> Option<u8>
 pub fn field_at(depth: usize, position: u32) -> Option<u8>
     ensures { result ≡ field_at depth position }
 {
-    if position == 0 {
+    if position == 0 || 3 <= depth {
         return None;
     }
-    if depth < 3 {
-        return search(depth, position);
-    }
-    None
+    search(depth, position)
 }

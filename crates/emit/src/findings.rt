@@ -14,7 +14,8 @@ use spec::ids::{RowId, TableId};
 use texts::render::Refused;
 
 // Where a text comes from and where it goes: its origin (0 a cell, 1 a field), table or field, row, column; its segment's identifier
-// as a number, element, component plus one or 0.
+// as a number, element, component plus one or 0. The origin is no enum: these are the numbers of a finding, which C reads, and an enum would be
+// made for one function, `note`, that turns it back into four of them.
 #[derive(Clone, Copy)]
 pub struct Spot {
     pub origin: u64,
@@ -58,7 +59,7 @@ pub fn cell_spot(
     }
 }
 
-// A finding of that kind on a text.
+// A finding of that kind on a text: 4 a separator in it, 5 a reason why there is none. Kinds are numbers, since C reads a finding as ten of them.
 fn note(findings: &mut [u64], at: usize, kind: u64, w: Spot, a: u64, b: u64) -> usize
     ensures { Noted findings.old at (spotted kind w a b) result findings.new }
 {

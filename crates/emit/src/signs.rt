@@ -56,7 +56,8 @@ pub fn delimiters_of(job: Indexed) -> Delimiters
     }
 }
 
-// An identifier as the number that findings have for it.
+// An identifier as the number that findings have for it. No loop: it is at most three bytes, and written out each
+// number is seen to fit.
 pub fn id_number(job: &[u8], id: Stretch) -> u64
     requires { (id.len ≤ 3) × (id.start + id.len ≤ length job.now) }
     ensures { result ≡ number_from 0 (stretch_of job.now id) }

@@ -12,7 +12,8 @@ use spec::ids::{RowId, TableId};
 pub type Mark = Option<RowId>;
 
 // The trace entries so far and those before the segment that is not finished yet; then how many bytes of the document and numbers of the
-// other lists there are, stored or not.
+// other lists there are, stored or not. No ghost field says that they are within the cap (`Within`): `finish_segment` would have to ask it of
+// the bytes and findings that it is given, of which it asks nothing; and the spec's `first_state` takes any number of findings.
 #[derive(Clone, Copy)]
 pub struct Counts {
     pub entries: usize,
@@ -23,7 +24,8 @@ pub struct Counts {
     pub stops: usize,
 }
 
-// The highest row of each table, the next control number of each loop, and the counts.
+// The highest row of each table, the next control number of each loop, and the counts. Arrays of the most that a job has, since there is no heap: a
+// mark stands at its table, a number at its loop.
 #[derive(Clone, Copy)]
 pub struct State {
     pub high: [Mark; 16],
@@ -57,7 +59,7 @@ pub fn raised(m: Mark, r: RowId) -> Mark
     }
 }
 
-// A row is lower than the highest yet entered.
+// A row is lower than the highest yet entered: a finding of kind 3, a number since C reads it.
 pub fn note_order(
     findings: &mut [u64],
     at: usize,
@@ -135,18 +137,12 @@ pub fn finish_segment(
 pub fn next_number(n: u64) -> u64
     ensures { result ≡ next n }
 {
-    if n < 18446744073709551615 {
-        return n + 1;
-    }
-    0
+    n.wrapping_add(1)
 }
 
 // The number before n: that which was taken last where n is the next.
 pub fn last_number(n: u64) -> u64
     ensures { result ≡ previous n }
 {
-    if n == 0 {
-        return 18446744073709551615;
-    }
-    n - 1
+    n.wrapping_sub(1)
 }

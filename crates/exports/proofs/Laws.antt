@@ -25,18 +25,6 @@ use Rattle.exports.specs.Nesting.{nest_lent}
 pub array_long : (j : Job) (n m : ℕ) → rows_of_all j.tables ≤ 4096 → n ≡ length j.tables → m ≡ T.rows_before j.tables n → (m * 3 ≡ length (nest_array (outline_of j))) × (m * 3 ≤ 12288)
 array_long j n m h e q = let c = rows_counted j n m e q in (omega (arith, c, array_rows j), omega (arith, c, h))
 
--- as many first items as fit, and the rest of the other list
-pub front_copied : {A : Type 0} (d xs : List A) (n : ℕ) → n ≡ min (length d) (length xs) → take n xs ++ drop n d ≡ sets d 0 xs
-front_copied d xs n e =
-    let l = length-take n xs in
-    let k : length (take n xs) ≡ n = omega (arith, l, e) in
-    let z : 0 + length (take n xs) ≡ n = omega (arith, k) in
-    ap (λ (m : ℕ). take n xs ++ drop m d) (sym z) ∙ sym (sets-eq (take n xs) d 0 (omega (arith, k, e))) ∙ go (leb (length d) (length xs)) refl
-  where
-    go : (t : Bool) → leb (length d) (length xs) ≡ t → sets d 0 (take n xs) ≡ sets d 0 xs
-    go true h = let q = leb-true (length d) (length xs) h in sets_fits d 0 xs n (omega (arith, q, e))
-    go false h = let q = leb-false (length d) (length xs) h in rw (take_all n xs (omega (arith, q, e)))
-
 -- what was stored at the front of a list that is long enough, copied to the front of another
 pub copied : (d d' l l' xs : List ℕ) (n : ℕ) → l' ≡ sets l 0 xs → n ≡ length xs → n ≤ length l → d' ≡ sets d 0 (take n l') → d' ≡ sets d 0 xs
 copied d d' l l' xs n e q h f =

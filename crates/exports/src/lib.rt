@@ -13,8 +13,7 @@ pub mod writing;
 fn copy_front<T: Copy>(d: &mut [T], source: &[T])
     ensures { d.new ≡ sets d.old 0 source.now }
 {
-    let n = d.len().min(source.len());
-    d[..n].copy_from_slice(&source[..n]);
+    lent::put_stretch(d, 0, source, 0, source.len());
 }
 
 // The refusal of a job, 1 to 5, or 0 where none of these applies.

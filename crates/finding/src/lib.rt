@@ -7,7 +7,8 @@ ghost use Rattle.finding.specs.Findings.{finding_at, findings_in};
 
 mod line;
 
-// The kind, then the values of the listing's line; a signed value stands as its 64 bits.
+// The kind, then the values of the listing's line; a signed value stands as its 64 bits. The kind is a number and the values have no names, since C
+// reads the struct: `emit` and `nest` write it as ten numbers.
 #[repr(C)]
 #[derive(Clone, Copy)]
 pub struct Finding {

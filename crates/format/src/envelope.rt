@@ -6,6 +6,8 @@ use codec::{Form, Section};
 
 pub struct Envelope;
 
+// The fields one after the other: whoever keeps some of their places has such lines too, and each keeps others, so that a walk with a hook for each
+// field would be no plainer.
 impl Form for Envelope {
     ghost Value = { AEnvelope };
 

@@ -7,7 +7,8 @@ pub mod layout;
 pub mod plan;
 pub mod spec;
 
-ghost use Rattle.std.specs.Prelude.{◌≡◌, false};
+ghost use Rattle.std.specs.Prelude.{◌≡◌, ◌≤◌, length, eqb, not, false};
+ghost use Rattle.codec.specs.Skip.{skip};
 ghost use Rattle.format.specs.Sections.{broken, spoilt};
 
 use codec::forms::Items;
@@ -16,7 +17,9 @@ pub use data::{Column, TableData};
 pub use envelope::Envelope;
 pub use layout::{Item, Layout};
 pub use plan::{ElementPlan, Filler, Instances, LoopPlan, SegmentPlan, Source};
-pub use spec::{Component, Control, Element, Kind, Loop, Repeat, Spec, Table, Version, sizes_end};
+pub use spec::{
+    Component, Control, Element, Kind, Loop, Repeat, Spec, Table, Version, repeat_at, sizes_end,
+};
 
 // ---- trailer and sections
 
@@ -37,11 +40,24 @@ pub fn broken_at(b: &[u8]) -> bool
     let envelope = codec::num(b, t + 12);
     let data = codec::num(b, t + 16);
     let whole = codec::num(b, t + 20);
-    let later = codec::either(t < data, whole != b.len());
-    let third = codec::either(data < envelope, later);
-    let second = codec::either(envelope < layout, third);
-    let first = codec::either(layout < plan, second);
-    codec::either(spec != 0, first)
+    (spec != 0)
+        | (layout < plan)
+        | (envelope < layout)
+        | (data < envelope)
+        | (t < data)
+        | (whole != b.len())
+}
+
+// Whether what stands from one place up to another is no F.
+fn spoils<F: Form>(b: &[u8], at: usize, end: usize) -> bool
+    requires { (end ≤ length b.now) × (length b.now ≤ 65536) }
+    ensures { result ≡ not (eqb (skip F.codec b.now at end) end) }
+{
+    let s = Section {
+        bytes: b,
+        end: end as u32,
+    };
+    F::ends_at(s, at) != end
 }
 
 // 2: a section is not what its codec reads, or has bytes over.
@@ -54,40 +70,10 @@ pub fn spoilt_at(b: &[u8]) -> bool
     let layout = codec::num(b, t + 8);
     let envelope = codec::num(b, t + 12);
     let data = codec::num(b, t + 16);
-    let x = Spec::ends_at(
-        Section {
-            bytes: b,
-            end: plan as u32,
-        },
-        0,
-    ) != plan;
-    let y = Items::<LoopPlan>::ends_at(
-        Section {
-            bytes: b,
-            end: layout as u32,
-        },
-        plan,
-    ) != layout;
-    let z = Layout::ends_at(
-        Section {
-            bytes: b,
-            end: envelope as u32,
-        },
-        layout,
-    ) != envelope;
-    let v = Envelope::ends_at(
-        Section {
-            bytes: b,
-            end: data as u32,
-        },
-        envelope,
-    ) != data;
-    let w = Items::<TableData>::ends_at(
-        Section {
-            bytes: b,
-            end: t as u32,
-        },
-        data,
-    ) != t;
-    codec::either(x, codec::either(y, codec::either(z, codec::either(v, w))))
+    let x = spoils::<Spec>(b, 0, plan);
+    let y = spoils::<Items<LoopPlan>>(b, plan, layout);
+    let z = spoils::<Layout>(b, layout, envelope);
+    let v = spoils::<Envelope>(b, envelope, data);
+    let w = spoils::<Items<TableData>>(b, data, t);
+    x | y | z | v | w
 }

@@ -1,5 +1,6 @@
 // The spec: loops, segments and tables.
 ghost use Rattle.std.specs.Prelude.{◌≡◌};
+ghost use Rattle.codec.specs.Skip.{skip};
 ghost use Rattle.format.specs.Fields.{element_components};
 ghost use Rattle.format.specs.Spec.{component_c, control_c, element_c, kind_c, loop_c, repeat_c, spec_c, table_c, version_c, ComponentDef as AComponentDef, Control as AControl, ElementDef as AElementDef, Kind as AKind, Loop as ALoop, Repeat as ARepeat, Spec as ASpec, Table as ATable, Version as AVersion};
 
@@ -23,6 +24,7 @@ impl Form for Control {
 
 pub struct Loop;
 
+// As the envelope, whoever keeps places of a loop's fields goes through them in such lines: a hook for each field would be no plainer.
 impl Form for Loop {
     ghost Value = { ALoop };
 
@@ -93,6 +95,14 @@ impl Form for Element {
     }
 }
 
+// The place behind a repeat segment's two numbers, or one past `end`; the bytes themselves may end before.
+pub fn repeat_at(b: &[u8], at: usize, end: u32) -> usize
+    ensures { result ≡ skip repeat_c b.now at end }
+{
+    let from = codec::le_at(b, 4, at, end);
+    codec::le_at(b, 4, from, end)
+}
+
 pub struct Repeat;
 
 impl Form for Repeat {
@@ -101,13 +111,13 @@ impl Form for Repeat {
     ghost codec = { repeat_c };
 
     fn ends_at(s: Section, at: usize) -> usize {
-        let from = s.le_at(4, at);
-        s.le_at(4, from)
+        repeat_at(s.bytes, at, s.end)
     }
 }
 
 pub struct Table;
 
+// And so of a table.
 impl Form for Table {
     ghost Value = { ATable };
 

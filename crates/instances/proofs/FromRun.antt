@@ -8,14 +8,10 @@ use lib.ListN.{length, take, drop}
 use lib.Dec.{eqb}
 use borrow.Author.Tests.{eq-eqb, ne_eqb, eqb-true}
 use Rattle.spec.specs.declared.ids.RowId.{RowId}
-use Rattle.format.specs.Job.{Job}
-use Rattle.format.specs.Ask as A
 use Rattle.nest.specs.Lists.{keep, from, on, is, up_to}
 use Rattle.std.specs.Prelude.{Option, Some, None}
 use Rattle.nest.specs.Found.{found_by}
 use Rattle.nest.specs.Outline.{Outline, table_parent, row_count}
-use Rattle.nest.specs.OfJob.{outline_of}
-use Rattle.nest.proofs.Bridge.{table_parent_is}
 use Rattle.nest.proofs.Reports.{found_row, found_none}
 use Rattle.nest.proofs.Scan.{window, keep_alike, keep_length}
 use Rattle.walk.specs.Instances.{Context, Run, held_by, offset, in_row, in_piece}
@@ -26,18 +22,6 @@ use Rattle.instances.specs.declared.Left.{Left}
 use Rattle.instances.specs.declared.Left.TheVariants.{Nothing, Itself, Rows, Runs}
 use Rattle.instances.specs.Cursor.{passes, start_of, end_of, left_at, left, pieces_at, coming_by, coming, Going, moved, from_run}
 use Rattle.instances.proofs.Cursors.{going_moved}
-
--- ---- whether a table is its own parent
-
-module _ (j : Job) (t : ℕ) (x : Option ℕ) (e : x ≡ (A.table_of j t).parent) where
-  parent_is : table_parent (outline_of j) t ≡ x
-  parent_is = table_parent_is j t ∙ sym e
-
-  pub own_some : (u : ℕ) → x ≡ Some u → is (table_parent (outline_of j) t) t ≡ eqb t u
-  own_some u q = ap (λ y. is y t) (parent_is ∙ q)
-
-  pub own_none : x ≡ None → is (table_parent (outline_of j) t) t ≡ false
-  own_none q = ap (λ y. is y t) (parent_is ∙ q)
 
 -- ---- one law for each way that code takes
 

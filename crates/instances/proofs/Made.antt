@@ -7,10 +7,8 @@ use native.Mathlib.Numerals.{add-one}
 use native.Mathlib.Omega.{arith}
 use native.Mathlib.Decide.{dec_lt}
 use Rattle.std.proofs.lemmas.Option.{same_Some, none-some}
-use lib.ListN.{length, take, drop, get_or-eq_default}
+use lib.ListN.{length, take, drop}
 use lib.Seq.{take-nil, drop-nil}
-use lib.Dec.{ltb}
-use borrow.Author.Tests.{lt-ltb, le-ltb}
 use Rattle.format.specs.Job.{Job}
 use Rattle.format.specs.Sections.{job_of}
 use Rattle.format.specs.Refusal.{rows_of_all}
@@ -24,12 +22,12 @@ use Rattle.plan.specs.Answers.{instances_of}
 use Rattle.plan.specs.declared.answers.Instances.{Instances}
 use Rattle.nest.specs.Lists.{on, is, keep, up_to}
 use Rattle.std.specs.Prelude.{Option, Some, None}
-use Rattle.nest.specs.Found.{found_by, row_place, held_at}
-use Rattle.nest.specs.Outline.{Outline, Table, absent, envelope, rows, inside, groups, kind_of, table_of, table_parent, row_count, plain}
+use Rattle.nest.specs.Found.{found_by, held_at}
+use Rattle.nest.specs.Outline.{Outline, absent, envelope, rows, inside, groups, kind_of, table_parent, row_count, plain}
 use Rattle.nest.specs.Nest.{referred}
 use Rattle.nest.specs.OfJob.{outline_of, kind_in}
 use Rattle.nest.specs.Ready.{outline_at}
-use Rattle.nest.proofs.Bridge.{rows_is, table_is, table_count_is, table_parent_is, kind_is}
+use Rattle.nest.proofs.Bridge.{rows_is, table_count_is, table_parent_is, kind_is}
 use Rattle.nest.proofs.Reports.{found_row, found_none}
 use Rattle.nest.proofs.Placing.{rows_few, rows_room, before_all, table_length, table_next}
 use Rattle.nest.proofs.NestLaws.{rows_before, before_none, before_next}
@@ -38,9 +36,9 @@ use Rattle.nest.proofs.Hanging.{plain_in, plain_not}
 use Rattle.nest.proofs.Scan.{window, keep_alike, keep_none}
 use Rattle.walk.specs.declared.Context.{Context as Kept}
 use Rattle.walk.specs.Instances.{Context, held_by, in_row, in_piece, pieces_of, rows_in, shown, instances}
-use Rattle.walk.specs.Contexts.{context_by, row_by, start_by, end_by}
+use Rattle.walk.specs.Contexts.{context_by, start_by, end_by}
 use Rattle.walk.specs.Nested.{Nested, Sound}
-use Rattle.walk.proofs.ContextLaws.{stands_row, stands_start, stands_end}
+use Rattle.walk.proofs.ContextLaws.{stands_start, stands_end}
 use Rattle.walk.proofs.RowLaws.{held_top, held_outside, rows_window, rows_none}
 use Rattle.walk.proofs.NestedLaws.{lent_held}
 use Rattle.walk.proofs.TourLaws.{inst_absent, inst_envelope, inst_rows, inst_groups, inst_rowless, inst_shown, inst_hidden}
@@ -53,35 +51,7 @@ use Rattle.instances.proofs.Cursors.{coming_none, coming_one, coming_rows, comin
 use Rattle.instances.specs.Stretch.{Same}
 use Rattle.instances.proofs.FromRun.{from_run_same, from_run_keeps}
 
--- ---- whether a table is plain
-
-module _ (j : Job) (t n : ℕ) (e : n ≡ length j.spec.tables) where
-  repeats_is : (table_of (outline_of j) t).repeats ≡ (A.table_of j t).segment
-  repeats_is = ap (λ (v : Table). v.repeats) (table_is j t)
-
-  within : t < n → ltb t (length (outline_of j).tables) ≡ true
-  within h = lt-ltb t _ (let q = table_count_is j in omega (arith, q))
-
-  pub plain_yes : (again : Bool) → t < n → again ≡ (A.table_of j t).segment → again ≡ false → true ≡ plain (outline_of j) t
-  unfolding plain
-  plain_yes again h a f = rw (within h, repeats_is ∙ sym a ∙ f)
-
-  pub plain_repeats : (again : Bool) → t < n → again ≡ (A.table_of j t).segment → again ≡ true → false ≡ plain (outline_of j) t
-  unfolding plain
-  plain_repeats again h a f = rw (within h, repeats_is ∙ sym a ∙ f)
-
-  pub plain_past : n ≤ t → false ≡ plain (outline_of j) t
-  unfolding plain
-  plain_past h = rw (le-ltb t (length (outline_of j).tables) (let q = table_count_is j in omega (arith, q)))
-
 -- ---- the row of a table in a context
-
-pub row_kept : (c : Kept) (u : ℕ) → row_by c u ≡ found_by ((context_by c).row u)
-unfolding row_by
-row_kept c u = ap found_by (sym (stands_row c u))
-
-pub row_past : (c : Kept) (u : ℕ) → length c.rows ≤ u → None ≡ found_by ((context_by c).row u)
-row_past c u h = ap found_by (sym (stands_row c u ∙ ap row_place (get_or-eq_default c.rows 0 {n = u} h)))
 
 pub row_small : (j : Job) (c : Context) (u : ℕ) (f : Option RowId) (p : RowId) → rows_of_all j.tables ≤ 4096 → Sound (outline_of j) c → f ≡ found_by (c.row u) → f ≡ Some p → p.0 < 4096
 row_small j c u f p h s e q = let x = s.there u p.0 (found_row (c.row u) f p e q) in let y = rows_few j u h in omega (arith, x, y)

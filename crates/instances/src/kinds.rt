@@ -1,10 +1,8 @@
 // The instances of a loop by its kind: none, the context itself, or a list of rows.
 ghost use Rattle.std.specs.Prelude.{◌≡◌, false, ◌<◌};
-ghost use Rattle.nest.specs.Lists.{is};
 ghost use Rattle.plan.specs.Answers.{instances_of};
-ghost use Rattle.nest.specs.Found.{found_by};
 ghost use Rattle.nest.specs.OfJob.{kind_in};
-ghost use Rattle.nest.specs.Outline.{table_parent, plain, row_count};
+ghost use Rattle.nest.specs.Outline.{row_count};
 ghost use Rattle.format.specs.Ask.{plan_of};
 ghost use Rattle.tables.specs.Parts.{rows_before};
 ghost use Rattle.walk.specs.Nested.{Sound};
@@ -19,8 +17,8 @@ use crate::{Cursor, Left};
 use due::shown;
 use nest::Job;
 use plan::answers::Instances;
-use spec::ids::{LoopId, RowId, TableId};
-use walk::{Context, Nest};
+use spec::ids::{LoopId, TableId};
+use walk::{Context, Nest, is_plain, parent_is, row_of};
 
 // No rows: no instance, or one in the context itself.
 pub fn rowless(kind: Left, l: LoopId, c: Context) -> Cursor
@@ -39,32 +37,8 @@ pub fn rowless(kind: Left, l: LoopId, c: Context) -> Cursor
     }
 }
 
-// Whether the spec has table t, and not as a repeat table.
-fn is_plain(job: Job, t: TableId) -> bool
-    ensures { result ≡ plain (outline_by job.entry) t.0 }
-{
-    let count = spec::tables::table_count(job.at);
-    if t.0 < count {
-        let again = spec::tables::repeats(job.at, t);
-        if again {
-            return false;
-        }
-        return true;
-    }
-    false
-}
-
-// The row of table t in context c; no table past 16 has one.
-fn row_of(c: Context, t: TableId) -> Option<RowId>
-    ensures { result ≡ found_by ((context_by c).row t.0) }
-{
-    if t.0 < 16 {
-        return walk::row_in(c, t);
-    }
-    None
-}
-
-// The row that the rows of table t hang on in context c, plus one, as in a cursor; 0 where the table has no parent.
+// The row that the rows of table t hang on in context c, plus one, as in a cursor; 0 where the table has no parent. That the context's rows are the job's,
+// `Sound`, is no ghost field of a `Context`, which holds no job: a struct of both would be made anew for each instance that is entered.
 fn above_in(job: Job, t: TableId, c: Context) -> Option<u32>
     requires { Sound (outline_by job) (context_by c) }
     ensures { result ≡ above_in (outline_by job.entry) t.0 (context_by c) }
@@ -91,21 +65,6 @@ fn all_rows(job: Job, kind: Left, l: LoopId, t: TableId, c: Context, above: u32)
     }
 }
 
-// Whether table t is its own parent.
-fn own_parent(job: Job, t: TableId) -> bool
-    ensures { result ≡ is (table_parent (outline_by job.entry) t.0) t.0 }
-{
-    let parent = spec::tables::table_parent(job.at, t);
-    match parent {
-        Some(u) => {
-            return t.0 == u;
-        }
-        None => {
-            return false;
-        }
-    }
-}
-
 // The same rows, looked for from the first of the context's run on. A table that is its own parent has another list in the run, and is gone through from its start.
 fn from_run(job: Job, all: Cursor) -> Cursor
     ensures { result ≡ from_run (outline_by job.entry) all }
@@ -116,8 +75,7 @@ fn from_run(job: Job, all: Cursor) -> Cursor
     if start == 0 {
         return all;
     }
-    let own = own_parent(job, t);
-    if own {
+    if parent_is(job, t, t) {
         return all;
     }
     match row_of(c, t) {
@@ -151,23 +109,17 @@ fn inside_itself(job: Job, l: LoopId, t: TableId, c: Context) -> Cursor
         return rowless(Left::Nothing, l, c);
     };
     if shown(job, l, t, r) {
-        return rowless(Left::Itself, l, c);
+        rowless(Left::Itself, l, c)
+    } else {
+        rowless(Left::Nothing, l, c)
     }
-    rowless(Left::Nothing, l, c)
 }
 
 // Whether a loop of this kind has an instance where one of its children has.
 pub fn by_children(kind: Instances) -> bool
     ensures { result ≡ is_implied (kind_in (instances_of kind)) }
 {
-    match kind {
-        Instances::Absent => false,
-        Instances::Envelope => false,
-        Instances::Rows(_) => false,
-        Instances::Inside(_) => false,
-        Instances::Groups(_) => false,
-        Instances::Implied => true,
-    }
+    matches!(kind, Instances::Implied)
 }
 
 // The instances of a loop of another kind.

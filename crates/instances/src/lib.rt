@@ -6,7 +6,7 @@ ghost use Rattle.nest.specs.Lists.{is_empty_list};
 ghost use Rattle.walk.specs.Nested.{Sound};
 ghost use Rattle.walk.specs.Contexts.{context_by};
 ghost use Rattle.walk.specs.Instances.{instances};
-ghost use Rattle.instances.specs.Cursor.{coming, context_in, Came, Going};
+ghost use Rattle.instances.specs.Cursor.{coming, context_in, behind, Came, Going};
 ghost use Rattle.nest.specs.Job.{outline_by};
 
 use crate::kinds::{by_children, by_kind, rowless};
@@ -31,7 +31,10 @@ pub enum Left {
 
 // The instances still to come of loop l in a context. Left are the rows from `next` on, below `rows`, that hang on the row `above` less one, or all
 // where it is 0, as far as the context's run has them; `seen` of them stood before. The numbers of the table's rows start at `base` in nest's array.
-// `above` is no Option: it is compared with nest's numbers, which are rows plus one, or 0.
+// `above` is no Option: it is compared with nest's numbers, which are rows plus one, or 0. No `nest::TableRows` for `base` and `rows`: a cursor without
+// rows (`kinds::rowless`) would need an array too, and so would the definition that says what it is. `seen` and `next` are no struct: next_row counts the
+// one as it goes through the rows from the other on, and with a struct would take it apart first. That a cursor is within the rows (`Inside`) is said of
+// nest's array too.
 #[derive(Clone, Copy)]
 pub struct Cursor {
     pub context: Context,
@@ -71,6 +74,18 @@ pub fn context_in(cur: Cursor, at: Next) -> Context
     }
 }
 
+// The cursor behind the instance that it gives next.
+pub fn behind(cur: Cursor, at: Next) -> Cursor
+    ensures { result ≡ behind cur at }
+{
+    Cursor {
+        kind: at.kind,
+        seen: at.seen,
+        next: at.next,
+        ..cur
+    }
+}
+
 // The next of the instances still to come.
 pub fn next_instance(nest: Nest, cur: Cursor) -> Option<Next>
     requires { Going (outline_by nest.job) nest.array.now cur }
@@ -99,13 +114,11 @@ fn has_instance(nest: Nest, l: LoopId, c: Context, height: u32) -> bool
         return false;
     }
     let kind = plan::planned::instances(nest.job.at, l);
-    let implied = by_children(kind);
-    if implied {
+    if by_children(kind) {
         let n = spec::loops::child_count(nest.job.at, l);
         for i in 0..n {
             let k = spec::loops::child(nest.job.at, l, i);
-            let some = has_instance(nest, k, c, height - 1);
-            if some {
+            if has_instance(nest, k, c, height - 1) {
                 return true;
             }
         }
@@ -124,13 +137,12 @@ pub fn instances(nest: Nest, l: LoopId, c: Context, height: u32) -> Cursor
         return rowless(Left::Nothing, l, c);
     }
     let kind = plan::planned::instances(nest.job.at, l);
-    let implied = by_children(kind);
-    if implied {
-        let some = has_instance(nest, l, c, height);
-        if some {
-            return rowless(Left::Itself, l, c);
-        }
-        return rowless(Left::Nothing, l, c);
+    if !by_children(kind) {
+        return by_kind(nest, kind, l, c);
     }
-    by_kind(nest, kind, l, c)
+    if has_instance(nest, l, c, height) {
+        rowless(Left::Itself, l, c)
+    } else {
+        rowless(Left::Nothing, l, c)
+    }
 }

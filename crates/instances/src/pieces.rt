@@ -28,20 +28,13 @@ fn run_end(job: Job, nest: &[u32], cur: Cursor, head: RowId) -> RunEnd
     // No `for`: each row tells where the next is looked for.
     while let Some(a) = next_row(nest, moved(cur, seen, next)) {
         let row = a.row;
-        let same = same_group(job, l, head, row);
-        if !same {
-            return RunEnd {
-                seen: seen,
-                next: next,
-            };
+        if !same_group(job, l, head, row) {
+            return RunEnd { seen, next };
         }
         seen = a.seen;
         next = a.next;
     }
-    RunEnd {
-        seen: seen,
-        next: next,
-    }
+    RunEnd { seen, next }
 }
 
 // The next instance of a `Groups` loop. `seen` rows of the parent's list stand before the first of the run.

@@ -21,10 +21,7 @@ fn passes(all: TableRows, above: u32, k: usize) -> bool
     requires { (k < all.rows) × (above ≤ 4096) }
     ensures { result ≡ passes all.entry.array.now all.entry.base above k }
 {
-    if above == 0 {
-        return true;
-    }
-    all.held_at(k, RowId(above - 1))
+    above == 0 || all.held_at(k, RowId(above - 1))
 }
 
 // The next row that is left.
@@ -54,7 +51,7 @@ pub fn next_row(nest: &[u32], cur: Cursor) -> Option<RowAhead>
                     next: k + 1,
                 });
             }
-            seen = seen + 1;
+            seen += 1;
         }
     }
     None
@@ -64,10 +61,7 @@ pub fn next_row(nest: &[u32], cur: Cursor) -> Option<RowAhead>
 pub fn moved(cur: Cursor, seen: usize, next: usize) -> Cursor
     ensures { result ≡ moved cur seen next }
 {
-    let mut r = cur;
-    r.seen = seen;
-    r.next = next;
-    r
+    Cursor { seen, next, ..cur }
 }
 
 // The next instance of a `Rows` loop.

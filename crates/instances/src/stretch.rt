@@ -55,10 +55,11 @@ fn stretch(nest: &[u32], cur: Cursor) -> Cursor
     };
     let low = all.first_at(cur.next, cur.above);
     let high = first_near(all, low, cur.above + 1);
-    let mut r = cur;
-    r.next = low;
-    r.rows = high;
-    r
+    Cursor {
+        next: low,
+        rows: high,
+        ..cur
+    }
 }
 
 // The same instances still to come, of fewer rows where the table's rows hang on rising rows.
@@ -66,11 +67,9 @@ pub fn narrowed(nest: Nest, cur: Cursor) -> Cursor
     requires { Going (outline_by nest.job) nest.array.now cur × (cur.base ≡ rows_before (job_by nest.job).tables cur.table.0) }
     ensures { Same (outline_by nest.entry.job) nest.entry.array.now cur result }
 {
-    if cur.above == 0 {
-        return cur;
+    if 0 < cur.above && rises(nest.array, cur.table) {
+        stretch(nest.array, cur)
+    } else {
+        cur
     }
-    if rises(nest.array, cur.table) {
-        return stretch(nest.array, cur);
-    }
-    cur
 }

@@ -7,13 +7,20 @@ use native.Mathlib.Omega.{arith}
 use native.Mathlib.Numerals.{add-one}
 use native.Mathlib.Nat.{le_of_lt, min-eq_left, min-eq_right, add-zero, not-suc-le-zero, zero-mul, suc-mul, add_comm, mul-sub, mul_comm, le_refl, zero-sub, sub-zero}
 use lib.ListN.{length, get_or, set, take, drop, replicate, length-append, length-set, length-take, length-drop, length-replicate, drop_of_length-le}
-use lib.Seq.{sets, set_out, length-sets, take-set-le, drop-set-lt, take_all, take-suc, take-take, take-nil, take-append-add, drop-nil}
+use borrow.Rule.Slice.PartMut.{put_mid, Post-is}
+use lib.Seq.{sets, sets-eq, set_out, length-sets, take-set-le, drop-set-lt, take_all, take-suc, take-take, take-nil, take-append-add, drop-nil}
 use lib.Dec.{leb}
 use borrow.Author.Tests.{leb-true, leb-false}
 use Rattle.lent.specs.Fit.{cap, more, stretch, placed, StoredAt, Stored}
 
+-- a part of a list, replaced by as many items
+pub part_put : {A : Type 0} (d x : List A) (at n : ℕ) → length x ≡ n → at + n ≤ length d → put_mid at (at + n - at) d x ≡ sets d at x
+part_put d x at n e h =
+    let k : at + n ≡ at + length x = omega (arith, e) in
+    ap (λ z. take at d ++ (x ++ z)) (Post-is at (at + n) d (omega arith)) ∙ ap (λ m. take at d ++ (x ++ drop m d)) k ∙ sym (append_assoc (take at d) x (drop (at + length x) d)) ∙ sym (sets-eq x d at (omega (arith, e, h)))
+
 -- nothing is stored past the end
-pub sets_past : (d : List ℕ) (p : ℕ) (bs : List ℕ) → length d ≤ p → sets d p bs ≡ d
+pub sets_past : {A : Type 0} (d : List A) (p : ℕ) (bs : List A) → length d ≤ p → sets d p bs ≡ d
 sets_past d p [] h = refl
 sets_past d p (b ∷ bs) h = rw (set_out d p b h) (sets_past d (suc p) bs (omega arith))
 
@@ -33,7 +40,7 @@ drop_sets n d p [] h = refl
 drop_sets n d p (b ∷ bs) h = drop_sets n (set d p b) (suc p) bs (omega arith) ∙ drop-set-lt n d p b (omega arith)
 
 -- what fits is what counts
-pub sets_fits : (d : List ℕ) (p : ℕ) (bs : List ℕ) (n : ℕ) → length d - p ≤ n → sets d p (take n bs) ≡ sets d p bs
+pub sets_fits : {A : Type 0} (d : List A) (p : ℕ) (bs : List A) (n : ℕ) → length d - p ≤ n → sets d p (take n bs) ≡ sets d p bs
 sets_fits d p [] zero h = refl
 sets_fits d p [] (suc n) h = refl
 sets_fits d p (b ∷ bs) zero h = sym (sets_past d p (b ∷ bs) (omega arith))
@@ -128,7 +135,7 @@ pub sets_turn : (d : List ℕ) (p : ℕ) (xs : List ℕ) (i : ℕ) {e : List ℕ
 sets_turn = sets_next 0
 
 -- so many as fit are as good as all
-pub fits_take : (d : List ℕ) (p : ℕ) (ys : List ℕ) (len k : ℕ) → k ≡ min (length (take len ys)) (length d - p) → sets d p (take k ys) ≡ sets d p (take len ys)
+pub fits_take : {A : Type 0} (d : List A) (p : ℕ) (ys : List A) (len k : ℕ) → k ≡ min (length (take len ys)) (length d - p) → sets d p (take k ys) ≡ sets d p (take len ys)
 fits_take d p ys len k e =
     let q : length (take len ys) ≡ min len (length ys) = length-take len ys in
     let h : k ≤ len = omega arith in
@@ -144,11 +151,11 @@ take_replicate zero (suc k) b h = absurd (not-suc-le-zero h)
 take_replicate (suc n) (suc k) b h = ap (λ (r : List ℕ). b ∷ r) (take_replicate n k b (omega arith))
 
 -- how much of a stretch there is
-pub length_stretch : (s : List ℕ) (start len : ℕ) → length (stretch s start len) ≡ min len (length s - start)
+pub length_stretch : {A : Type 0} (s : List A) (start len : ℕ) → length (stretch s start len) ≡ min len (length s - start)
 length_stretch s start len = length-take len (drop start s) ∙ ap (λ (n : ℕ). min len n) (length-drop start s)
 
 -- what the storing functions show: so many were stored as fit, and all were counted
-pub stored_fit : (d : List ℕ) (at : ℕ) (ys : List ℕ) (len : ℕ) {n k q : ℕ} {d' : List ℕ}
+pub stored_fit : {A : Type 0} (d : List A) (at : ℕ) (ys : List A) (len : ℕ) {n k q : ℕ} {d' : List A}
     → n ≡ length (take len ys) → k ≡ min n (length d - at) → d' ≡ sets d at (take k ys) → q ≡ more at n → Stored d at (take len ys) q d'
 stored_fit d at ys len {n} {k} en ek es eq = record {
   counted = rw (← en) eq;
@@ -171,17 +178,16 @@ drop_min l m = go (leb (length l) m) refl
 pub sized : (ys : List ℕ) (count n : ℕ) → n ≡ min count (10 - 0) → length ys ≡ 10 → n ≡ length (take count ys)
 sized ys count n e l = let q : length (take count ys) ≡ min count (length ys) = length-take count ys in omega arith
 
--- the same of a list that begins at place p: `before` of them lie before it, and the first of the others comes to `start`
-pub noted_fit : (p : ℕ) (d : List ℕ) (at : ℕ) (ys : List ℕ) (len : ℕ) {n before start k q : ℕ} {d' : List ℕ}
-    → n ≡ length (take len ys) → before ≡ min n (p - at) → start ≡ at - p → k ≡ min (n - before) (length d - start) → d' ≡ sets d start (stretch ys before k) → q ≡ more at n
+-- of a list that begins at place p: `before` of them lie before it, and the first of the others comes to `start`
+pub noted_fit : (p : ℕ) (d : List ℕ) (at : ℕ) (ys : List ℕ) (len : ℕ) {n before start q : ℕ} {d' : List ℕ}
+    → n ≡ length (take len ys) → before ≡ min n (p - at) → start ≡ at - p → d' ≡ sets d start (stretch ys before (len - before)) → q ≡ more at n
     → StoredAt p d at (take len ys) q d'
-noted_fit p d at ys len {n} {before} {start} {k} {q} {d'} en eb es ek ed eq =
+noted_fit p d at ys len {n} {before} {start} en eb es ed eq =
     let b : before ≡ min (length (take len ys)) (p - at) = rw (← en) eb in
-    let r : drop (p - at) (take len ys) ≡ take (len - before) (drop before ys) = sym (drop_min (take len ys) (p - at)) ∙ rw (← b) (drop_take before len ys) in
-    let l : length (take (len - before) (drop before ys)) ≡ n - before = ap length (sym (drop_take before len ys)) ∙ length-drop before (take len ys) ∙ rw (← en) in
+    let r : drop (p - at) (take len ys) ≡ stretch ys before (len - before) = sym (drop_min (take len ys) (p - at)) ∙ rw (← b) (drop_take before len ys) in
     record {
       counted = rw (← en) eq;
-      stored = ed ∙ fits_take d start (drop before ys) (len - before) k (rw l ek) ∙ rw (← r, es) (sym (placed_is p d at (take len ys)));
+      stored = ed ∙ rw (← r, es) (sym (placed_is p d at (take len ys)));
     }
 
 pub stored_run : (d : List ℕ) (at b n : ℕ) {k q : ℕ} {d' : List ℕ}

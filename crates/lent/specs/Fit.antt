@@ -11,8 +11,8 @@ cap = 9223372036854775808
 abbrev pub more : ℕ → ℕ → ℕ
 more at n = min (at + n) cap
 
--- `len` bytes from `start` on; past the end of the source there are none
-abbrev pub stretch : List ℕ → ℕ → ℕ → List ℕ
+-- `len` items from `start` on; past the end of the source there are none
+abbrev pub stretch : {A : Type 0} → List A → ℕ → ℕ → List A
 stretch source start len = take len (drop start source)
 
 -- 2 ^ 62: the place of a window's first number
@@ -24,16 +24,16 @@ abbrev pub wide : ℕ
 wide = 4611686018427387904
 
 -- the list d begins at place k; what is stored before it is left out
-abbrev pub placed : ℕ → List ℕ → ℕ → List ℕ → List ℕ
+abbrev pub placed : {A : Type 0} → ℕ → List A → ℕ → List A → List A
 placed zero d at items = sets d at items
 placed (suc k) d at items = sets d (at - suc k) (drop (suc k - at) items)
 
 -- `items` were stored from place `at` on in the list d, which begins at place k, as far as they fit, which gives d'; all of them were counted
-pub record StoredAt (k : ℕ) (d : List ℕ) (at : ℕ) (items : List ℕ) (next : ℕ) (d' : List ℕ) : Type 0 where
+pub record StoredAt {A : Type 0} (k : ℕ) (d : List A) (at : ℕ) (items : List A) (next : ℕ) (d' : List A) : Type 0 where
   pub counted : next ≡ more at (length items)
   pub stored : d' ≡ placed k d at items
 
-abbrev pub Stored : List ℕ → ℕ → List ℕ → ℕ → List ℕ → Type 0
+abbrev pub Stored : {A : Type 0} → List A → ℕ → List A → ℕ → List A → Type 0
 Stored = StoredAt 0
 
 -- findings: the list is a window of the whole list of findings

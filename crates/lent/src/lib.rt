@@ -19,8 +19,8 @@ pub fn fitting(len: usize, at: usize, n: usize) -> usize
     n.min(len.saturating_sub(at))
 }
 
-// How many bytes of `len` a source has from `start` on.
-pub fn stretch_len(source: &[u8], start: usize, len: usize) -> usize
+// How many items of `len` a source has from `start` on.
+pub fn stretch_len<T>(source: &[T], start: usize, len: usize) -> usize
     ensures { result ≡ length (stretch source.now start len) }
 {
     fitting(source.len(), start, len)
@@ -41,8 +41,8 @@ fn fill(d: &mut [u8], at: usize, b: u8, n: usize)
     requires { n ≤ length d.old - at }
     ensures { d.new ≡ sets d.old at (replicate n b) }
 {
-    for i in 0..n {
-        d[at + i] = b;
+    if n > 0 {
+        d[at..at + n].fill(b);
     }
 }
 
@@ -50,8 +50,8 @@ fn copy<T: Copy>(d: &mut [T], at: usize, source: &[T], start: usize, n: usize)
     requires { (n ≤ length d.old - at) × (n ≤ length source.now - start) }
     ensures { d.new ≡ sets d.old at (take n (drop start source.now)) }
 {
-    for i in 0..n {
-        d[at + i] = source[start + i];
+    if n > 0 {
+        d[at..at + n].copy_from_slice(&source[start..start + n]);
     }
 }
 
@@ -71,7 +71,7 @@ pub fn put_run(d: &mut [u8], at: usize, b: u8, n: usize) -> usize
 }
 
 // A stretch of another list.
-pub fn put_stretch(d: &mut [u8], at: usize, source: &[u8], start: usize, len: usize) -> usize
+pub fn put_stretch<T: Copy>(d: &mut [T], at: usize, source: &[T], start: usize, len: usize) -> usize
     ensures { Stored d.old at (stretch source.now start len) result d.new }
 {
     let n = stretch_len(source, start, len);
@@ -80,14 +80,12 @@ pub fn put_stretch(d: &mut [u8], at: usize, source: &[u8], start: usize, len: us
     more(at, n)
 }
 
-// The first `count` numbers of a record, at most ten.
+// The first `count` numbers of a record, at most ten. An array and a count, no slice: callers make the array where they call, of the
+// three numbers of a stop or a segment filled up with 0, and a proof has its numbers at hand, with no length to show.
 pub fn put_words(d: &mut [u64], at: usize, words: [u64; 10], count: usize) -> usize
     ensures { Stored d.old at (take count words) result d.new }
 {
-    let n = fitting(10, 0, count);
-    let fits = fitting(d.len(), at, n);
-    copy(d, at, &words, 0, fits);
-    more(at, n)
+    put_stretch(d, at, &words, 0, count)
 }
 
 // The place in a window of findings, whose first is 2^62.
@@ -97,14 +95,13 @@ pub fn in_window(at: usize) -> usize
     at.saturating_sub(4611686018427387904)
 }
 
-// The first `count` numbers of a finding, at most ten: those that lie in the window.
+// The first `count` numbers of a finding, at most ten: those that lie in the window. One function with `put_words`, over the base, would be no
+// plainer: at base 0 nothing lies before the window, and what is left is the one call there.
 pub fn note_words(d: &mut [u64], at: usize, words: [u64; 10], count: usize) -> usize
     ensures { Noted d.old at (take count words) result d.new }
 {
     let all = fitting(10, 0, count);
     let before = fitting(4611686018427387904, at, all);
-    let start = in_window(at);
-    let fits = fitting(d.len(), start, all - before);
-    copy(d, start, &words, before, fits);
+    put_stretch(d, in_window(at), &words, before, count - before);
     more(at, all)
 }

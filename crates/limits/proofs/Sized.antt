@@ -24,16 +24,6 @@ later true d ts h = refl
 later false true ts h = refl
 later false false ts h = h
 
-pub over_first : (a d : Bool) → a ≡ true → pick a true d ≡ true
-over_first a d h = rw h
-
-pub over_second : (a d : Bool) → d ≡ true → pick a true d ≡ true
-over_second true d h = refl
-over_second false d h = h
-
-pub over_none : (a d : Bool) → a ≡ false → d ≡ false → pick a true d ≡ false
-over_none a d h i = rw (h, i)
-
 -- what it told
 pub told_over : (t : Bool) (r : Option ℕ) (n : ℕ) → r ≡ pick t None (Some n) → r ≡ None → t ≡ true
 told_over true r n h i = refl

@@ -59,7 +59,7 @@ fn control_over(s: Section, at: usize) -> bool
     let x = large_at(s, at);
     let y = large_at(s, closer);
     let z = large_at(s, count);
-    codec::either(x, codec::either(y, z))
+    x | y | z
 }
 
 fn opt_control_over(s: Section, at: usize) -> bool
@@ -68,6 +68,7 @@ fn opt_control_over(s: Section, at: usize) -> bool
     says::lists::opt_at::<Control, _>(s, at, |p| control_over(s, p))
 }
 
+// The fields one after the other, written out: each test keeps other places, so that a walk with a hook for each field would be no plainer.
 fn loop_over(s: Section, at: usize) -> Option<usize>
     ensures { Clears loop_c s.entry.bytes.now s.entry.end at over_loop result }
 {
@@ -164,6 +165,7 @@ fn opt_step_over(s: Section, at: usize) -> bool
     says::lists::opt_at::<Repeat, _>(s, at, |p| step_over(s, p))
 }
 
+// Written out as `loop_over`.
 fn table_over(s: Section, at: usize) -> Option<usize>
     ensures { Clears table_c s.entry.bytes.now s.entry.end at over_table result }
 {
@@ -284,6 +286,7 @@ fn layout_over(s: Section, at: usize) -> bool
 
 // ---- data
 
+// Written out as `loop_over`.
 fn table_data_over(s: Section, at: usize) -> Option<usize>
     ensures { Clears table_data_c s.entry.bytes.now s.entry.end at over_table_data result }
 {
@@ -320,9 +323,7 @@ fn table_datas_over(s: Section, at: usize) -> bool
 fn data_over(s: Section, at: usize) -> bool
     ensures { Says (list_c table_data_c) s.entry.bytes.now s.entry.end at over_data result }
 {
-    let x = 16 < s.count_at(at);
-    let y = table_datas_over(s, at);
-    codec::either(x, y)
+    (16 < s.count_at(at)) | table_datas_over(s, at)
 }
 
 // ---- the whole

@@ -2,12 +2,12 @@
 use Prim.Native.Nat.{ℕ, ◌+◌}
 use mathlib.Core.Path.{◌≡◌, refl}
 use mathlib.Core.List.{List, [], ◌∷◌}
-use mathlib.Core.Bool.{Bool, true, false}
+use mathlib.Core.Bool.{Bool}
 use Rattle.codec.specs.Codec.{list_c}
 use Rattle.codec.specs.Forms.{num_c}
 use Rattle.codec.specs.Limits.{any_of}
 use Rattle.format.specs.Fields.{loop_children, is_loop}
-use Rattle.format.specs.Spec.{Loop, loop_c}
+use Rattle.format.specs.Spec.{loop_c}
 use Rattle.format.specs.Words.{any_from}
 use Rattle.says.specs.Says.{Says}
 use Rattle.says.proofs.Walk.{says_at}

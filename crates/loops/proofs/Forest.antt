@@ -14,7 +14,7 @@ use Rattle.codec.specs.Limits.{any, any_of, none_of}
 use Rattle.format.specs.Words.{any_from, member_of, present, repeats, times_in, none_from}
 use Rattle.format.specs.Spec.{Loop, loop_c, no_loop, Spec, spec_c}
 use Rattle.format.specs.Layout.{Item, item_c, Layout, layout_c}
-use Rattle.format.specs.Fields.{spec_roots, spec_tables, is_spec, is_layout}
+use Rattle.format.specs.Fields.{spec_roots, is_spec, is_layout}
 use Rattle.format.specs.Refusal.{outside, disagrees, ringed, misrooted, misordered, outside_loop, outside_table, outside_order, tangled_loops, tangled}
 use Rattle.format.specs.Job.{Job}
 use Rattle.format.specs.Decoding.{ReadAs, is_read}
@@ -102,12 +102,9 @@ roots_tangle s x r h i q t = sym (third_true _ _ _ (roots_twice s.roots s.loops 
 pub order_says : (b : List ℕ) (at e at' e' : ℕ) (f : List (List Item) → Bool) (r : Bool) (v : Layout) → Says (list_c (list_c item_c)) b e at f r → at ≡ at' → e ≡ e' → layout_c.read b at' e' ≡ got v e' → r ≡ f v.order
 order_says b at e at' e' f r v s i j h = s v.order (rw (i, j) (is_layout b e' at' v (is_read layout_c b at' e' v h)).order)
 
--- where roots and tables stand in the section that ends at e
+-- where the roots stand in the section that ends at e
 pub roots_for : (b : List ℕ) (e e' r : ℕ) → e ≡ e' → r ≡ spec_roots b e' 0 → r ≡ spec_roots b e 0
 roots_for b e e' r h i = i ∙ rw h
-
-pub tables_for : (b : List ℕ) (e e' t : ℕ) → e ≡ e' → t ≡ spec_tables b e' 0 → t ≡ spec_tables b e 0
-tables_for b e e' t h i = i ∙ rw h
 
 -- the loops stand first in theirs, and the roots behind them
 pub spec_roots_lem : (b : List ℕ) (e e' : ℕ) (v : Spec) (p : ℕ) (r : Bool) → Says (list_c num_c) b e p repeats r → p ≡ skip (list_c loop_c) b 0 e → e ≡ e' → spec_c.read b 0 e' ≡ got v e' → r ≡ repeats v.roots

@@ -21,7 +21,7 @@ use Rattle.format.specs.Fields.{is_loop}
 use Rattle.format.specs.Refusal.{loop_at, not_parent, not_child, up, ringed, misrooted}
 use Rattle.says.specs.Says.{Says, Rest}
 use Rattle.tree.specs.Parts.{held}
-use Rattle.loops.specs.Parts.{hit}
+use mir.Val.{bool_byte}
 use Rattle.says.proofs.Walk.{number_is, rest_start, rest_again, rest_done, present_says}
 
 -- ---- one loop's parent and children
@@ -109,18 +109,22 @@ module _ (b : List ℕ) (e at i : ℕ) where
 abbrev pub Counting : List ℕ → ℕ → ℕ → ℕ → ℕ → ℕ → ℕ → Type 0
 Counting b e at x t n p = (vs : List ℕ) → Is (list_c num_c) b e at vs → Rest num_c b e (λ us. times_in x vs ≡ t + times_in x us) n p
 
+pub counted_again : (t i : ℕ) (r : Bool) → t ≤ i → t + bool_byte r ≤ i + 1
+counted_again t i true h = omega (arith, h)
+counted_again t i false h = omega (arith, h)
+
 module _ (b : List ℕ) (e at x : ℕ) where
   pub times_start : (n p : ℕ) → n ≡ count_at b at e → p ≡ skip (le_c 4) b at e → Counting b e at x 0 n p
   times_start n p h i vs j = rest_start num_c b e (λ us. times_in x vs ≡ 0 + times_in x us) at n p vs h i j (omega arith)
 
-  pub times_again : (t n p q m : ℕ) → Counting b e at x t n p → 0 < n → q ≡ skip num_c b p e → Says num_c b e p (hit x) m → Counting b e at x (t + m) (n - 1) q
+  pub times_again : (t n p q : ℕ) (r : Bool) → Counting b e at x t n p → 0 < n → q ≡ skip num_c b p e → Says num_c b e p (eqb x) r → Counting b e at x (t + bool_byte r) (n - 1) q
   unfolding times_in
-  times_again t n p q m d h i s vs j = rest_again num_c b e (λ us. times_in x vs ≡ t + times_in x us) (λ us. times_in x vs ≡ t + m + times_in x us) n p q (d vs j) h i
-      (λ y ys l w. go y ys (eqb x y) (s y l) w)
+  times_again t n p q r d h i s vs j = rest_again num_c b e (λ us. times_in x vs ≡ t + times_in x us) (λ us. times_in x vs ≡ t + bool_byte r + times_in x us) n p q (d vs j) h i
+      (λ y ys l w. rw (s y l) (go y ys (eqb x y) w))
     where
-      go : (y : ℕ) (ys : List ℕ) (u : Bool) → m ≡ pick u 1 0 → times_in x vs ≡ t + pick u (times_in x ys + 1) (times_in x ys) → times_in x vs ≡ t + m + times_in x ys
-      go y ys true k w = omega (arith, k, w)
-      go y ys false k w = omega (arith, k, w)
+      go : (y : ℕ) (ys : List ℕ) (u : Bool) → times_in x vs ≡ t + pick u (times_in x ys + 1) (times_in x ys) → times_in x vs ≡ t + bool_byte u + times_in x ys
+      go y ys true w = omega (arith, w)
+      go y ys false w = omega (arith, w)
 
   pub times_done : (t n p : ℕ) → Counting b e at x t n p → n ≤ 0 → Says (list_c num_c) b e at (times_in x) t
   unfolding times_in
@@ -138,9 +142,3 @@ module _ (b : List ℕ) (e at roots i t m : ℕ) (h : t ≡ tag_at b at e) (s : 
   root_roots k rs q v j =
       let z : present v.parent ≡ false = sym (present_says num_c b e at t h v.parent (is_loop b e at v j).parent) ∙ ne_eqb t 1 k in
       rw (z, s rs q)
-
-pub hit_yes : (b : List ℕ) (e at x : ℕ) (r : Bool) → Says num_c b e at (eqb x) r → r ≡ true → Says num_c b e at (hit x) 1
-hit_yes b e at x r s h v i = rw (← s v i, h)
-
-pub hit_no : (b : List ℕ) (e at x : ℕ) (r : Bool) → Says num_c b e at (eqb x) r → r ≡ false → Says num_c b e at (hit x) 0
-hit_no b e at x r s h v i = rw (← s v i, h)

@@ -1,16 +1,11 @@
 -- Parts of document 01's row 4: children and orders that repeat, and a spec whose loops are no forest.
-use Rattle.std.specs.Prelude.{ℕ, List, [], ◌∷◌, Bool, eqb}
-use Rattle.codec.specs.Codec.{pick}
+use Rattle.std.specs.Prelude.{ℕ, List, [], ◌∷◌, Bool}
 use Rattle.codec.specs.Limits.{any, any_of}
 use Rattle.format.specs.Layout.{Item}
 use Rattle.format.specs.Words.{any_from, member_of, repeats}
 use Rattle.format.specs.Refusal.{loops_in, not_child, disagrees, ringed, misrooted}
 use Rattle.format.specs.Spec.{Loop, Spec}
 use Rattle.tree.specs.Parts.{on_loop}
-
--- 1 where y is x
-abbrev pub hit : ℕ → ℕ → ℕ
-hit x y = pick (eqb x y) 1 0
 
 -- of the loops that an order names
 abbrev pub member_in : ℕ → List Item → Bool

@@ -14,7 +14,7 @@ ghost use Rattle.format.specs.Refusal.{disagrees, loops_in, misordered, misroote
 ghost use Rattle.format.specs.Sections.{broken, job_of, plan_start, spoilt};
 ghost use Rattle.says.specs.Says.{Says, SaysBefore};
 ghost use Rattle.tree.specs.Parts.{on_loop, Placed, Noted};
-ghost use Rattle.loops.specs.Parts.{hit, repeats_in, again_in, misplaced, misplaced_in, repeats_below, tangled_spec};
+ghost use Rattle.loops.specs.Parts.{repeats_in, again_in, misplaced, misplaced_in, repeats_below, tangled_spec};
 
 use codec::forms::{Items, Le};
 use codec::{Form, Section};
@@ -65,9 +65,7 @@ fn disagrees_at(loops: Loops, at: usize, children: usize, i: usize) -> bool
     if tree::repeats_at(loops.section, children) {
         return true;
     }
-    let x = strangers_at(loops, children, i);
-    let y = opt_unlisted_at(loops, at, i);
-    codec::either(x, y)
+    strangers_at(loops, children, i) | opt_unlisted_at(loops, at, i)
 }
 
 fn disagreements(loops: Loops) -> bool
@@ -98,16 +96,7 @@ fn rings(loops: Loops) -> bool
     loops.some(|k, _p, _children| ringed_at(loops, k))
 }
 
-fn hit_at(s: Section, at: usize, x: usize) -> usize
-    ensures { Says num_c s.entry.bytes.now s.entry.end at (hit x) result × (result < 2) }
-{
-    if tree::same_at(s, at, x) {
-        return 1;
-    }
-    0
-}
-
-// How often x is in a list of numbers.
+// How often x is in a list of numbers. The one count over a list of a job: a walk for it in `says::lists` would be this loop over a closure.
 fn times_at(s: Section, at: usize, x: usize) -> usize
     ensures { Says (list_c num_c) s.entry.bytes.now s.entry.end at (times_in x) result }
 {
@@ -115,7 +104,7 @@ fn times_at(s: Section, at: usize, x: usize) -> usize
     let mut p = s.le_at(4, at);
     let mut t: usize = 0;
     for _i in 0..n {
-        t = t + hit_at(s, p, x);
+        t = t + tree::same_at(s, p, x) as usize;
         p = s.le_at(4, p);
     }
     t
@@ -150,11 +139,7 @@ fn misplaced_at(s: Section, at: usize, loops: Loops, k: usize) -> bool
 fn item_misplaced(s: Section, at: usize, loops: Loops, k: usize) -> bool
     ensures { (ls : List Loop) → Is (list_c loop_c) loops.entry.section.bytes.now loops.entry.section.end loops.entry.at ls → Says item_c s.entry.bytes.now s.entry.end at (misplaced ls k) result }
 {
-    if s.case(at) == Some(1) {
-        let p = s.le_at(1, at);
-        return misplaced_at(s, p, loops, k);
-    }
-    false
+    tree::named_at(s, at, |p| misplaced_at(s, p, loops, k))
 }
 
 fn items_misplaced(s: Section, at: usize, loops: Loops, k: usize) -> bool
@@ -166,11 +151,7 @@ fn items_misplaced(s: Section, at: usize, loops: Loops, k: usize) -> bool
 fn item_same_at(s: Section, at: usize, x: usize) -> bool
     ensures { Says item_c s.entry.bytes.now s.entry.end at (on_loop (eqb x)) result }
 {
-    if s.case(at) == Some(1) {
-        let p = s.le_at(1, at);
-        return tree::same_at(s, p, x);
-    }
-    false
+    tree::named_at(s, at, |p| tree::same_at(s, p, x))
 }
 
 // Whether the item at a place names a loop that one of the rest behind it, from next on, names too.
@@ -222,7 +203,8 @@ fn note_names(s: Section, at: usize, names: &mut [usize]) -> usize
     k
 }
 
-// The same from the first 33 loops that it names, as `tree::repeats_at`.
+// The same from the first 33 loops that it names, as `tree::repeats_at`. One function for both is no plainer: a closure would tell what an item
+// names, an Option, and be handed on to the note and, within two closures more, to the search.
 fn order_repeats(s: Section, at: usize) -> bool
     ensures { Says (list_c item_c) s.entry.bytes.now s.entry.end at repeats_in result }
 {
@@ -231,7 +213,7 @@ fn order_repeats(s: Section, at: usize) -> bool
     }
     let mut names = [0usize; 33];
     let named = note_names(s, at, &mut names);
-    if tree::names_repeat(&names, named) {
+    if tree::names_repeat(&names[..named]) {
         return true;
     }
     if named < 33 {
@@ -264,10 +246,7 @@ fn spec_tangled(loops: Loops, roots: usize) -> bool
     if loops_repeat(loops) {
         return true;
     }
-    let x = disagreements(loops);
-    let y = rings(loops);
-    let z = misroots(loops, roots);
-    codec::either(x, codec::either(y, z))
+    disagreements(loops) | rings(loops) | misroots(loops, roots)
 }
 
 // 4: the loops are no forest that roots, tables and orders fit. Where roots and tables stand is known.
@@ -297,7 +276,7 @@ pub fn tangled_at(b: &[u8], roots: usize, tables: usize) -> bool
     if tree::repeats_at(spec, roots) {
         return true;
     }
-    let mut places = [0usize; 64];
+    let mut places = [(0usize, 0usize); 32];
     tree::fill_places(spec, 0, &mut places);
     let loops = Loops {
         section: spec,

@@ -9,7 +9,7 @@ use native.Mathlib.Decide.{dec_lt}
 use Rattle.std.specs.Prelude.{Option, None, Some}
 use lib.ListN.{length, get_or, get_or-eq_default}
 use lib.Dec.{eqb, ltb}
-use borrow.Author.Tests.{eqb-true, eqb-false, eq-eqb, ne_eqb, lt-ltb, le-ltb, leb-false}
+use borrow.Author.Tests.{eqb-true, lt-ltb, le-ltb, leb-false}
 use Rattle.codec.specs.Codec.{pick}
 use Rattle.codec.specs.Limits.{any_of, none_of, none_in}
 use Rattle.format.specs.Words.{any_from, if_some, present, times_in, member_of, repeats, none_from}
@@ -25,24 +25,18 @@ use Rattle.nest.specs.Lists.{once, times, is, on}
 use Rattle.nest.specs.Outline as O
 use Rattle.nest.specs.Outline.{Outline, item_loops}
 use Rattle.nest.specs.OfJob.{outline_of, item_in}
+use Rattle.nest.proofs.NestLaws.{turn}
 use Rattle.nest.proofs.Bridge.{parent_is, children_is, order_is, loops_is, loop_count_is}
 use Rattle.walk.specs.Complete.{Tree, climbs, is_root}
 use Rattle.walk.proofs.Paths.{is_some, in_range}
-use Rattle.lossless.proofs.Words.{not_false}
+use Rattle.std.proofs.lemmas.Bool.{not-false}
 
 -- ---- how often a number stands in a list
-
-same_test : (a b : ℕ) → eqb a b ≡ eqb b a
-same_test a b = go (eqb a b) refl
-  where
-    go : (t : Bool) → eqb a b ≡ t → eqb a b ≡ eqb b a
-    go true e = e ∙ sym (eq-eqb b a (sym (eqb-true a b e)))
-    go false e = e ∙ sym (ne_eqb b a (λ q. eqb-false a b e (sym q)))
 
 times_in_lem : (k : ℕ) (xs : List ℕ) → times k xs ≡ times_in k xs
 unfolding times_in
 times_in_lem k [] = refl
-times_in_lem k (x ∷ xs) = rw (same_test x k) (go (eqb k x) (times_in_lem k xs))
+times_in_lem k (x ∷ xs) = rw (turn x k) (go (eqb k x) (times_in_lem k xs))
   where
     go : (b : Bool) → times k xs ≡ times_in k xs → once b + times k xs ≡ pick b (times_in k xs + 1) (times_in k xs)
     go true ih = omega (arith, ih)
@@ -51,7 +45,7 @@ times_in_lem k (x ∷ xs) = rw (same_test x k) (go (eqb k x) (times_in_lem k xs)
 times_out : (k : ℕ) (xs : List ℕ) → member_of k xs ≡ false → times k xs ≡ 0
 unfolding member_of
 times_out k [] h = refl
-times_out k (x ∷ xs) h = rw (same_test x k) (go (eqb k x) h (times_out k xs))
+times_out k (x ∷ xs) h = rw (turn x k) (go (eqb k x) h (times_out k xs))
   where
     go : (b : Bool) → pick b true (member_of k xs) ≡ false → (member_of k xs ≡ false → times k xs ≡ 0) → once b + times k xs ≡ 0
     go true h ih = absurd (false≢true (sym h))
@@ -60,7 +54,7 @@ times_out k (x ∷ xs) h = rw (same_test x k) (go (eqb k x) h (times_out k xs))
 times_member : (k : ℕ) (xs : List ℕ) → member_of k xs ≡ true → 0 < times k xs
 unfolding member_of
 times_member k [] h = absurd (false≢true h)
-times_member k (x ∷ xs) h = rw (same_test x k) (go (eqb k x) h (times_member k xs))
+times_member k (x ∷ xs) h = rw (turn x k) (go (eqb k x) h (times_member k xs))
   where
     go : (b : Bool) → pick b true (member_of k xs) ≡ true → (member_of k xs ≡ true → 0 < times k xs) → 0 < once b + times k xs
     go true h ih = omega arith
@@ -77,7 +71,7 @@ member_of_lem k xs h = go (member_of k xs) refl
 times_once : (k : ℕ) (xs : List ℕ) → repeats xs ≡ false → times k xs ≡ once (member_of k xs)
 unfolding repeats member_of
 times_once k [] h = refl
-times_once k (x ∷ xs) h = rw (same_test x k) (split (member_of x xs) refl h (times_once k xs))
+times_once k (x ∷ xs) h = rw (turn x k) (split (member_of x xs) refl h (times_once k xs))
   where
     here : (b : Bool) → eqb k x ≡ b → member_of x xs ≡ false → times k xs ≡ once (member_of k xs) → once b + times k xs ≡ once (pick b true (member_of k xs))
     here true e m ih = let z : k ≡ x = eqb-true k x e in omega (arith, times_out k xs (ap (λ n. member_of n xs) z ∙ m))
@@ -172,13 +166,13 @@ module _ (j : Job) (pass : tangled j ≡ false) where
   -- a child's parent, and a parent's child
   kid_parent : (l k : ℕ) → l < n → member_of k (kids l) ≡ true → is (O.parent_of o k) l ≡ true
   unfolding not_parent
-  kid_parent l k h m = ap (λ p. is p l) (parent_at k) ∙ if_some_true l (loop_at ls k).parent (not_false _ (none_member (not_parent ls l) k (kids l) (agrees l h).0 m))
+  kid_parent l k h m = ap (λ p. is p l) (parent_at k) ∙ if_some_true l (loop_at ls k).parent (not-false _ (none_member (not_parent ls l) k (kids l) (agrees l h).0 m))
 
   parent_kid : (l k : ℕ) → k < n → is (O.parent_of o k) l ≡ true → member_of k (kids l) ≡ true
   unfolding not_child kids
   parent_kid l k h e =
       let p : (loop_at ls k).parent ≡ Some l = is_some _ l (ap (λ p. is p l) (sym (parent_at k)) ∙ e) in
-      not_false _ (if_some_false (not_child ls k) (loop_at ls k).parent l (agrees k h).1 p)
+      not-false _ (if_some_false (not_child ls k) (loop_at ls k).parent l (agrees k h).1 p)
 
   agree : (l k : ℕ) → l < n → (b c : Bool) → is (O.parent_of o k) l ≡ b → member_of k (kids l) ≡ c → c ≡ b
   agree l k h b true q m = sym (kid_parent l k h m) ∙ q
@@ -219,7 +213,7 @@ module _ (j : Job) (pass : tangled j ≡ false) where
   unfolding misrooted present
   rooted l h =
       times_in_lem l j.spec.roots
-      ∙ eqb-true _ _ (not_false _ (rw zero-add at (none_from (misrooted j.spec.roots) 0 ls loops.4 l no_loop h)))
+      ∙ eqb-true _ _ (not-false _ (rw zero-add at (none_from (misrooted j.spec.roots) 0 ls loops.4 l no_loop h)))
       ∙ go (loop_at ls l).parent
     where
       go : (x : Option ℕ) → pick (present x) 0 1 ≡ once (on x (λ p. false) true)
@@ -257,7 +251,7 @@ module _ (j : Job) (pass : tangled j ≡ false) where
     where
       go : (b : Bool) → member_of k (loops_in (get_or j.layout.order l [])) ≡ b → times k (loops_in (get_or j.layout.order l [])) ≡ once (member_of k (loops_in (get_or j.layout.order l [])))
           → any_of (λ i. not_child ls i l) (loops_in (get_or j.layout.order l [])) ≡ false → times k (loops_in (get_or j.layout.order l [])) ≤ times k (kids l)
-      go true m e f = omega (arith, e, ap once m, times_member k (kids l) (not_false _ (none_member (λ i. not_child ls i l) k (loops_in (get_or j.layout.order l [])) f m)))
+      go true m e f = omega (arith, e, ap once m, times_member k (kids l) (not-false _ (none_member (λ i. not_child ls i l) k (loops_in (get_or j.layout.order l [])) f m)))
       go false m e f = omega (arith, e, ap once m)
 
   none_there : (l k : ℕ) → length j.layout.order ≤ l → times k (loops_in (get_or j.layout.order l [])) ≤ times k (kids l)

@@ -30,6 +30,7 @@ use Rattle.emit.proofs.JoinLaws.{closer_quiet}
 use Rattle.lossless.specs.Due.{DueSegment, row_cell, row_cells, text_of_cell, chunk_cell, chunk_row, chunk_cells, sourced_text, opener_due, row_due, chunk_due, closer_due, step_due, step_counters, steps_due, due_segments}
 use Rattle.lossless.specs.Separators.{holds_separator, segment_holds, separator_held, is_delimiter, delimiter_found}
 use Rattle.lossless.specs.NothingLost.{walked_out}
+use Rattle.std.proofs.Math.Bool.{or-false}
 use Rattle.lossless.proofs.Words.{some_append, none_each}
 use Rattle.lossless.proofs.Bytes.{step_counters_lem}
 use Rattle.lossless.proofs.Tours.{Closed, tour_so}
@@ -54,10 +55,6 @@ unfolding unwritten
 unwritten_found o p zero = refl
 unwritten_found o p (suc n) = refl
 
-or_false : (b : Bool) → b ≡ b || false
-or_false true = refl
-or_false false = refl
-
 module _ (j : Job) where
   abbrev holds : List (List ℕ) → Bool
   holds = some_of (holds_separator j)
@@ -67,7 +64,7 @@ module _ (j : Job) where
   unfolding delimited
   text_found o p n text =
       let tried = held_in o p text 0 (separators j.envelope) in
-      some_append is_delimiter (unwritten o p n) tried ∙ ap (λ b. b || found tried) (unwritten_found o p n) ∙ held_found o p text 0 (separators j.envelope) ∙ or_false (holds_separator j text)
+      some_append is_delimiter (unwritten o p n) tried ∙ ap (λ b. b || found tried) (unwritten_found o p n) ∙ held_found o p text 0 (separators j.envelope) ∙ sym (or-false (holds_separator j text))
 
   field_found : (o : Origin) (p : Place) (n : ℕ) (text : List ℕ) → found (delimited j o p text ++ unwritten o p n) ≡ holds (text ∷ [])
   unfolding delimited
@@ -142,7 +139,7 @@ module _ (j : Job) where
     where
       go : (o : Option Control) → (loop_of j l).control ≡ o → found (opener_out j l s).findings ≡ some_of (segment_holds j) (opener_due j l s.counter)
       go None e = rw e refl
-      go (Some c) e = rw e (put_found _ _ (element_found (loop_of j l).trigger (depth_of j l) c.opener (control_in j l c (get_or s.counter l 0))) (on (segment_def j (loop_of j l).trigger) (λ d. d) []) ∙ or_false _)
+      go (Some c) e = rw e (put_found _ _ (element_found (loop_of j l).trigger (depth_of j l) c.opener (control_in j l c (get_or s.counter l 0))) (on (segment_def j (loop_of j l).trigger) (λ d. d) []) ∙ sym (or-false _))
 
   closer_found : (l : ℕ) (b : Bool) (n m : ℕ) (s : State) → found (closer_out j l b n m s).findings ≡ some_of (segment_holds j) (closer_due j l b n m s.counter)
   unfolding closer_out closer_due
@@ -238,7 +235,7 @@ module _ (j : Job) where
       let u = (steps_out j rows s).state in
       ap (λ (o : Out). found o.findings) (steps_append j rows (chunk l i t rs ∷ []) s ∙ ap (λ (o : Out). and_then (steps_out j rows s) (λ (z : State). o)) (steps_one j (chunk l i t rs) u))
       ∙ ap found (append-nil (steps_out j rows s).findings)
-      ∙ rows_right l i t 0 rs s ∙ or_false _
+      ∙ rows_right l i t 0 rs s ∙ sym (or-false _)
       ∙ sym (ap (some_of (segment_holds j)) (chunk_steps_lem l i t rs s))
 
   closed : Closed (outline_of j) Right
@@ -249,7 +246,7 @@ module _ (j : Job) where
     enter = λ l. one_right (enters l) (λ s. refl);
     stopped = λ l t r. one_right (stop l t r) (stop_found l t r);
     opens = λ l. one_right (opener l) (opener_found l);
-    row = λ l i t r h e q. one_right (row_segment l i t r) (λ s. row_found (identifier_of j l i) t r (planned_of j l i).elements ∙ or_false _);
+    row = λ l i t r h e q. one_right (row_segment l i t r) (λ s. row_found (identifier_of j l i) t r (planned_of j l i).elements ∙ sym (or-false _));
     filled = λ l i t rs h e q k. chunk_right l i t rs;
     closes = λ l b n m. one_right (closer l b n m) (closer_found l b n m);
   }

@@ -1,5 +1,5 @@
 -- What refusal 5 leaves: the separators differ and are no letters, digits, spaces, minus signs or points; identifiers are not empty and hold none of them.
-use Prim.Native.Nat.{ℕ, zero, suc, ◌+◌, ◌≤◌, ◌<◌}
+use Prim.Native.Nat.{ℕ, ◌≤◌, ◌<◌}
 use mathlib.Core.Path.{◌≡◌, refl, sym, ap, ◌∙◌, subst}
 use mathlib.Core.Logic.{◌≢◌}
 use mathlib.Core.Bool.{Bool, true, false, false≢true}
@@ -9,16 +9,16 @@ use native.Mathlib.Nat.{not-suc-le-zero}
 use native.Mathlib.Decide.{dec_lt}
 use Rattle.std.specs.Prelude.{Some}
 use Rattle.std.proofs.lemmas.Option.{none-some}
-use lib.ListN.{length, get_or, replicate, get_or-eq_default}
+use lib.ListN.{length, get_or, get_or-eq_default}
 use lib.Dec.{eqb}
-use borrow.Author.Tests.{eq-eqb, le-leb}
+use borrow.Author.Tests.{eq-eqb}
 use Rattle.codec.specs.Codec.{pick}
-use Rattle.codec.specs.Limits.{any, any_of, none_of, none_in}
+use Rattle.codec.specs.Limits.{any, none_of, none_in}
 use Rattle.format.specs.Words.{all_of, member_of, repeats, between, none_some}
 use Rattle.format.specs.Spec.{Control, Loop, no_loop}
 use Rattle.format.specs.Job.{Job}
 use Rattle.format.specs.Ask.{loop_of}
-use Rattle.format.specs.Refusal.{upper, digit, textual, separators, identifier, unnamed, unfit_loop, unfit_spec, unfit_envelope, unfit}
+use Rattle.format.specs.Refusal.{upper, digit, textual, separators, identifier, unnamed, unfit_loop, unfit_spec, unfit}
 use Rattle.segment.specs.Grammar.{Without, Plain, Apart}
 use Rattle.nest.specs.Lists.{All}
 use Rattle.nest.proofs.Alls.{all_append, all_weaker}
@@ -26,7 +26,8 @@ use Rattle.emit.specs.Fold.{separators_of}
 use Rattle.emit.proofs.Plain.{Textual, upper_textual, digit_textual, no_repeats, not_textual}
 use Rattle.complete.specs.Complete.{Clear, Pairs}
 use Rattle.lossless.specs.Separators.{holds_separator}
-use Rattle.lossless.proofs.Words.{not_false, none_all}
+use Rattle.std.proofs.lemmas.Bool.{not-false}
+use Rattle.lossless.proofs.Words.{none_all}
 
 -- ---- texts that hold none
 
@@ -114,7 +115,7 @@ module _ (j : Job) (fit : unfit j ≡ false) where
 
   pub named_clear : (s : List ℕ) → unnamed s ≡ false → (s ≢ []) × Clear j s
   unfolding unnamed identifier
-  named_clear s h = go (between 2 3 (length s)) refl (not_false _ h)
+  named_clear s h = go (between 2 3 (length s)) refl (not-false _ h)
     where
       go : (b : Bool) → between 2 3 (length s) ≡ b → pick b (all_of (λ c. any (upper c ∷ digit c ∷ [])) s) false ≡ true → (s ≢ []) × Clear j s
       go true e k = (λ z. false≢true (ap (λ (l : List ℕ). between 2 3 (length l)) (sym z) ∙ e), textual_clear s (letters_textual s k))

@@ -1,5 +1,5 @@
 -- A due trigger of a complete plan is read in full, and so is a closer.
-use Prim.Native.Nat.{ℕ, zero, suc, ◌+◌, ◌-◌, ◌/◌, ◌%◌, ◌^◌, ◌≤◌, ◌<◌}
+use Prim.Native.Nat.{ℕ, zero, suc, ◌+◌, ◌-◌, ◌≤◌, ◌<◌}
 use mathlib.Core.Path.{◌≡◌, refl, sym}
 use mathlib.Core.Logic.{◌≢◌, ◌⊎◌, inl, inr}
 use mathlib.Core.Bool.{Bool, true, false, cond, false≢true}
@@ -10,6 +10,7 @@ use lib.Dec.{eqb, ltb, leb}
 use borrow.Author.Tests.{le-ltb, ltb-false, leb-true, leb-false}
 use Rattle.codec.specs.Codec.{pick as choose}
 use Rattle.codec.specs.Maps.{rises_from}
+use Rattle.format.specs.Envelope.{Envelope}
 use Rattle.format.specs.Spec.{Control, ElementDef}
 use Rattle.format.specs.Job.{Job}
 use Rattle.format.specs.Ask.{loop_of, depth_of}
@@ -23,14 +24,15 @@ use Rattle.texts.specs.Clock.{envelope_time}
 use Rattle.texts.specs.Pad.{is_at, zero_padded, space_padded, padded, control_text}
 use Rattle.segment.specs.Grammar.{Plain}
 use Rattle.segment.specs.Parts.{Part, pick}
-use Rattle.segment.specs.ReadParts.{RisesFrom, Free}
+use Rattle.segment.specs.ReadParts.{RisesFrom}
 use Rattle.nest.specs.Lists.{All, some_of, on, first}
 use Rattle.nest.proofs.Alls.{all_append, all_weaker}
 use Rattle.emit.specs.Puts.{nothing, part_at, put_all}
 use Rattle.emit.specs.Envelope.{version, trim_end, outcome, Given, plainly, separator, repetition_given, field_given, field_at, Sourced, version_at, versioned, unsourced, fielded, source_at, padded_to, put_sourced, put_element, control_in, closer_put, control_number}
 use Rattle.emit.specs.Fold.{separators_of}
 use Rattle.emit.proofs.Plain.{Textual, zeros_textual, spaces_textual, count_textual}
-use Rattle.emit.proofs.JoinLaws.{count_first, control_first, apart as less}
+use Rattle.std.proofs.Math.Arith.{lt_of_le-ne}
+use Rattle.emit.proofs.JoinLaws.{count_first, control_first}
 use Rattle.complete.specs.Complete.{IfThere, Pairs, Clear, MapStarts, RuleFits}
 use Rattle.lossless.specs.Due.{sourced_text, field_texts}
 use Rattle.lossless.specs.Separators.{holds_separator}
@@ -48,6 +50,39 @@ zero_padded_lem (Some least) text h = all_append _ (replicate (least - length te
 pub control_textual : (j : Job) (l : ℕ) (c : Control) (number : ℕ) → Textual (control_in j l c number)
 unfolding control_in control_text
 control_textual j l c number = zero_padded_lem _ (count_text number) (count_textual number)
+
+abbrev givens : Envelope → ElementDef → List (Option Given)
+givens e d =
+    Some (plainly e.sender_qualifier)
+    ∷ Some (plainly e.sender_id)
+    ∷ Some (plainly e.receiver_qualifier)
+    ∷ Some (plainly e.receiver_id)
+    ∷ Some (plainly (on e.application_sender (λ x. x) (trim_end e.sender_id)))
+    ∷ Some (plainly (on e.application_receiver (λ x. x) (trim_end e.receiver_id)))
+    ∷ Some (outcome (envelope_date (signed32 e.date) d.max))
+    ∷ Some (outcome (envelope_time (signed32 e.time) d.max))
+    ∷ Some (plainly e.usage_indicator)
+    ∷ None
+    ∷ repetition_given (first d.codes) e.repetition
+    ∷ Some (separator e.component)
+    ∷ []
+
+-- what is so of all that the fields give, as they are listed, and of no text is so of what one field gives
+pub given_all : (P : Option Given → Type 0) (e : Envelope) (d : ElementDef) (f : ℕ) → P None
+    → P (Some (plainly e.sender_qualifier))
+    → P (Some (plainly e.sender_id))
+    → P (Some (plainly e.receiver_qualifier))
+    → P (Some (plainly e.receiver_id))
+    → P (Some (plainly (on e.application_sender (λ x. x) (trim_end e.sender_id))))
+    → P (Some (plainly (on e.application_receiver (λ x. x) (trim_end e.receiver_id))))
+    → P (Some (outcome (envelope_date (signed32 e.date) d.max)))
+    → P (Some (outcome (envelope_time (signed32 e.time) d.max)))
+    → P (Some (plainly e.usage_indicator))
+    → P (repetition_given (first d.codes) e.repetition)
+    → P (Some (separator e.component))
+    → P (field_given e d f)
+unfolding field_given
+given_all P e d f z a b c g h i k l m n o = all_get P (givens e d) None (a, (b, (c, (g, (h, (i, (k, (l, (m, (z, (n, (o, tt)))))))))))) z f
 
 module _ (j : Job) (fit : unfit j ≡ false) where
   abbrev Plainly : List ℕ → Type 0
@@ -87,62 +122,12 @@ module _ (j : Job) (fit : unfit j ≡ false) where
   repetition_sure None None e = tt
   repetition_sure None (Some b) e = let a = repetition_apart j fit b e in inr (one_plain b a.0 a.1)
 
-  -- what the fields give, as they are listed
-  unfoldable givens : ElementDef → List (Option Given)
-  givens d =
-      let e = j.envelope in
-      Some (plainly e.sender_qualifier)
-      ∷ Some (plainly e.sender_id)
-      ∷ Some (plainly e.receiver_qualifier)
-      ∷ Some (plainly e.receiver_id)
-      ∷ Some (plainly (on e.application_sender (λ x. x) (trim_end e.sender_id)))
-      ∷ Some (plainly (on e.application_receiver (λ x. x) (trim_end e.receiver_id)))
-      ∷ Some (outcome (envelope_date (signed32 e.date) d.max))
-      ∷ Some (outcome (envelope_time (signed32 e.time) d.max))
-      ∷ Some (plainly e.usage_indicator)
-      ∷ None
-      ∷ repetition_given (first d.codes) e.repetition
-      ∷ Some (separator e.component)
-      ∷ []
-
   given_sure : (d : ElementDef) (f : ℕ) → IfThere Sure (field_given j.envelope d f)
-  unfolding field_given givens
   given_sure d f =
       let a = apart j fit in
-      all_get (IfThere Sure) (givens d) None (
-        inl refl,
-        (
-          inl refl,
-          (
-            inl refl,
-            (
-              inl refl,
-              (
-                inl refl,
-                (
-                  inl refl,
-                  (
-                    inl refl,
-                    (
-                      inl refl,
-                      (
-                        inl refl,
-                        (
-                          tt,
-                          (
-                            repetition_sure (first d.codes) j.envelope.repetition refl,
-                            (inr (one_plain j.envelope.component (λ q. a.element_component (sym q)) a.component_segment), tt),
-                          ),
-                        ),
-                      ),
-                    ),
-                  ),
-                ),
-              ),
-            ),
-          ),
-        ),
-      ) tt f
+      let r = repetition_sure (first d.codes) j.envelope.repetition refl in
+      let c = one_plain j.envelope.component (λ q. a.element_component (sym q)) a.component_segment in
+      given_all (IfThere Sure) j.envelope d f tt (inl refl) (inl refl) (inl refl) (inl refl) (inl refl) (inl refl) (inl refl) (inl refl) (inl refl) r (inr c)
 
   -- its text, padded
   abbrev Filled : ElementDef → Sourced → Type 0
@@ -270,7 +255,7 @@ module _ (j : Job) (fit : unfit j ≡ false) where
       go true e =
           let k = leb-true _ _ e in
           rw (count_first c control count k)
-          (opened_fine id _ n (two_opened c.count c.closer (count_text count) control f.count (less k (λ q. f.differ (sym q))) (count_textual count) t))
+          (opened_fine id _ n (two_opened c.count c.closer (count_text count) control f.count (lt_of_le-ne k (λ q. f.differ (sym q))) (count_textual count) t))
       go false e =
           let k = leb-false _ _ e in
           rw (control_first c control count k) (opened_fine id _ n (two_opened c.closer c.count control (count_text count) f.closer k t (count_textual count)))

@@ -1,15 +1,12 @@
 -- Bytes, identifiers, separators and scales: what their tests are proved by.
-use Prim.Native.Nat.{ℕ, zero, suc, ◌+◌, ◌≤◌, ◌<◌}
+use Prim.Native.Nat.{ℕ, ◌+◌, ◌≤◌, ◌<◌}
 use mathlib.Core.Path.{◌≡◌, refl, sym, ◌∙◌}
 use mathlib.Core.List.{List, [], ◌∷◌}
-use mathlib.Core.Bool.{Bool, true, false, not, ◌||◌}
+use mathlib.Core.Bool.{Bool, true, false, not}
 use native.Mathlib.Omega.{arith}
 use Rattle.std.specs.Prelude.{Option, None, Some}
-use Rattle.std.specs.List.{list_any}
-use lib.ListN.{length, get_or, take, drop, drop_of_length-le}
-use lib.Seq.{drop-cons}
-use lib.Dec.{ltb, leb, eqb}
-use borrow.Author.Tests.{lt-leb, le-leb, eq-eqb, ne_eqb, eqb-true, eqb-false}
+use lib.ListN.{length, get_or, drop, drop_of_length-le}
+use lib.Dec.{ltb}
 use Rattle.codec.specs.Codec.{pick, le_c, list_c}
 use Rattle.codec.specs.Forms.{opt_c, byte_c, bytes_c, long_c, wide_c}
 use Rattle.codec.specs.Skip.{skip, count_at, tag_at, Is, skip_le}
@@ -22,15 +19,9 @@ use Rattle.format.specs.Refusal.{upper, digit, textual, separators, identifier, 
 use Rattle.format.specs.Data.{Values, binary, int64, decimal, date32, time32, values_c}
 use Rattle.format.specs.Envelope.{Envelope}
 use Rattle.says.specs.Says.{Says}
-use Rattle.marks.specs.Parts.{stray, marked, high}
+use Rattle.marks.specs.Parts.{stray, marked}
 use Rattle.says.proofs.Walk.{byte_is}
-
--- ---- bytes
-pub within_low : (low high c : ℕ) → c < low → false ≡ between low high c
-within_low low high c h = sym (simp (lt-leb _ _ h))
-
-pub within_high : (low high c : ℕ) → low ≤ c → leb c high ≡ between low high c
-within_high low high c h = sym (simp (le-leb _ _ h))
+use Rattle.says.proofs.Members.{next}
 
 -- ---- identifiers
 not_all : (f : ℕ → Bool) (s : List ℕ) → any_of (λ c. not (f c)) s ≡ not (all_of f s)
@@ -58,29 +49,6 @@ module _ (b : List ℕ) (e at n : ℕ) (h : n ≡ count_at b at e) where
       rw y
 
 -- ---- separators
-swapped : (x y : ℕ) → eqb y x ≡ eqb x y
-swapped x y = go (eqb x y) refl
-  where
-    go : (t : Bool) → eqb x y ≡ t → eqb y x ≡ t
-    go true p = eq-eqb y x (sym (eqb-true x y p))
-    go false p = ne_eqb y x (λ q. eqb-false x y p (sym q))
-
--- a search through the first n
-pub contained : (x n : ℕ) (xs : List ℕ) → length xs ≤ n → list_any (λ y. eqb y x) (take n xs) ≡ member_of x xs
-unfolding member_of
-contained x zero [] h = refl
-contained x (suc n) [] h = refl
-contained x zero (y ∷ ys) h = absurd (omega arith)
-contained x (suc n) (y ∷ ys) h = rw (swapped x y, contained x n ys (omega arith)) (go (eqb x y) (member_of x ys))
-  where
-    go : (t u : Bool) → (t || u) ≡ pick t true u
-    go true u = refl
-    go false u = refl
-
-module _ (s : List ℕ) where
-  next : (i : ℕ) → i < length s → drop i s ≡ get_or s i 0 ∷ drop (i + 1) s
-  next i l = let z : i + 1 ≡ suc i = omega arith in rw z (drop-cons s i 0 l)
-
 module _ (s : List ℕ) (i : ℕ) (h : marked s ≡ marked (drop i s)) where
   pub marked_textual : i < length s → textual (get_or s i 0) ≡ true → true ≡ marked s
   unfolding marked repeats member_of any_of any

@@ -2,8 +2,8 @@
 use Rattle.std.specs.Prelude.{ℕ, List, [], ◌∷◌, Bool, not, ltb}
 use Rattle.codec.specs.Limits.{any, any_of}
 use Rattle.format.specs.Envelope.{Envelope}
-use Rattle.format.specs.Words.{if_some, repeats}
-use Rattle.format.specs.Refusal.{upper, digit, textual, separators, foreign}
+use Rattle.format.specs.Words.{repeats}
+use Rattle.format.specs.Refusal.{upper, digit, textual, separators}
 
 -- a byte that no identifier has
 abbrev pub stray : ℕ → Bool
@@ -15,17 +15,6 @@ marked s = any (repeats s ∷ any_of textual s ∷ [])
 
 abbrev pub marked_envelope : Envelope → Bool
 marked_envelope e = marked (separators e)
-
-abbrev pub foreign_envelope : Envelope → Bool
-foreign_envelope e = any
-    (foreign e.sender_qualifier
-    ∷ foreign e.sender_id
-    ∷ foreign e.receiver_qualifier
-    ∷ foreign e.receiver_id
-    ∷ if_some foreign e.application_sender
-    ∷ if_some foreign e.application_receiver
-    ∷ foreign e.usage_indicator
-    ∷ [])
 
 -- above 127
 abbrev pub high : ℕ → Bool

@@ -13,7 +13,7 @@ ghost use Rattle.format.specs.Data.{column_c, table_data_c};
 ghost use Rattle.format.specs.Envelope.{Envelope, envelope_c};
 ghost use Rattle.format.specs.Sections.{broken, job_of, spoilt};
 ghost use Rattle.says.specs.Says.{Says, Clears};
-ghost use Rattle.marks.specs.Parts.{stray, marked, marked_envelope, foreign_envelope, high};
+ghost use Rattle.marks.specs.Parts.{stray, marked, marked_envelope, high};
 
 use codec::forms::{Bytes, Items, Le, NumMap, Opt};
 use codec::{Form, Section};
@@ -25,26 +25,15 @@ use format::{Column, Component, Control, Element, Loop, Table, TableData, Versio
 fn within(low: usize, high: usize, c: usize) -> bool
     ensures { result ≡ between low high c }
 {
-    if c < low {
-        return false;
-    }
-    c <= high
+    (low..=high).contains(&c)
 }
 
 // A letter, a digit, space, minus or point.
+#[tactic(auto, unfolding(format::specs::Refusal::textual, format::specs::Refusal::upper, format::specs::Refusal::digit, codec::specs::Limits::any))]
 fn is_textual(c: usize) -> bool
     ensures { result ≡ textual c }
 {
-    let x = within(65, 90, c);
-    let y = within(97, 122, c);
-    let z = within(48, 57, c);
-    codec::either(
-        x,
-        codec::either(
-            y,
-            codec::either(z, codec::either(c == 32, codec::either(c == 45, c == 46))),
-        ),
-    )
+    matches!(c, 65..=90 | 97..=122 | 48..=57 | 32 | 45 | 46)
 }
 
 // A byte that no identifier has.
@@ -54,7 +43,7 @@ fn stray_at(s: Section, at: usize) -> bool
     let c = codec::byte_at(s.bytes, at);
     let x = within(65, 90, c);
     let y = within(48, 57, c);
-    !codec::either(x, y)
+    !(x | y)
 }
 
 fn strays_at(s: Section, at: usize) -> bool
@@ -113,6 +102,7 @@ fn codes_unfit(s: Section, at: usize) -> Option<usize>
 
 // ---- spec
 
+// The fields one after the other, written out: each test keeps other places, so that a walk with a hook for each field would be no plainer.
 fn loop_unfit(s: Section, at: usize) -> Option<usize>
     ensures { Clears loop_c s.entry.bytes.now s.entry.end at unfit_loop result }
 {
@@ -187,9 +177,7 @@ fn version_unfit(s: Section, at: usize) -> bool
 {
     let segment = s.bytes_at(at);
     let element = s.le_at(4, segment);
-    let x = unnamed_at(s, at);
-    let y = foreign_at(s, element);
-    codec::either(x, y)
+    unnamed_at(s, at) | foreign_at(s, element)
 }
 
 fn opt_version_unfit(s: Section, at: usize) -> bool
@@ -251,8 +239,9 @@ fn marks_unfit(s: Section, at: usize) -> bool
     marked(&[x, y, z])
 }
 
-fn separators_unfit(s: Section, at: usize) -> bool
-    ensures { Says envelope_c s.entry.bytes.now s.entry.end at marked_envelope result }
+// Written out as `loop_unfit`: the separators, then the strings.
+fn envelope_unfit(s: Section, at: usize) -> bool
+    ensures { Says envelope_c s.entry.bytes.now s.entry.end at unfit_envelope result }
 {
     let sender_qualifier = s.bytes_at(at);
     let sender_id = s.bytes_at(sender_qualifier);
@@ -264,21 +253,7 @@ fn separators_unfit(s: Section, at: usize) -> bool
     let time = s.le_at(4, date);
     let usage_indicator = s.bytes_at(time);
     let control_number = s.le_at(8, usage_indicator);
-    marks_unfit(s, control_number)
-}
-
-// The envelope's strings.
-fn strings_unfit(s: Section, at: usize) -> bool
-    ensures { Says envelope_c s.entry.bytes.now s.entry.end at foreign_envelope result }
-{
-    let sender_qualifier = s.bytes_at(at);
-    let sender_id = s.bytes_at(sender_qualifier);
-    let receiver_qualifier = s.bytes_at(sender_id);
-    let receiver_id = s.bytes_at(receiver_qualifier);
-    let application_sender = s.opt_bytes_at(receiver_id);
-    let application_receiver = s.opt_bytes_at(application_sender);
-    let date = s.le_at(4, application_receiver);
-    let time = s.le_at(4, date);
+    let separators = marks_unfit(s, control_number);
     let x = foreign_at(s, at);
     let y = foreign_at(s, sender_qualifier);
     let z = foreign_at(s, sender_id);
@@ -286,21 +261,7 @@ fn strings_unfit(s: Section, at: usize) -> bool
     let v = opt_foreign_at(s, receiver_id);
     let w = opt_foreign_at(s, application_sender);
     let t = foreign_at(s, time);
-    codec::either(
-        x,
-        codec::either(
-            y,
-            codec::either(z, codec::either(u, codec::either(v, codec::either(w, t)))),
-        ),
-    )
-}
-
-fn envelope_unfit(s: Section, at: usize) -> bool
-    ensures { Says envelope_c s.entry.bytes.now s.entry.end at unfit_envelope result }
-{
-    let x = separators_unfit(s, at);
-    let y = strings_unfit(s, at);
-    codec::either(x, y)
+    separators | x | y | z | u | v | w | t
 }
 
 // ---- data
@@ -342,6 +303,7 @@ fn references_unfit(s: Section, at: usize) -> Option<usize>
     says::lists::any_clear::<(Le<4>, Opt<Column>), _>(s, at, |p| reference_unfit(s, p))
 }
 
+// Written out as `loop_unfit`.
 fn table_data_unfit(s: Section, at: usize) -> Option<usize>
     ensures { Clears table_data_c s.entry.bytes.now s.entry.end at unfit_table_data result }
 {
@@ -391,5 +353,5 @@ pub fn unfit_at(b: &[u8]) -> bool
         envelope as usize,
     );
     let z = data_unfit(Section { bytes: b, end: t }, data as usize).is_none();
-    codec::either(x, codec::either(y, z))
+    x | y | z
 }

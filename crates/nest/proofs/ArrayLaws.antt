@@ -27,11 +27,7 @@ module _ (j : Outline) (t : ℕ) (there : t < length j.row_counts) where
   unfolding hooked_at held_at
   hooked_in_array r l p h f = ap₂ ◌&&◌ (ap₂ eqb (number_at r 0 h (omega arith)) (add-one p)) (ap (λ n. eqb n l) (number_at r 1 h (omega arith))) ∙ sym (takes j t r l p f)
 
-  -- what `next_held` and `next_hooked` find
-  pub next_held : (k u p : ℕ) → repeated j t ≡ false → table_parent j t ≡ Some u
-      → first (keep (held_at (nest_array j) (rows_before j t) p) (up_to k (row_count j t))) ≡ first (keep (λ r. is (referred j t r u) p) (up_to k (row_count j t)))
-  next_held k u p f q = ap first (keep_alike _ _ k (row_count j t) (λ r h. held_in_array r u p h f q))
-
+  -- what `next_hooked` finds
   pub next_hooked : (k l p : ℕ) → repeated j t ≡ true
       → first (keep (hooked_at (nest_array j) (rows_before j t) l p) (up_to k (row_count j t))) ≡ first (keep (λ r. hooked (hook j t r) l p) (up_to k (row_count j t)))
   next_hooked k l p f = ap first (keep_alike _ _ k (row_count j t) (λ r h. hooked_in_array r l p h f))

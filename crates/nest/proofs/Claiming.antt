@@ -4,11 +4,10 @@ use mathlib.Core.Path.{◌≡◌, refl, sym, ap, ◌∙◌}
 use mathlib.Core.Bool.{Bool, true, false, cond}
 use mathlib.Core.List.{List, [], ◌∷◌}
 use native.Mathlib.Omega.{arith}
-use lib.ListN.{length, get_or, set, replicate, length-set, get_or-eq_default}
-use lib.Seq.{get_or-set_same, get_or-set_other}
+use lib.ListN.{length, get_or, get_or-eq_default}
 use lib.Dec.{eqb, ltb}
 use borrow.Author.Count.{below_more}
-use borrow.Author.Tests.{eq-eqb, ne_eqb, eqb-true, eqb-false, ltb-true, ltb-false, leb-false}
+use borrow.Author.Tests.{eq-eqb, eqb-true, eqb-false, ltb-true, ltb-false, leb-false}
 use Rattle.codec.specs.Limits.{none_of, none_in}
 use Rattle.format.specs.Spec as S
 use Rattle.format.specs.Plan as P
@@ -17,17 +16,13 @@ use Rattle.format.specs.Sections.{job_of}
 use Rattle.format.specs.Refusal.{tangled, outside_table, outside}
 use Rattle.format.specs.Passed.{Passed, few}
 use Rattle.format.specs.Ask as A
-use Rattle.spec.specs.declared.ids.TableId.{TableId}
-use Rattle.plan.specs.Answers.{instances_of}
-use Rattle.plan.specs.declared.answers.Instances.{Instances}
-use Rattle.plan.specs.declared.answers.Instances.TheVariants.{Rows}
 use Rattle.std.specs.Prelude.{Ok, Err, Option, None, Some}
 use Rattle.nest.specs.Outline.{Outline, row_table, kind_of, table_of}
 use Rattle.nest.specs.Nest.{Anchor, depth_of, anchors, claim_in}
 use Rattle.nest.specs.Lists.{All}
 use Rattle.nest.specs.NestFindings.{last_table}
 use Rattle.nest.specs.Claims.{claim_by, anchor_table}
-use Rattle.nest.specs.Keys.{Deep, Within}
+use Rattle.nest.specs.Keys.{Within}
 use Rattle.nest.specs.OfJob.{outline_of, kind_in}
 use Rattle.nest.proofs.Anchors.{depth_small, left, left_all, left_other, left_no_rows, left_anchor, shallower, left_start, left_down, left_end, claim_here, claim_next, claim_none}
 use Rattle.nest.proofs.Bridge.{kind_is, loops_is, loop_count_is}
@@ -62,20 +57,6 @@ pub record Sounded (j : Outline) (n : ℕ) (ds : List ℕ) : Type 0 where
   pub done : (p : ℕ) → p < n → get_or ds p 0 ≡ depth_of j p
   pub size : length ds ≡ 32
 
-pub sounded_none : (j : Outline) → Sounded j 0 (replicate 32 0)
-sounded_none j = record { done = λ p h. absurd (omega arith); size = refl }
-
-pub sounded_next : (j : Outline) (n : ℕ) (ds : List ℕ) (d : ℕ) → n < 32 → Sounded j n ds → d ≡ depth_of j n → Sounded j (n + 1) (set ds n d)
-sounded_next j n ds d h w e = record {
-  done = below_more (λ p. get_or (set ds n d) p 0 ≡ depth_of j p) n
-      (λ p l. get_or-set_other ds n p d 0 (λ z. omega (arith, l, z)) ∙ w.done p l)
-      (get_or-set_same ds n d 0 (omega (arith, h, w.size)) ∙ e);
-  size = (simp length-set) ∙ w.size;
-}
-
-pub sounded_end : (j : Outline) (n : ℕ) (ds : List ℕ) → Sounded j n ds → 32 ≤ n → Deep j ds
-sounded_end j n ds w h = record { of = λ l k. w.done l (omega arith) }
-
 -- a depth is small
 pub depth_fits : (j : Job) (l d : ℕ) → length j.spec.loops ≤ 32 → d ≡ depth_of (outline_of j) l → d ≤ 32
 depth_fits j l d h e = omega (arith, depth_small (outline_of j) (length (outline_of j).loops) l, loop_count_is j, h, e)
@@ -86,9 +67,6 @@ all_at : (P : ℕ → Type 0) (xs : List ℕ) → ((k : ℕ) → k < length xs �
 all_at P [] h = tt
 all_at P (x ∷ xs) h = (h 0 (omega arith), all_at P xs (λ k l. h (suc k) (omega arith)))
 
-pub within_none : (j : Outline) (t d : ℕ) → Within j t 0 d
-within_none j t d = record { of = λ k h. absurd (omega arith) }
-
 pub within_next : (j : Job) (t k l n d e : ℕ) → Within (outline_of j) t k d → l ≡ get_or (A.table_of j t).loops k 0 → n ≡ depth_of (outline_of j) l → d ≤ e → n ≤ e → Within (outline_of j) t (k + 1) e
 within_next j t k l n d e w q z h g = record { of = below_more (λ p. depth_of (outline_of j) (get_or (table_of (outline_of j) t).loops p 0) ≤ e) k (λ p m. omega (arith, w.of p m, h)) (rw (loops_is j t, ← q, ← z) g) }
 
@@ -96,15 +74,9 @@ pub within_all : (j : Job) (t k n d : ℕ) → Within (outline_of j) t k d → n
 within_all j t k n d w c h = record { of = λ p m. let g : p < length (A.table_of j t).loops = rw (← loops_is j t) m in w.of p (omega (arith, g, c, h)) }
 
 -- ---- an anchor
-pub rows_kind : (k : Instances) (t : TableId) → k ≡ Rows t → Some t.0 ≡ row_table (kind_in (instances_of k))
-rows_kind k t q = rw q
-
 module _ (j : Job) (l d n : ℕ) (e : n ≡ depth_of (outline_of j) l) where
   pub anchor_here : (x : Option ℕ) (k : P.Instances) → n ≡ d → k ≡ (A.plan_of j l).instances → x ≡ row_table (kind_in k) → x ≡ anchor_table (outline_of j) l d
   anchor_here x k h q i = i ∙ rw (q, ← kind_is j l) (sym (rw (eq-eqb (depth_of (outline_of j) l) d (sym e ∙ h)) refl))
-
-  pub anchor_elsewhere : (n ≡ d → ⊥) → None ≡ anchor_table (outline_of j) l d
-  anchor_elsewhere h = sym (rw (ne_eqb (depth_of (outline_of j) l) d (λ x. h (e ∙ x))) refl)
 
 -- ---- what is left of the anchors from depth d and place i on
 

@@ -60,9 +60,6 @@ module _ (j : Job) (t r u p : ℕ) where
   pub against_all : contradictions (outline_of j) t r (row_of u p) ≡ each against (up_to 0 (length (A.table_of j u).ancestors))
   against_all = contradictions_all (outline_of j) t r (row_of u p) ∙ rw (ancestors_is j u) (each_from (contradiction_at (outline_of j) t r (row_of u p)) (A.table_of j u).ancestors (length (A.table_of j u).ancestors - 0) 0 (omega arith))
 
-  pub against_one : (d d' : List ℕ) (at n k a : ℕ) → a ≡ get_or (A.table_of j u).ancestors k 0 → Noted d at (words (contradiction_at (outline_of j) t r (row_of u p) a)) n d' → Noted d at (words (against k)) n d'
-  against_one d d' at n k a e s = rw (← e) s
-
 -- ---- missing parents
 pub missing_some : (t r u v : ℕ) → 1 ∷ t ∷ r ∷ u ∷ 1 ∷ v ∷ 0 ∷ 0 ∷ 0 ∷ 0 ∷ [] ≡ record_of (missing t r u (Some v))
 unfolding record_of

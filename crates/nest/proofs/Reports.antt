@@ -3,13 +3,12 @@ use Prim.Native.Nat.{ℕ, ◌+◌, ◌≤◌, ◌<◌}
 use mathlib.Core.Path.{◌≡◌, refl, sym, ap, ◌∙◌}
 use mathlib.Core.Bool.{true}
 use mathlib.Core.List.{List, [], ◌∷◌, append-nil}
-use native.Mathlib.Omega.{arith}
 use lib.ListN.{length}
 use Rattle.format.specs.Job.{Job}
 use Rattle.format.specs.Ask as A
 use Rattle.column.specs.Cell.{key_of}
 use Rattle.lent.specs.Fit.{base, wide, more, Noted}
-use Rattle.lent.proofs.Laws.{SoFarAt, stored_none, stored_length, nothing_yet, go_on}
+use Rattle.lent.proofs.Laws.{SoFarAt, stored_none, go_on}
 use Rattle.spec.specs.declared.ids.RowId.{RowId}
 use Rattle.std.specs.Prelude.{Option, Some, None}
 use Rattle.nest.specs.Lists.{each, up_to}
@@ -54,19 +53,17 @@ pub record Reported (g : ℕ → List Finding) (n : ℕ) (d₀ : List ℕ) (star
   pub so_far : SoFarAt base (each (λ x. words (g x)) (up_to 0 n)) d₀ start d at (each (λ x. words (g x)) (up_to i n))
 
 module _ (g : ℕ → List Finding) (n : ℕ) (d₀ : List ℕ) (start : ℕ) where
-  pub reported_none : (at : ℕ) → at ≡ more start 0 → Reported g n d₀ start d₀ at 0
-  reported_none at q = record { so_far = nothing_yet [] _ (rw q (stored_none d₀ start)) refl }
+  pub reported_more : (d d₁ : List ℕ) (at next i : ℕ) → length d₀ ≤ wide → i < n → Reported g n d₀ start d at i → Noted d at (words (g i)) next d₁ → Reported g n d₀ start d₁ next (i + 1)
+  reported_more d d₁ at next i h k w s = record { so_far = go_on (words (g i)) _ h w.so_far (each_next (λ x. words (g x)) i n k) s }
 
-  pub reported_more : (d d₁ : List ℕ) (at next i m : ℕ) → length d₀ ≤ wide → m ≡ n → i < m → Reported g n d₀ start d at i → Noted d at (words (g i)) next d₁ → Reported g n d₀ start d₁ next (i + 1)
-  reported_more d d₁ at next i m h c k w s = record { so_far = go_on (words (g i)) _ h w.so_far (each_next (λ x. words (g x)) i n (omega arith)) s }
-
-  pub reported_all : (d : List ℕ) (at i m : ℕ) (fs : List Finding) → m ≡ n → m ≤ i → fs ≡ each g (up_to 0 n) → Reported g n d₀ start d at i → Noted d₀ start (words fs) at d
-  reported_all d at i m fs c k e w =
-      let z : w.so_far.written ≡ words fs = sym (append-nil w.so_far.written) ∙ rw (← each_end (λ x. words (g x)) i n (omega arith)) w.so_far.adds_up ∙ sym (each_each record_of g (up_to 0 n)) ∙ ap words (sym e) in
+  pub reported_all : (d : List ℕ) (at i : ℕ) → n ≤ i → Reported g n d₀ start d at i → Noted d₀ start (words (each g (up_to 0 n))) at d
+  reported_all d at i k w =
+      let z : w.so_far.written ≡ words (each g (up_to 0 n)) = sym (append-nil w.so_far.written) ∙ rw (← each_end (λ x. words (g x)) i n k) w.so_far.adds_up ∙ sym (each_each record_of g (up_to 0 n)) in
       rw (← z) w.so_far.stored
 
-  pub reported_length : (d : List ℕ) (at i : ℕ) → Reported g n d₀ start d at i → length d ≡ length d₀
-  reported_length d at i w = stored_length _ w.so_far.stored
+-- all of them, m of them by the code's count
+pub reported_as : (g : ℕ → List Finding) {m n at next : ℕ} {d d' : List ℕ} (fs : List Finding) → m ≡ n → fs ≡ each g (up_to 0 n) → Noted d at (words (each g (up_to 0 m))) next d' → Noted d at (words fs) next d'
+reported_as g fs e q s = rw (q, ← e) s
 
 -- ---- duplicate keys
 module _ (j : Job) (t r key : ℕ) (keys : has_keys (outline_of j) t ≡ true) (k : key ≡ key_of (A.data_of j t) r) (f : Option RowId) (e : f ≡ found_by (sought j t key 0)) where

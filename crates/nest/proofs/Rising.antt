@@ -4,7 +4,7 @@ use mathlib.Core.Path.{◌≡◌, refl, sym, ap, subst, ◌∙◌}
 use mathlib.Core.Bool.{Bool, true, false, cond, false≢true}
 use mathlib.Core.List.{List, []}
 use native.Mathlib.Omega.{arith}
-use lib.ListN.{length, get_or, set, replicate, length-set, get_or-eq_default}
+use lib.ListN.{length, get_or, set, length-set, get_or-eq_default}
 use lib.Seq.{get_or-set_same, get_or-set_other}
 use lib.Dec.{eqb, ltb}
 use borrow.Author.Count.{below_more}
@@ -119,14 +119,8 @@ module _ (j : Outline) (u : ℕ) (ks : List Keys) (k : Keys) (w : Keyed j ks) (e
   pub known_are : KeysAre j u k
   known_are = subst (KeysAre j u) (sym e) (w.of u)
 
-  pub known_none : (v : ℕ) → k ≡ NoKeys → found_by None ≡ found_by (first_row j u v)
-  known_none v q = ap found_by (sym (subst (KeysAre j u) q known_are v))
-
   pub known_any : (v : ℕ) (f : Option RowId) → k ≡ Any → f ≡ found_by (first (keep (λ p. eqb (j.key u p) v) (up_to 0 (row_count j u)))) → f ≡ found_by (first_row j u v)
   known_any v f q h = h ∙ ap found_by (sym (keyed j u v (subst (KeysAre j u) q known_are)))
-
-  pub known_rises : k ≡ Rising → Rises j u
-  known_rises q = let z : KeysAre j u Rising = subst (KeysAre j u) q known_are in z.1
 
   pub known_rising : (v : ℕ) (f : Option RowId) → k ≡ Rising → f ≡ found_by (first (keep (λ p. eqb (j.key u p) v) (up_to 0 (row_count j u)))) → f ≡ found_by (first_row j u v)
   known_rising v f q h = let z : KeysAre j u Rising = subst (KeysAre j u) q known_are in h ∙ ap found_by (sym (keyed j u v z.0))
@@ -136,14 +130,6 @@ pub record Marked (j : Outline) (n : ℕ) (ks : List Keys) : Type 0 where
   pub done : (p : ℕ) → p < n → KeysAre j p (get_or ks p NoKeys)
   pub rest : (p : ℕ) → n ≤ p → get_or ks p NoKeys ≡ NoKeys
   pub size : length ks ≡ 16
-
-get_d_all : {A : Type 0} (n i : ℕ) (a : A) → get_or (replicate n a) i a ≡ a
-get_d_all zero i a = refl
-get_d_all (suc n) zero a = refl
-get_d_all (suc n) (suc i) a = get_d_all n i a
-
-pub marked_none : (j : Outline) → Marked j 0 (replicate 16 NoKeys)
-marked_none j = record { done = λ p h. absurd (omega arith); rest = λ p h. get_d_all 16 p NoKeys; size = refl }
 
 pub marked_next : (j : Outline) (n : ℕ) (ks : List Keys) (k : Keys) → n < 16 → Marked j n ks → KeysAre j n k → Marked j (n + 1) (set ks n k)
 marked_next j n ks k h w s = record {
@@ -181,9 +167,6 @@ module _ (j : Outline) (t : ℕ) (k : Keys) (w : KeysAre j t k) where
   may_none q =
       let e : (v : ℕ) → first_row j t v ≡ None = subst (KeysAre j t) q w in
       record { keyed = λ z. absurd (false≢true z); single = λ z. duplicates_all j t ∙ each_none (duplicate_at j t) (row_count j t) (λ r h. duplicate_none j t r (e _)) }
-
-  pub may_any : k ≡ Any → MayRepeat j t true
-  may_any q = record { keyed = λ z. subst (KeysAre j t) q w; single = λ z. absurd (false≢true (sym z)) }
 
   pub may_rising : k ≡ Rising → MayRepeat j t false
   may_rising q =

@@ -11,9 +11,6 @@ pub record Halving (p : ℕ → Bool) (low high a b : ℕ) : Type 0 where
   pub rest : (i : ℕ) → b ≤ i → i < high → p i ≡ false
 
 module _ (p : ℕ → Bool) (low high : ℕ) where
-  pub halving_all : Halving p low high low high
-  halving_all = record { before = λ i h k. absurd (omega arith); rest = λ i h k. absurd (omega arith) }
-
   module _ (a b mid : ℕ) (w : Halving p low high a b) (t : Turns p high) where
     pub halving_low : mid < high → p mid ≡ true → Halving p low high (mid + 1) b
     halving_low h e = record { before = λ i l k. t i mid (omega arith) h e; rest = w.rest }

@@ -11,3 +11,4 @@ pub mod Claims
 pub mod Job
 pub mod Keys
 pub mod Rising
+pub mod Notes

@@ -11,6 +11,7 @@ ghost use Rattle.nest.specs.Job.{outline_by};
 
 use crate::Job;
 use crate::keys::{Keys, first_with, may_repeat};
+use crate::noted::each_below;
 use spec::ids::{RowId, TableId};
 
 // The finding of row r of a table with keys, if an earlier row has its key.
@@ -19,23 +20,18 @@ pub fn duplicate_at(job: Job, findings: &mut [u64], at: usize, t: TableId, r: Ro
     ensures { Noted findings.old at (words (duplicate_at (outline_by job.entry) t.0 r.0)) result findings.new }
 {
     let key = tables::data::key(job.at, t, r);
-    let found = first_with(job, t, key);
-    match found {
-        Some(f) => {
-            if f < r {
-                return lent::note_words(
-                    findings,
-                    at,
-                    [0, t.0 as u64, r.0 as u64, key, f.0 as u64, 0, 0, 0, 0, 0],
-                    10,
-                );
-            }
-            return lent::more(at, 0);
-        }
-        None => {
-            return lent::more(at, 0);
-        }
+    let Some(f) = first_with(job, t, key) else {
+        return lent::more(at, 0);
+    };
+    if r <= f {
+        return lent::more(at, 0);
     }
+    lent::note_words(
+        findings,
+        at,
+        [0, t.0 as u64, r.0 as u64, key, f.0 as u64, 0, 0, 0, 0, 0],
+        10,
+    )
 }
 
 // The duplicate keys of table t.
@@ -49,16 +45,16 @@ pub fn table_duplicates(
     requires { Keyed (outline_by job) keys }
     ensures { Noted findings.old at (words (duplicates (outline_by job.entry) t.0)) result findings.new }
 {
-    let doubtful = may_repeat(keys, t);
-    let mut next = lent::more(at, 0);
-    if doubtful {
-        let n = tables::data::row_count(job.at, t);
-        for r in 0..n {
-            next = duplicate_at(job, findings, next, t, RowId(r));
-        }
-        return next;
+    if !may_repeat(keys, t) {
+        return lent::more(at, 0);
     }
-    next
+    let n = tables::data::row_count(job.at, t);
+    each_below(
+        n,
+        findings,
+        at,
+        |d, next, r| duplicate_at(job, d, next, t, RowId(r)),
+    )
 }
 
 // The duplicate keys of all tables of data, table by table.
@@ -67,9 +63,7 @@ pub fn all_duplicates(job: Job, keys: [Keys; 16], findings: &mut [u64], at: usiz
     ensures { Noted findings.old at (words (each (duplicates (outline_by job.entry)) (up_to 0 (length (outline_by job.entry).row_counts)))) result findings.new }
 {
     let count = tables::data::data_count(job.at);
-    let mut next = lent::more(at, 0);
-    for t in 0..count {
-        next = table_duplicates(job, keys, findings, next, TableId(t));
-    }
-    next
+    each_below(count, findings, at, |d, next, t| {
+        table_duplicates(job, keys, d, next, TableId(t))
+    })
 }

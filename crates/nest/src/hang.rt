@@ -29,7 +29,9 @@ pub struct AnchorLoop {
     pub table: TableId,
 }
 
-// The anchors of a repeat table, n of them in the order in which they are tried.
+// The anchors of a repeat table, n of them in the order in which they are tried. There is no heap, so they stand in an array of fixed length with their number.
+// No ghost field says whose they are (`Lined`): that is a definition over this whole struct, which a field of it can't name; a struct round both would hold
+// this one, and be no plainer.
 #[derive(Clone, Copy)]
 pub struct Line {
     pub anchors: [AnchorLoop; 8],
@@ -75,24 +77,19 @@ pub fn row_table(kind: Instances) -> Option<u32>
     ensures { result ≡ row_table (kind_in (instances_of kind)) }
 {
     match kind {
-        Instances::Absent => None,
-        Instances::Envelope => None,
         Instances::Rows(t) => Some(t.0),
-        Instances::Inside(_) => None,
-        Instances::Groups(_) => None,
-        Instances::Implied => None,
+        _ => None,
     }
 }
 
-// How many loops stand above each loop.
+// How many loops stand above each loop. That they are those of this job (`Deep`) the functions below ask: an array holds no ghost field,
+// and a struct for that would hold the job and the array, which the functions take anyway, and be no plainer.
 pub fn all_depths(job: Job) -> [u8; 32]
     ensures { Deep (outline_by job.entry) result }
 {
     let mut depths = [0u8; 32];
     for l in 0..32 {
-        let d = depth(job, LoopId(l));
-        let i = l as usize;
-        depths[i] = d as u8;
+        depths[l as usize] = depth(job, LoopId(l)) as u8;
     }
     depths
 }
@@ -103,8 +100,7 @@ pub fn depth_at(depths: [u8; 32], l: LoopId) -> u32
     ensures value { result ≡ get_or depths l.0 0 }
     ensures small { result < 256 }
 {
-    let i = l.0 as usize;
-    depths[i] as u32
+    depths[l.0 as usize] as u32
 }
 
 // A depth that no loop of table t is below.
@@ -127,14 +123,14 @@ pub fn anchor(job: Job, depths: [u8; 32], l: LoopId, d: u32) -> Option<u32>
     requires { Deep (outline_by job) depths × (l.0 < 32) }
     ensures { result ≡ anchor_table (outline_by job.entry) l.0 d }
 {
-    let n = depth_at(depths, l);
-    if n == d {
+    if depth_at(depths, l) == d {
         return row_table(plan::planned::instances(job.at, l));
     }
     None
 }
 
-// The first anchor, the deepest first and equal depths in list order, whose reference row r of the repeat table t has.
+// The first anchor, the deepest first and equal depths in list order, whose reference row r of the repeat table t has. It goes through
+// the loops as `line_up` does: one function for both would hand on a state of any type and an early end, which is no plainer.
 pub fn claim(job: Job, depths: [u8; 32], t: TableId, r: RowId) -> Result<Claimed, TableId>
     requires { Deep (outline_by job) depths }
     ensures { result ≡ claim_by (claim_in (outline_by job.entry) t.0 r.0 (anchors (outline_by job.entry) t.0)) (last_table t.0 (anchors (outline_by job.entry) t.0)) }
@@ -149,7 +145,7 @@ pub fn claim(job: Job, depths: [u8; 32], t: TableId, r: RowId) -> Result<Claimed
                 Some(u) => match tables::data::reference(job.at, t, u, r) {
                     Some(v) => {
                         return Ok(Claimed {
-                            l: l,
+                            l,
                             table: TableId(u),
                             value: v,
                         });
@@ -186,7 +182,7 @@ pub fn line_up(job: Job, depths: [u8; 32], t: TableId) -> Option<Line>
                         return None;
                     }
                     anchors[n as usize] = AnchorLoop {
-                        l: l,
+                        l,
                         table: TableId(u),
                     };
                     n = n + 1;
@@ -195,10 +191,7 @@ pub fn line_up(job: Job, depths: [u8; 32], t: TableId) -> Option<Line>
             }
         }
     }
-    Some(Line {
-        anchors: anchors,
-        n: n,
-    })
+    Some(Line { anchors, n })
 }
 
 // The anchors that rows of table t are hung by, if it repeats.
@@ -206,8 +199,7 @@ pub fn line_of(job: Job, depths: [u8; 32], t: TableId) -> Option<Line>
     requires { Deep (outline_by job) depths }
     ensures { IfSome result (Lined (outline_by job.entry) t.0) }
 {
-    let again = spec::tables::repeats(job.at, t);
-    if again {
+    if spec::tables::repeats(job.at, t) {
         return line_up(job, depths, t);
     }
     None
@@ -221,19 +213,15 @@ pub fn claim_along(job: Job, line: Line, t: TableId, r: RowId) -> Result<Claimed
     let mut last = t;
     for k in 0..line.n {
         let a = line.anchors[k as usize];
-        let l = a.l;
-        let table = a.table;
-        match tables::data::reference(job.at, t, table.0, r) {
+        match tables::data::reference(job.at, t, a.table.0, r) {
             Some(v) => {
                 return Ok(Claimed {
-                    l: l,
-                    table: table,
+                    l: a.l,
+                    table: a.table,
                     value: v,
                 });
             }
-            None => {
-                last = table;
-            }
+            None => last = a.table,
         }
     }
     Err(last)
@@ -270,18 +258,14 @@ pub fn repeat_place(
     ensures { Hung (outline_by job.entry) t.0 r.0 result }
 {
     match claim_by(job, depths, line, t, r) {
-        Ok(k) => {
-            let l = k.l;
-            let table = k.table;
-            match first_row(job, keys, table, k.value, near) {
-                Some(p) => Place {
-                    above: p.0 + 1,
-                    l: l,
-                    table: table,
-                },
-                None => NOWHERE,
-            }
-        }
+        Ok(k) => match first_row(job, keys, k.table, k.value, near) {
+            Some(p) => Place {
+                above: p.0 + 1,
+                l: k.l,
+                table: k.table,
+            },
+            None => NOWHERE,
+        },
         Err(_) => NOWHERE,
     }
 }
@@ -317,8 +301,7 @@ pub fn place_of(
     requires { Keyed (outline_by job) keys × Deep (outline_by job) depths × IfSome line (Lined (outline_by job) t.0) }
     ensures { Hung (outline_by job.entry) t.0 r.0 result }
 {
-    let again = spec::tables::repeats(job.at, t);
-    if again {
+    if spec::tables::repeats(job.at, t) {
         return repeat_place(job, keys, depths, line, t, r, near);
     }
     parent_place(job, keys, t, r, near)

@@ -1,4 +1,4 @@
-// A job that passed, with its index.
+// A job that passed, with its index. What fills the index asks that the job passed (`Passed`) of its bytes alone: there is no index yet.
 ghost use Rattle.nest.specs.Ready.{Ready};
 
 use spec::Indexed;

@@ -67,27 +67,24 @@ pub fn ascends(job: Job, u: TableId) -> bool
 pub fn keys_of(job: Job, u: TableId) -> Keys
     ensures { KeysAre (outline_by job.entry) u.0 result }
 {
-    let keyed = has_keys(job, u);
-    if keyed {
-        let rising = ascends(job, u);
-        if rising {
-            return Keys::Rising;
-        }
-        return Keys::Any;
+    if !has_keys(job, u) {
+        return Keys::None;
     }
-    Keys::None
+    if ascends(job, u) {
+        return Keys::Rising;
+    }
+    Keys::Any
 }
 
-// What is known of the keys of all tables of data.
+// What is known of the keys of all tables of data. That they are those of this job (`Keyed`) its users ask: an array holds no ghost field,
+// and a struct for that would hold the job and the array, which its users take anyway, and be no plainer.
 pub fn all_keys(job: Job) -> [Keys; 16]
     ensures { Keyed (outline_by job.entry) result }
 {
     let mut keys = [Keys::None; 16];
     let count = tables::data::data_count(job.at);
     for u in 0..count {
-        let k = keys_of(job, TableId(u));
-        let i = u as usize;
-        keys[i] = k;
+        keys[u as usize] = keys_of(job, TableId(u));
     }
     keys
 }
@@ -115,14 +112,7 @@ pub fn is_key(job: Job, u: TableId, v: u64, k: u32) -> bool
     ensures there { result ≡ true → (k < row_count (outline_by job.entry) u.0) × ((outline_by job.entry).key u.0 k ≡ v) }
     ensures not_there { result ≡ false → k < row_count (outline_by job.entry) u.0 → (outline_by job.entry).key u.0 k ≡ v → ⊥ }
 {
-    let n = tables::data::row_count(job.at, u);
-    if k < n {
-        let key = tables::data::key(job.at, u, RowId(k));
-        if key == v {
-            return true;
-        }
-    }
-    false
+    k < tables::data::row_count(job.at, u) && tables::data::key(job.at, u, RowId(k)) == v
 }
 
 // The row of u whose key is v, where the keys of u rise: the rows before and at `near` are looked at first.
@@ -130,14 +120,10 @@ pub fn search_near(job: Job, u: TableId, v: u64, near: u32) -> Option<RowId>
     requires { Rises (outline_by job) u.0 }
     ensures { result ≡ found_by (first (keep (λ p. eqb ((outline_by job.entry).key u.0 p) v) (up_to 0 (row_count (outline_by job.entry) u.0)))) }
 {
-    if 0 < near {
-        let same = is_key(job, u, v, near - 1);
-        if same {
-            return Some(RowId(near - 1));
-        }
+    if 0 < near && is_key(job, u, v, near - 1) {
+        return Some(RowId(near - 1));
     }
-    let next = is_key(job, u, v, near);
-    if next {
+    if is_key(job, u, v, near) {
         return Some(RowId(near));
     }
     search(job, u, v)
@@ -159,8 +145,7 @@ pub fn first_row(job: Job, keys: [Keys; 16], u: TableId, v: u64, near: u32) -> O
     requires { Keyed (outline_by job) keys }
     ensures { result ≡ found_by (first_row (outline_by job.entry) u.0 v) }
 {
-    let k = known(keys, u);
-    match k {
+    match known(keys, u) {
         Keys::None => None,
         Keys::Any => first_with(job, u, v),
         Keys::Rising => search_near(job, u, v, near),
@@ -187,8 +172,7 @@ pub fn referred(
 pub fn may_repeat(keys: [Keys; 16], t: TableId) -> bool
     ensures { (j : Outline) → Keyed j keys → MayRepeat j t.0 result }
 {
-    let k = known(keys, t);
-    match k {
+    match known(keys, t) {
         Keys::None => false,
         Keys::Any => true,
         Keys::Rising => false,

@@ -1,4 +1,6 @@
 // Tables whose rows hang on rising rows. The last sixteen numbers of nest's array, behind those of all rows, are a flag for each table of data: 1 where they do.
+// No bools: they lie in the array of u32 that holds the rows, so that a walk takes one array and `Nested` speaks of one. A list of bools would be one more field of
+// `walk::Nest` with one more fact, and no plainer. A program gets the rows' numbers alone.
 ghost use Rattle.std.specs.Prelude.{◌≡◌, not, [], ◌∷◌, ◌+◌, ◌-◌, ◌*◌, ◌≤◌, ◌<◌, length};
 ghost use Rattle.std.proofs.lemmas.List.Edits.{sets};
 ghost use Rattle.nest.specs.Lists.{once};
@@ -32,11 +34,7 @@ pub fn put_flag(nest: &mut [u32], i: usize, down: bool)
     requires { i < length nest.old }
     ensures { nest.new ≡ sets nest.old i (once (not down) ∷ []) }
 {
-    if down {
-        nest[i] = 0;
-    } else {
-        nest[i] = 1;
-    }
+    nest[i] = u32::from(!down);
 }
 
 // The flags of all tables of data.

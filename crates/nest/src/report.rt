@@ -12,6 +12,7 @@ ghost use Rattle.nest.specs.Ready.{words};
 ghost use Rattle.nest.specs.Job.{outline_by, job_by};
 
 use crate::hang::{all_depths, claim};
+use crate::noted::each_below;
 use crate::{Job, TableRows};
 use spec::ids::{RowId, TableId};
 
@@ -60,12 +61,18 @@ pub fn contradictions(
     ensures { Noted findings.old at (words (contradictions (outline_by job.entry) t.0 r.0 (row_of u.0 p.0))) result findings.new }
 {
     let count = spec::tables::ancestor_count(job.at, u);
-    let mut next = lent::more(at, 0);
-    for k in 0..count {
-        let a = spec::tables::ancestor(job.at, u, k);
-        next = contradiction_at(job, findings, next, t, r, u, p, a);
-    }
-    next
+    each_below(count, findings, at, |d, next, k| {
+        contradiction_at(
+            job,
+            d,
+            next,
+            t,
+            r,
+            u,
+            p,
+            spec::tables::ancestor(job.at, u, k),
+        )
+    })
 }
 
 // The finding of a repeat row that hangs on none.
@@ -80,36 +87,30 @@ pub fn repeat_missing(
     requires { Deep (outline_by job) depths × (repeated (outline_by job) t.0 ≡ true) }
     ensures { Noted findings.old at (words (missing_at (outline_by job.entry) t.0 r.0)) result findings.new }
 {
-    let anchored = claim(job, depths, t, r);
-    match anchored {
-        Ok(k) => {
-            let table = k.table;
-            return lent::note_words(
-                findings,
-                at,
-                [
-                    1,
-                    t.0 as u64,
-                    r.0 as u64,
-                    table.0 as u64,
-                    1,
-                    k.value,
-                    0,
-                    0,
-                    0,
-                    0,
-                ],
-                10,
-            );
-        }
-        Err(last) => {
-            return lent::note_words(
-                findings,
-                at,
-                [1, t.0 as u64, r.0 as u64, last.0 as u64, 0, 0, 0, 0, 0, 0],
-                10,
-            );
-        }
+    match claim(job, depths, t, r) {
+        Ok(k) => lent::note_words(
+            findings,
+            at,
+            [
+                1,
+                t.0 as u64,
+                r.0 as u64,
+                k.table.0 as u64,
+                1,
+                k.value,
+                0,
+                0,
+                0,
+                0,
+            ],
+            10,
+        ),
+        Err(last) => lent::note_words(
+            findings,
+            at,
+            [1, t.0 as u64, r.0 as u64, last.0 as u64, 0, 0, 0, 0, 0, 0],
+            10,
+        ),
     }
 }
 
@@ -149,8 +150,7 @@ pub fn missing(
     requires { Deep (outline_by job) depths }
     ensures { Noted findings.old at (words (missing_at (outline_by job.entry) t.0 r.0)) result findings.new }
 {
-    let again = spec::tables::repeats(job.at, t);
-    if again {
+    if spec::tables::repeats(job.at, t) {
         return repeat_missing(job, findings, at, depths, t, r);
     }
     parent_missing(job, findings, at, t, r)
@@ -169,19 +169,13 @@ pub fn row_findings(
     requires { ArrayIs (outline_by job) all.array.now × Deep (outline_by job) depths × (all.base ≡ rows_before (job_by job).tables t.0) × (all.rows ≡ row_count (outline_by job) t.0) × (r.0 < all.rows) }
     ensures { Noted findings.old at (words (row_findings (outline_by job.entry) t.0 r.0)) result findings.new }
 {
-    let above = all.row_above(r);
-    match above {
-        Some(p) => {
-            let table = all.table_above(r);
-            return contradictions(job, findings, at, t, r, table, p);
-        }
-        None => {
-            return missing(job, findings, at, depths, t, r);
-        }
+    match all.row_above(r) {
+        Some(p) => contradictions(job, findings, at, t, r, all.table_above(r), p),
+        None => missing(job, findings, at, depths, t, r),
     }
 }
 
-// The findings of the rows of table t. Job and array are no struct with `ArrayIs`: three functions take the two with it, and three places would make the struct.
+// The findings of the rows of table t. Job and array are no struct with `ArrayIs`: nearly as many places would make the struct as functions take it.
 pub fn table_findings(
     job: Job,
     nest: &[u32],
@@ -200,11 +194,9 @@ pub fn table_findings(
         base,
         rows: n as usize,
     };
-    let mut next = lent::more(at, 0);
-    for r in 0..n {
-        next = row_findings(job, findings, next, depths, t, all, RowId(r));
-    }
-    next
+    each_below(n, findings, at, |d, next, r| {
+        row_findings(job, d, next, depths, t, all, RowId(r))
+    })
 }
 
 // The findings of the rows of the spec's tables, table by table.
@@ -214,9 +206,7 @@ pub fn all_findings(job: Job, nest: &[u32], findings: &mut [u64], at: usize) -> 
 {
     let depths = all_depths(job);
     let count = spec::tables::table_count(job.at);
-    let mut next = lent::more(at, 0);
-    for t in 0..count {
-        next = table_findings(job, nest, findings, next, depths, TableId(t));
-    }
-    next
+    each_below(count, findings, at, |d, next, t| {
+        table_findings(job, nest, d, next, depths, TableId(t))
+    })
 }

@@ -11,11 +11,12 @@ pub struct TableRows<'a> {
     pub base: usize,
     pub rows: usize,
     pub ghost within: { (base + rows) * 3 ≤ length array.now },
-    pub ghost few: { rows ≤ 4096 },
 }
 
+// That a row's number is below `rows` ties an argument to the table, so each method asks for it. That p is below 4096 is no field of `RowId`: a row's number is read from
+// the job, its readers answer for any, and such a field would ask more of whoever makes one.
 impl<'a> TableRows<'a> {
-    ghost use Rattle.std.specs.Prelude.{◌≡◌, ◌<◌};
+    ghost use Rattle.std.specs.Prelude.{◌≡◌, ◌<◌, ◌^◌};
     ghost use Rattle.nest.specs.Lists.{keep, first, up_to};
     ghost use Rattle.nest.specs.Found.{found_by, nest_at, row_above, held_at, hooked_at};
     ghost use Rattle.nest.specs.Rising.{Climbs, Parted};
@@ -33,11 +34,7 @@ impl<'a> TableRows<'a> {
         requires { r.0 < self.rows }
         ensures { result ≡ row_above self.entry.array.now self.entry.base r.0 }
     {
-        let p = self.above(r.0 as usize);
-        if p == 0 {
-            return None;
-        }
-        Some(RowId(p - 1))
+        crate::row_above(self.array, self.base, r)
     }
 
     // The table of that row.
@@ -64,17 +61,9 @@ impl<'a> TableRows<'a> {
         self.held_at(k, p) && self.array[(self.base + k) * 3 + 1] == l.0
     }
 
-    // The next of the rows, from `from` on, that hang on row p of the table's parent.
-    pub fn next_held(self, from: usize, p: RowId) -> Option<RowId>
-        requires { p.0 < 4096 }
-        ensures { result ≡ found_by (first (keep (held_at self.entry.array.now self.entry.base p.0) (up_to from self.entry.rows))) }
-    {
-        first_row_where(from, self.rows, |k| self.held_at(k, p))
-    }
-
     // The next of a repeat table's rows, from `from` on, that go into the instance of loop l that row p opens.
     pub fn next_hooked(self, from: usize, l: LoopId, p: RowId) -> Option<RowId>
-        requires { p.0 < 4096 }
+        requires { (p.0 < 4096) × (self.rows < 2 ^ 32) }
         ensures { result ≡ found_by (first (keep (hooked_at self.entry.array.now self.entry.base l.0 p.0) (up_to from self.entry.rows))) }
     {
         first_row_where(from, self.rows, |k| self.hooked_at(k, l, p))

@@ -1,12 +1,11 @@
 -- The ways through the small questions: tables, kinds, orders, sources, a step upwards, entries.
 use Prim.Native.Nat.{ℕ, zero, suc, ◌+◌, ◌-◌, ◌≤◌, ◌<◌}
 use mathlib.Core.Path.{◌≡◌, refl, sym, ap, ap₂, ◌∙◌}
-use mathlib.Core.Bool.{Bool, true, false, not, ◌&&◌, ◌||◌, true≢false}
+use mathlib.Core.Bool.{Bool, true, false, not, ◌&&◌, true≢false}
 use mathlib.Core.List.{List, [], ◌∷◌, map}
 use native.Mathlib.Omega.{arith}
 use native.Mathlib.Numerals.{sub-one}
 use Rattle.std.specs.Prelude.{Option, None, Some}
-use Rattle.std.specs.Option.{option_eq}
 use lib.ListN.{length, get_or}
 use lib.Dec.{eqb, ltb}
 use borrow.Author.Tests.{lt-ltb, le-ltb, not-true, not-false, eq-eqb, eqb-true}
@@ -17,22 +16,15 @@ use Rattle.format.specs.Layout.{segment_item, loop_item}
 use Rattle.format.specs.Job.{Job}
 use Rattle.format.specs.Sections.{job_of}
 use Rattle.format.specs.Ask as A
-use Rattle.spec.specs.declared.ids.TableId.{TableId}
-use Rattle.plan.specs.Answers.{instances_of, source_of}
-use Rattle.plan.specs.declared.answers.Instances.{Instances}
-use Rattle.plan.specs.declared.answers.Instances.TheVariants.{Rows}
-use Rattle.plan.specs.declared.answers.Source.{Source}
-use Rattle.plan.specs.declared.answers.Source.TheVariants.{Repeat}
 use Rattle.plan.specs.Index.{PlanIndexed}
 use Rattle.nest.specs.Lists.{on, is, sum, times, All}
 use Rattle.nest.specs.Outline.{Outline, Table, Planned, Kind, row_table, loop_of, table_of, kind_of, order_of, segment_of, table_parent, plain, repeated, item_loops, item_segments}
 use Rattle.nest.specs.OfJob.{outline_of, kind_in, source_in}
 use Rattle.nest.proofs.Bridge.{table_is, kind_is, parent_is, planned_is, segment_is, order_is, occurrences_is, table_parent_is, loops_is}
-use Rattle.nest.proofs.NestLaws.{is_eq}
-use Rattle.walk.specs.Check.{each_below, each_of, how_many, rows_of, named, repeat_table, planned, if_there, past, fits, all_pass}
+use Rattle.walk.specs.Check.{each_of, how_many, rows_of, repeat_table, planned, if_there, past, fits, all_pass}
 use Rattle.walk.proofs.Tests.{tests_all, all_tests, that_is_all, ◌⨾◌}
 use Rattle.complete.specs.Decides.{Decides}
-use Rattle.paths.specs.Tests.{same_item, segment_below, each_loop, order_right, only_planned, row_fits, row_loops, repeats_in, planned_once, anchors_in, names_plain, segment_ordered, loop_ordered}
+use Rattle.paths.specs.Tests.{same_item, segment_below, order_right, only_planned, row_fits, row_loops, repeats_in, planned_once, anchors_in}
 use Rattle.paths.specs.Entries.{Entries4}
 use Rattle.paths.specs.Upward.{outcome}
 use Rattle.paths.specs.declared.up.Up.{Up}
@@ -47,46 +39,9 @@ first_no a x y e h = rw (sym e ∙ not-true a h)
 pub first_yes : (a x y z : Bool) → a ≡ x → not a ≡ false → z ≡ y → z ≡ x && y
 first_yes a x y z e h q = rw (sym e ∙ not-false a h) q
 
-pub unless : (a x y z : Bool) → a ≡ x → a ≡ true → z ≡ y → z ≡ not x || y
-unless a x y z e h q = rw (sym e ∙ h) q
-
-pub unless_not : (a x y : Bool) → a ≡ x → a ≡ false → true ≡ not x || y
-unless_not a x y e h = rw (sym e ∙ h)
-
-module _ (j : Outline) (l i : ℕ) (a : Bool) (p : a ≡ eqb (times i (item_segments (order_of j l))) 1) where
-  pub segment_unordered : not a ≡ true → false ≡ segment_ordered j l i
-  unfolding segment_ordered
-  segment_unordered h = first_no a (eqb (times i (item_segments (order_of j l))) 1) _ p h
-
-  pub segment_last : (x : Bool) → not a ≡ false → x ≡ ltb (segment_of j l i).occurrence (loop_of j l).occurrences → x ≡ segment_ordered j l i
-  unfolding segment_ordered
-  segment_last x h e = first_yes a (eqb (times i (item_segments (order_of j l))) 1) _ x p h e
-
-pub names_in : (j : Outline) (l : ℕ) (k : Kind) (a : Bool) → k ≡ kind_of j l → a ≡ if_there (named k) (plain j) → a ≡ names_plain j l
-unfolding names_plain
-names_in j l k a f e = e ∙ ap (λ v. if_there (named v) (plain j)) f
-
-module _ (j : Outline) (l : ℕ) (a : Bool) (p : a ≡ each_loop j (order_right j l)) where
-  pub loop_1 : not a ≡ true → false ≡ loop_ordered j l
-  unfolding loop_ordered
-  loop_1 h = first_no a (each_loop j (order_right j l)) _ p h
-
-  module _ (h : not a ≡ false) (b : Bool) (q : b ≡ each_below (planned j l) (segment_ordered j l)) where
-    pub loop_2 : not b ≡ true → false ≡ loop_ordered j l
-    unfolding loop_ordered
-    loop_2 g = first_yes a (each_loop j (order_right j l)) _ false p h (first_no b (each_below (planned j l) (segment_ordered j l)) (only_planned j l) q g)
-
-    pub loop_3 : (x : Bool) → not b ≡ false → x ≡ only_planned j l → x ≡ loop_ordered j l
-    unfolding loop_ordered
-    loop_3 x g e = first_yes a (each_loop j (order_right j l)) _ x p h (first_yes b (each_below (planned j l) (segment_ordered j l)) (only_planned j l) x q g e)
-
 -- ---- tables
 
 module _ (j : Job) (t n : ℕ) (c : n ≡ length (outline_of j).tables) where
-  pub plain_out : n ≤ t → false ≡ plain (outline_of j) t
-  unfolding plain
-  plain_out h = rw (le-ltb t (length (outline_of j).tables) (omega (arith, c, h)))
-
   pub repeated_out : n ≤ t → false ≡ repeated (outline_of j) t
   unfolding repeated
   repeated_out h = rw (le-ltb t (length (outline_of j).tables) (omega (arith, c, h)))
@@ -94,10 +49,6 @@ module _ (j : Job) (t n : ℕ) (c : n ≡ length (outline_of j).tables) where
   module _ (x : Bool) (h : t < n) (e : x ≡ (A.table_of j t).segment) where
     segment_here : x ≡ (table_of (outline_of j) t).repeats
     segment_here = e ∙ sym (ap (λ (v : Table). v.repeats) (table_is j t))
-
-    pub plain_in : not x ≡ plain (outline_of j) t
-    unfolding plain
-    plain_in = rw (lt-ltb t (length (outline_of j).tables) (omega (arith, c, h))) (ap not segment_here)
 
     pub repeated_in : x ≡ repeated (outline_of j) t
     unfolding repeated
@@ -108,9 +59,6 @@ kind_in_lem j l k e = ap kind_in e ∙ sym (kind_is j l)
 
 pub source_in_lem : (j : Job) (l i : ℕ) (s : P.Source) → s ≡ (A.planned_of j l i).source → source_in s ≡ (segment_of (outline_of j) l i).source
 source_in_lem j l i s e = ap source_in e ∙ ap (λ (v : Planned). v.source) (sym (segment_is j l i))
-
-pub parent_in : (j : Job) (t : ℕ) (o : Option ℕ) → o ≡ (A.table_of j t).parent → o ≡ table_parent (outline_of j) t
-parent_in j t o e = e ∙ sym (table_parent_is j t)
 
 pub planned_in_lem : (j : Job) (l n : ℕ) → n ≡ length (A.plan_of j l).segments → n ≡ planned (outline_of j) l
 planned_in_lem j l n e = e ∙ sym (planned_is j l)
@@ -126,9 +74,6 @@ module _ (j : Job) (t : ℕ) (v : Option ℕ) (e : v ≡ (A.table_of j t).parent
   pub parent_none : v ≡ None → true ≡ if_there (table_parent (outline_of j) t) (plain (outline_of j))
   parent_none q = rw (parent_by None q)
 
-  pub parent_eq : (w : ℕ) → option_eq eqb v (Some w) ≡ is (table_parent (outline_of j) t) w
-  parent_eq w = rw (parent_by v refl) (is_eq v w)
-
   pub top_no : (u : ℕ) → v ≡ Some u → (h : ℕ) → on (table_parent (outline_of j) t) (λ w. false) true ≡ false
   top_no u q h = rw (parent_by (Some u) q)
 
@@ -139,12 +84,6 @@ module _ (j : Job) (t : ℕ) (v : Option ℕ) (e : v ≡ (A.table_of j t).parent
 
 pub anchored_in : (j : Job) (l i : ℕ) (s : P.Source) (x : Bool) → s ≡ (A.planned_of j l i).source → x ≡ if_there (repeat_table (source_in s)) (anchors_in (outline_of j) l) → x ≡ if_there (repeat_table (segment_of (outline_of j) l i).source) (anchors_in (outline_of j) l)
 anchored_in j l i s x e f = f ∙ ap (λ v. if_there (repeat_table v) (anchors_in (outline_of j) l)) (source_in_lem j l i s e)
-
-pub rows_mine : (k : Instances) (u : TableId) (t : ℕ) → k ≡ Rows u → eqb t u.0 ≡ rows_of t (kind_in (instances_of k))
-rows_mine k u t e = rw e
-
-pub repeat_mine : (s : Source) (u : TableId) (t : ℕ) → s ≡ Repeat u → eqb t u.0 ≡ is (repeat_table (source_in (source_of s))) t
-repeat_mine s u t e = rw e
 
 abbrev pub rows_at : Outline → ℕ → ℕ → Bool
 rows_at j t l = rows_of t (kind_of j l)
@@ -248,23 +187,7 @@ module _ (j : Outline) (t l : ℕ) (k : Kind) (x : Bool) (e : k ≡ kind_of j l)
       go None q = refl
       go (Some u) q = absurd (true≢false q)
 
-  pub anchors_by : (a b : Bool) → a ≡ repeated j t → b ≡ ltb 0 (times l (table_of j t).loops) → not a ≡ false → not b ≡ false → x ≡ anchors_in j l t
-  unfolding anchors_in
-  anchors_by a b p q y z = rows_here ∙ sym (ap₂ (λ u v. u && (v && on (row_table (kind_of j l)) (λ u. true) false)) (sym p ∙ not-false a y) (sym q ∙ not-false b z))
-
-module _ (j : Outline) (t l : ℕ) (a : Bool) (p : a ≡ repeated j t) where
-  pub anchors_plain : not a ≡ true → false ≡ anchors_in j l t
-  unfolding anchors_in
-  anchors_plain y = rw (sym p ∙ not-true a y)
-
-  pub anchors_unlisted : (b : Bool) → not a ≡ false → b ≡ ltb 0 (times l (table_of j t).loops) → not b ≡ true → false ≡ anchors_in j l t
-  unfolding anchors_in
-  anchors_unlisted b y q z = sym (ap₂ (λ u v. u && (v && on (row_table (kind_of j l)) (λ u. true) false)) (sym p ∙ not-false a y) (sym q ∙ not-true b z))
-
 -- ---- entries
-
-pub decides_yes : (P : Type 0) → P → Decides true P
-decides_yes P p = ((λ e. p), (λ e q. true≢false e))
 
 pub decides_no : (P : Type 0) → (P → ⊥) → Decides false P
 decides_no P f = ((λ e. absurd (true≢false (sym e))), (λ e q. f q))

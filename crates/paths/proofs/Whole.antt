@@ -18,15 +18,6 @@ use Rattle.paths.specs.Entries.{Entries4, Orders}
 
 -- ---- the ways through the conditions
 
-module _ (j : Outline) (a : Bool) (p : a ≡ each_table j (one_row_loop j)) where
-  pub one_no : not a ≡ true → false ≡ condition1 j
-  unfolding condition1
-  one_no h = first_no a (each_table j (one_row_loop j)) _ p h
-
-  pub one_by : (x : Bool) → not a ≡ false → x ≡ each_loop j (names_plain j) → x ≡ condition1 j
-  unfolding condition1
-  one_by x h e = first_yes a (each_table j (one_row_loop j)) _ x p h e
-
 pub two_entries : (j : Job) (a : Bool) → Decides a (Entries4 j) → not a ≡ true → Decides false (Orders j)
 two_entries j a d h = decides_no _ (λ o. d.1 (not-true a h) o.entries)
 
@@ -40,19 +31,6 @@ unfolding condition2
 two_orders j a d h b q g x e =
     let r : x ≡ condition2 (outline_of j) = first_yes b (each_table (outline_of j) (parent_plain (outline_of j))) _ x q g e in
     ((λ y. record { entries = d.0 (not-false a h); ordered = sym r ∙ y }), (λ y o. true≢false (sym o.ordered ∙ sym r ∙ y)))
-
-pub three_by : (j : Outline) (x : Bool) → x ≡ each_loop j (row_fits j) → x ≡ condition3 j
-unfolding condition3
-three_by j x e = e
-
-module _ (j : Outline) (a : Bool) (p : a ≡ each_table j (repeat_planned j)) where
-  pub four_no : not a ≡ true → false ≡ condition4 j
-  unfolding condition4
-  four_no h = first_no a (each_table j (repeat_planned j)) _ p h
-
-  pub four_by : (x : Bool) → not a ≡ false → x ≡ each_loop j (loop_anchored j) → x ≡ condition4 j
-  unfolding condition4
-  four_by x h e = first_yes a (each_table j (repeat_planned j)) _ x p h e
 
 -- ---- all of them
 

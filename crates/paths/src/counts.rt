@@ -2,7 +2,7 @@
 ghost use Rattle.std.specs.Prelude.{◌≡◌, ◌≤◌, ◌<◌, length, true, false};
 ghost use Rattle.plan.specs.Answers.{instances_of, source_of};
 ghost use Rattle.nest.specs.Lists.{is, on};
-ghost use Rattle.nest.specs.Outline.{kind_of, table_parent, plain as plainIn, repeated as repeatedIn, row_table};
+ghost use Rattle.nest.specs.Outline.{kind_of, table_parent, plain, repeated as repeatedIn, row_table};
 ghost use Rattle.nest.specs.OfJob.{kind_in, source_in};
 ghost use Rattle.walk.specs.Check.{rows_of, named, repeat_table, if_there};
 ghost use Rattle.nest.specs.Job.{outline_by};
@@ -11,6 +11,7 @@ use nest::Job;
 use nest::hang::row_table;
 use plan::answers::{Instances, Source};
 use spec::ids::{LoopId, TableId};
+use walk::is_plain;
 
 pub fn loops(job: Job) -> u32
     ensures { (result ≡ length (outline_by job.entry).loops) × (result ≤ 32) }
@@ -24,27 +25,11 @@ pub fn tables(job: Job) -> u32
     spec::tables::table_count(job.at)
 }
 
-// Whether a table of the spec has no repeat segment.
-pub fn plain(job: Job, t: TableId) -> bool
-    ensures { result ≡ plainIn (outline_by job.entry) t.0 }
-{
-    let n = tables(job);
-    if n <= t.0 {
-        return false;
-    }
-    let repeats = spec::tables::repeats(job.at, t);
-    !repeats
-}
-
 // Whether a table of the spec has a repeat segment.
 pub fn repeated(job: Job, t: TableId) -> bool
     ensures { result ≡ repeatedIn (outline_by job.entry) t.0 }
 {
-    let n = tables(job);
-    if n <= t.0 {
-        return false;
-    }
-    spec::tables::repeats(job.at, t)
+    t.0 < tables(job) && spec::tables::repeats(job.at, t)
 }
 
 // Where the instances of a loop come from.
@@ -81,22 +66,21 @@ pub fn is_repeat(s: Source, t: TableId) -> bool
 
 // Whether the table that a loop names, if it does, has no repeat segment.
 pub fn plain_named(job: Job, k: Instances) -> bool
-    ensures { result ≡ if_there (named (kind_in (instances_of k))) (plainIn (outline_by job.entry)) }
+    ensures { result ≡ if_there (named (kind_in (instances_of k))) (plain (outline_by job.entry)) }
 {
     match k {
-        Instances::Rows(t) => plain(job, t),
-        Instances::Groups(t) => plain(job, t),
+        Instances::Rows(t) => is_plain(job, t),
+        Instances::Groups(t) => is_plain(job, t),
         _ => true,
     }
 }
 
 // Whether the parent of a table, if it has one, has no repeat segment.
 pub fn parent_plain(job: Job, t: TableId) -> bool
-    ensures { result ≡ if_there (table_parent (outline_by job.entry) t.0) (plainIn (outline_by job.entry)) }
+    ensures { result ≡ if_there (table_parent (outline_by job.entry) t.0) (plain (outline_by job.entry)) }
 {
-    let parent = spec::tables::table_parent(job.at, t);
-    match parent {
-        Some(u) => plain(job, TableId(u)),
+    match spec::tables::table_parent(job.at, t) {
+        Some(u) => is_plain(job, TableId(u)),
         None => true,
     }
 }

@@ -19,12 +19,12 @@ pub fn tables_once(job: Job) -> bool
     each(tables(job), |t| one_row_loop(job, TableId(t)))
 }
 
+#[tactic(auto, unfolding(crate::specs::Tests::names_plain))]
 fn loop_plain(job: Job, l: LoopId) -> bool
     requires { l.0 < 32 }
     ensures { result ≡ names_plain (outline_by job.entry) l.0 }
 {
-    let k = kind(job, l);
-    plain_named(job, k)
+    plain_named(job, kind(job, l))
 }
 
 // 1: no loop names another table.
@@ -41,15 +41,12 @@ pub fn parents_plain(job: Job) -> bool
     each(tables(job), |t| parent_plain(job, TableId(t)))
 }
 
+#[tactic(auto, unfolding(crate::specs::Tests::segment_ordered))]
 fn segment_ordered(job: Job, l: LoopId, i: u32) -> bool
     requires { l.0 < 32 }
     ensures { result ≡ segment_ordered (outline_by job.entry) l.0 i }
 {
-    let a = once_ordered(job, l, i);
-    if !a {
-        return false;
-    }
-    occurs(job, l, i)
+    once_ordered(job, l, i) && occurs(job, l, i)
 }
 
 fn segments_ordered(job: Job, l: LoopId) -> bool
@@ -62,19 +59,12 @@ fn segments_ordered(job: Job, l: LoopId) -> bool
     )
 }
 
+#[tactic(auto, unfolding(crate::specs::Tests::loop_ordered))]
 fn loop_ordered(job: Job, l: LoopId) -> bool
     requires { l.0 < 32 }
     ensures { result ≡ loop_ordered (outline_by job.entry) l.0 }
 {
-    let a = order_loops(job, l);
-    if !a {
-        return false;
-    }
-    let b = segments_ordered(job, l);
-    if !b {
-        return false;
-    }
-    only_planned(job, l)
+    order_loops(job, l) && segments_ordered(job, l) && only_planned(job, l)
 }
 
 // 2: every order lists each child loop and each planned segment once, and nothing more.

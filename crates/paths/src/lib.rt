@@ -50,32 +50,22 @@ pub fn entries_fit(job: Job) -> bool
 }
 
 // Condition 1: row loops.
+#[tactic(auto, unfolding(crate::specs::Tests::condition1))]
 pub fn rows_fit(job: Job) -> bool
     ensures { result ≡ condition1 (outline_by job.entry) }
 {
-    let a = tables_once(job);
-    if !a {
-        return false;
-    }
-    loops_plain(job)
+    tables_once(job) && loops_plain(job)
 }
 
 // Condition 2: entries, parents and orders.
 pub fn orders_fit(job: Job) -> bool
     ensures { Decides result (Orders (job_by job.entry)) }
 {
-    let entries = entries_fit(job);
-    if !entries {
-        return false;
-    }
-    let a = parents_plain(job);
-    if !a {
-        return false;
-    }
-    loops_ordered(job)
+    entries_fit(job) && parents_plain(job) && loops_ordered(job)
 }
 
 // Condition 3: what stands above a row loop.
+#[tactic(auto, unfolding(crate::specs::Tests::condition3))]
 pub fn paths_fit(job: Job) -> bool
     ensures { result ≡ condition3 (outline_by job.entry) }
 {
@@ -84,12 +74,9 @@ pub fn paths_fit(job: Job) -> bool
 
 // Condition 4: repeat segments. The tables come first: where they pass, a loop plans one repeat segment of each table that it anchors, so that no table's
 // list of loops is gone through more than once a loop afterwards.
+#[tactic(auto, unfolding(crate::specs::Tests::condition4))]
 pub fn repeats_fit(job: Job) -> bool
     ensures { result ≡ condition4 (outline_by job.entry) }
 {
-    let a = tables_planned(job);
-    if !a {
-        return false;
-    }
-    loops_anchored(job)
+    tables_planned(job) && loops_anchored(job)
 }

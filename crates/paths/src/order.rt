@@ -43,9 +43,7 @@ fn order_right(job: Job, l: LoopId, k: u32) -> bool
     requires { l.0 < 32 }
     ensures { result ≡ order_right (outline_by job.entry) l.0 k }
 {
-    let a = item_times(job, l, Item::Loop(LoopId(k)));
-    let b = child_times(job, l, k);
-    a == b
+    item_times(job, l, Item::Loop(LoopId(k))) == child_times(job, l, k)
 }
 
 pub fn order_loops(job: Job, l: LoopId) -> bool
@@ -89,7 +87,5 @@ pub fn occurs(job: Job, l: LoopId, i: u32) -> bool
     requires { l.0 < 32 }
     ensures { result ≡ ltb (segment_of (outline_by job.entry) l.0 i).occurrence (loop_of (outline_by job.entry) l.0).occurrences }
 {
-    let k = plan::planned::occurrence_of(job.at, l, i);
-    let n = spec::loops::occurrence_count(job.at, l);
-    k < n
+    plan::planned::occurrence_of(job.at, l, i) < spec::loops::occurrence_count(job.at, l)
 }

@@ -2,17 +2,18 @@
 ghost use Rattle.std.specs.Prelude.{◌≡◌, ◌<◌, not, ◌||◌, eqb, ltb};
 ghost use Rattle.plan.specs.Answers.{source_of};
 ghost use Rattle.nest.specs.Lists.{is, times};
-ghost use Rattle.nest.specs.Outline.{table_of, kind_of, segment_of, plain as plainIn, repeated as repeatedIn};
+ghost use Rattle.nest.specs.Outline.{table_of, kind_of, segment_of, plain, repeated as repeatedIn};
 ghost use Rattle.nest.specs.OfJob.{source_in};
 ghost use Rattle.walk.specs.Check.{each_of, rows_of, repeat_table, if_there};
 ghost use Rattle.paths.specs.Tests.{row_loops, repeats_in, anchors_in, planned_once};
 ghost use Rattle.nest.specs.Job.{outline_by};
 
 use crate::below::{each, how_many};
-use crate::counts::{has_rows, is_repeat, is_rows, kind, loops, plain, repeated};
+use crate::counts::{has_rows, is_repeat, is_rows, kind, loops, repeated};
 use nest::Job;
 use plan::answers::Source;
 use spec::ids::{LoopId, TableId};
+use walk::is_plain;
 
 // Whether loop l is a row loop of table t.
 fn enters_rows(job: Job, l: LoopId, t: TableId) -> bool
@@ -38,14 +39,9 @@ fn row_loops(job: Job, t: TableId) -> u32
 
 // Whether a table without repeat segment has one row loop.
 pub fn one_row_loop(job: Job, t: TableId) -> bool
-    ensures { result ≡ not (plainIn (outline_by job.entry) t.0) || eqb (row_loops (outline_by job.entry) t.0) 1 }
+    ensures { result ≡ not (plain (outline_by job.entry) t.0) || eqb (row_loops (outline_by job.entry) t.0) 1 }
 {
-    let own = plain(job, t);
-    if own {
-        let n = row_loops(job, t);
-        return n == 1;
-    }
-    true
+    !is_plain(job, t) || row_loops(job, t) == 1
 }
 
 fn repeats_in(job: Job, t: TableId, l: LoopId) -> u32
@@ -61,13 +57,7 @@ fn planned_once(job: Job, t: TableId, l: LoopId) -> bool
     requires { l.0 < 32 }
     ensures { result ≡ planned_once (outline_by job.entry) t.0 l.0 }
 {
-    let k = kind(job, l);
-    let rows = has_rows(k);
-    if rows {
-        let n = repeats_in(job, t, l);
-        return n == 1;
-    }
-    true
+    !has_rows(kind(job, l)) || repeats_in(job, t, l) == 1
 }
 
 fn all_planned(job: Job, t: TableId) -> bool
@@ -84,11 +74,7 @@ fn all_planned(job: Job, t: TableId) -> bool
 pub fn repeat_planned(job: Job, t: TableId) -> bool
     ensures { result ≡ not (repeatedIn (outline_by job.entry) t.0) || each_of (table_of (outline_by job.entry) t.0).loops (planned_once (outline_by job.entry) t.0) }
 {
-    let own = repeated(job, t);
-    if own {
-        return all_planned(job, t);
-    }
-    true
+    !repeated(job, t) || all_planned(job, t)
 }
 
 // Whether table t lists loop l.
@@ -100,20 +86,12 @@ fn lists(job: Job, l: LoopId, t: TableId) -> bool
     0 < seen
 }
 
+#[tactic(auto, unfolding(crate::specs::Tests::anchors_in))]
 fn anchors(job: Job, l: LoopId, t: TableId) -> bool
     requires { l.0 < 32 }
     ensures { result ≡ anchors_in (outline_by job.entry) l.0 t.0 }
 {
-    let own = repeated(job, t);
-    if !own {
-        return false;
-    }
-    let listed = lists(job, l, t);
-    if !listed {
-        return false;
-    }
-    let k = kind(job, l);
-    has_rows(k)
+    repeated(job, t) && lists(job, l, t) && has_rows(kind(job, l))
 }
 
 fn source_anchored(job: Job, l: LoopId, s: Source) -> bool
@@ -131,6 +109,5 @@ pub fn anchored(job: Job, l: LoopId, i: u32) -> bool
     requires { l.0 < 32 }
     ensures { result ≡ if_there (repeat_table (segment_of (outline_by job.entry) l.0 i).source) (anchors_in (outline_by job.entry) l.0) }
 {
-    let s = plan::planned::source(job.at, l, i);
-    source_anchored(job, l, s)
+    source_anchored(job, l, plan::planned::source(job.at, l, i))
 }

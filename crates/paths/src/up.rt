@@ -11,8 +11,10 @@ ghost use Rattle.nest.specs.Job.{outline_by};
 
 use crate::counts::{kind, loops};
 use nest::Job;
+use nest::hang::row_table;
 use plan::answers::Instances;
 use spec::ids::{LoopId, TableId};
+use walk::parent_is;
 
 // What a step upwards gives: an end, well or not, or the loop above and the table whose row loop came last. Three ways, so neither Option nor Result is plainer.
 #[derive(Clone, Copy)]
@@ -22,18 +24,11 @@ pub enum Up {
     On(u32, u32),
 }
 
-fn parent_is(job: Job, w: TableId, v: TableId) -> bool
-    ensures { result ≡ is (table_parent (outline_by job.entry) w.0) v.0 }
-{
-    spec::tables::table_parent(job.at, w) == Some(v.0)
-}
-
 // Above a loop without parent: well where the table has none either.
 fn top(job: Job, w: TableId) -> Up
     ensures { (h : ℕ) → on (table_parent (outline_by job.entry) w.0) (λ u. false) true ≡ outcome (outline_by job.entry) h result }
 {
-    let parent = spec::tables::table_parent(job.at, w);
-    match parent {
+    match spec::tables::table_parent(job.at, w) {
         Some(_) => Up::No,
         None => Up::Top,
     }
@@ -42,20 +37,17 @@ fn top(job: Job, w: TableId) -> Up
 fn past_rows(job: Job, p: LoopId, w: TableId, v: TableId) -> Up
     ensures { (h : ℕ) → is (table_parent (outline_by job.entry) w.0) v.0 && fitsIn (outline_by job.entry) h p.0 v.0 ≡ outcome (outline_by job.entry) h result }
 {
-    let above = parent_is(job, w, v);
-    if above {
-        return Up::On(p.0, v.0);
+    if parent_is(job, w, v) {
+        Up::On(p.0, v.0)
+    } else {
+        Up::No
     }
-    Up::No
 }
 
 fn past_groups(p: LoopId, w: TableId, v: TableId) -> Up
     ensures { (j : Outline) (h : ℕ) → eqb v.0 w.0 && fitsIn j h p.0 w.0 ≡ outcome j h result }
 {
-    if v == w {
-        return Up::On(p.0, w.0);
-    }
-    Up::No
+    if v == w { Up::On(p.0, w.0) } else { Up::No }
 }
 
 fn past_kind(job: Job, p: LoopId, w: TableId, k: Instances) -> Up
@@ -75,15 +67,13 @@ fn past_loop(job: Job, p: LoopId, w: TableId) -> Up
     requires { p.0 < 32 }
     ensures { (h : ℕ) → past (outline_by job.entry) (fitsIn (outline_by job.entry) h p.0) w.0 (kind_of (outline_by job.entry) p.0) ≡ outcome (outline_by job.entry) h result }
 {
-    let k = kind(job, p);
-    past_kind(job, p, w, k)
+    past_kind(job, p, w, kind(job, p))
 }
 
 fn step_up(job: Job, l: LoopId, w: TableId) -> Up
     ensures { (h : ℕ) → fitsIn (outline_by job.entry) (suc h) l.0 w.0 ≡ outcome (outline_by job.entry) h result }
 {
-    let parent = spec::loops::loop_parent(job.at, l);
-    match parent {
+    match spec::loops::loop_parent(job.at, l) {
         Some(p) => past_loop(job, LoopId(p), w),
         None => top(job, w),
     }
@@ -112,25 +102,13 @@ fn fits(job: Job, l: LoopId, w: TableId) -> bool
     false
 }
 
-fn kind_fits(job: Job, l: LoopId, k: Instances) -> bool
-    requires { kind_in (instances_of k) ≡ kind_of (outline_by job) l.0 }
-    ensures { result ≡ row_fits (outline_by job.entry) l.0 }
-{
-    match k {
-        Instances::Absent => true,
-        Instances::Envelope => true,
-        Instances::Rows(t) => fits(job, l, t),
-        Instances::Inside(_) => true,
-        Instances::Groups(_) => true,
-        Instances::Implied => true,
-    }
-}
-
 // Whether the loops above a row loop fit its table.
 pub fn row_fits(job: Job, l: LoopId) -> bool
     requires { l.0 < 32 }
     ensures { result ≡ row_fits (outline_by job.entry) l.0 }
 {
-    let k = kind(job, l);
-    kind_fits(job, l, k)
+    match row_table(kind(job, l)) {
+        Some(t) => fits(job, l, TableId(t)),
+        None => true,
+    }
 }

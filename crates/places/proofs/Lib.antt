@@ -1,4 +1,5 @@
 pub mod Reading
+pub mod Ranking
 pub mod Whole
 pub mod Meeting
 pub mod Listing

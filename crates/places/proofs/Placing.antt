@@ -58,29 +58,29 @@ rank_plain : (o : Option ℕ) → rank o ≡ 0 → o ≡ None
 rank_plain None h = refl
 rank_plain (Some c) h = absurd (omega arith)
 
-mixed_right : (x y : Spot) → Refutes (mixed x y) ((x.rank ≡ 0 → y.rank ≡ 0) × (y.rank ≡ 0 → x.rank ≡ 0))
+mixed_right : (x y : Spot) → Refutes (mixed x y) ((rank x.component ≡ 0 → rank y.component ≡ 0) × (rank y.component ≡ 0 → rank x.component ≡ 0))
 unfolding mixed
-mixed_right x y = go (eqb x.rank 0) (eqb y.rank 0) refl refl
+mixed_right x y = go (eqb (rank x.component) 0) (eqb (rank y.component) 0) refl refl
   where
-    go : (s t : Bool) → eqb x.rank 0 ≡ s → eqb y.rank 0 ≡ t → Refutes (pick s (not t) t) ((x.rank ≡ 0 → y.rank ≡ 0) × (y.rank ≡ 0 → x.rank ≡ 0))
+    go : (s t : Bool) → eqb (rank x.component) 0 ≡ s → eqb (rank y.component) 0 ≡ t → Refutes (pick s (not t) t) ((rank x.component ≡ 0 → rank y.component ≡ 0) × (rank y.component ≡ 0 → rank x.component ≡ 0))
     go true true p q = (λ i. (λ h. eqb-true _ _ q, λ h. eqb-true _ _ p), λ i. no_way (sym i))
     go true false p q = (λ i. no_way i, λ i h. eqb-false _ _ q (h.0 (eqb-true _ _ p)))
     go false true p q = (λ i. no_way i, λ i h. eqb-false _ _ p (h.1 (eqb-true _ _ q)))
     go false false p q = (λ i. (λ h. absurd (eqb-false _ _ p h), λ h. absurd (eqb-false _ _ q h)), λ i. no_way (sym i))
 
-front_right : (x y : Spot) → Refutes (not (front x y)) ((x.element < y.element) ⊎ ((x.element ≡ y.element) × (x.rank < y.rank)))
+front_right : (x y : Spot) → Refutes (not (front x y)) ((x.element < y.element) ⊎ ((x.element ≡ y.element) × (rank x.component < rank y.component)))
 unfolding front
-front_right x y = go (ltb x.element y.element) (eqb x.element y.element) (ltb x.rank y.rank) refl refl refl
+front_right x y = go (ltb x.element y.element) (eqb x.element y.element) (ltb (rank x.component) (rank y.component)) refl refl refl
   where
-    none_of : (x.element < y.element → ⊥) → ((x.element ≡ y.element) × (x.rank < y.rank) → ⊥) → (x.element < y.element) ⊎ ((x.element ≡ y.element) × (x.rank < y.rank)) → ⊥
+    none_of : (x.element < y.element → ⊥) → ((x.element ≡ y.element) × (rank x.component < rank y.component) → ⊥) → (x.element < y.element) ⊎ ((x.element ≡ y.element) × (rank x.component < rank y.component)) → ⊥
     none_of f g (inl h) = f h
     none_of f g (inr h) = g h
 
-    go : (s t u : Bool) → ltb x.element y.element ≡ s → eqb x.element y.element ≡ t → ltb x.rank y.rank ≡ u
-        → Refutes (not (pick s true (pick t u false))) ((x.element < y.element) ⊎ ((x.element ≡ y.element) × (x.rank < y.rank)))
+    go : (s t u : Bool) → ltb x.element y.element ≡ s → eqb x.element y.element ≡ t → ltb (rank x.component) (rank y.component) ≡ u
+        → Refutes (not (pick s true (pick t u false))) ((x.element < y.element) ⊎ ((x.element ≡ y.element) × (rank x.component < rank y.component)))
     go true t u p q w = (λ i. inl (ltb-true _ _ p), λ i. no_way (sym i))
     go false true true p q w = (λ i. inr (eqb-true _ _ q, ltb-true _ _ w), λ i. no_way (sym i))
-    go false true false p q w = (λ i. no_way i, λ i. none_of (λ h. omega (arith, h, ltb-false x.element y.element p)) (λ h. omega (arith, h.1, ltb-false x.rank y.rank w)))
+    go false true false p q w = (λ i. no_way i, λ i. none_of (λ h. omega (arith, h, ltb-false x.element y.element p)) (λ h. omega (arith, h.1, ltb-false (rank x.component) (rank y.component) w)))
     go false false u p q w = (λ i. no_way i, λ i. none_of (λ h. omega (arith, h, ltb-false x.element y.element p)) (λ h. eqb-false _ _ q h.0))
 
 -- ---- two planned elements

@@ -4,7 +4,7 @@ use mathlib.Core.Path.{◌≡◌, refl, sym, ap, ◌∙◌}
 use mathlib.Core.List.{List, [], ◌∷◌}
 use mathlib.Core.Bool.{Bool, true, false, not}
 use native.Mathlib.Omega.{arith}
-use Rattle.std.specs.Prelude.{Option, None, Some}
+use Rattle.std.specs.Prelude.{Option, None, Some, is_some}
 use lib.ListN.{length}
 use lib.Dec.{eqb}
 use borrow.Author.Tests.{eq-eqb, ne_eqb}
@@ -127,15 +127,12 @@ module _ (g : ℕ → Bool) (h : Rust.Option ℕ) (depth position : ℕ) (e : h 
   unfolding if_some
   held_field_lem f r i k = let z : field_at depth position ≡ Some f = sym e ∙ i in k ∙ sym (rw z)
 
+some_present : (o : Option ℕ) → is_some o ≡ present o
+unfolding present
+some_present None = refl
+some_present (Some v) = refl
+
 -- n is what the repetition separator was read as
 module _ (j : Job) (l opener d : ℕ) (n : Option ℕ) (h : d ≡ depth_of j l) (k : n ≡ j.envelope.repetition) where
-  trigger_is : (r : Bool) → r ≡ present j.envelope.repetition → record { opener = opener; depth = d; repetition = r } ≡ trigger_of j l opener
-  trigger_is r i = rw (h, i)
-
-  pub trigger_none : n ≡ None → record { opener = opener; depth = d; repetition = false } ≡ trigger_of j l opener
-  unfolding present
-  trigger_none i = let z : j.envelope.repetition ≡ None = sym k ∙ i in trigger_is false (sym (ap (λ (o : Option ℕ). present o) z))
-
-  pub trigger_some : (v : ℕ) → n ≡ Some v → record { opener = opener; depth = d; repetition = true } ≡ trigger_of j l opener
-  unfolding present
-  trigger_some v i = let z : j.envelope.repetition ≡ Some v = sym k ∙ i in trigger_is true (sym (ap (λ (o : Option ℕ). present o) z))
+  pub trigger_is : (r : Bool) → r ≡ is_some n → record { opener = opener; depth = d; repetition = r } ≡ trigger_of j l opener
+  trigger_is r i = rw (h, i, k, some_present j.envelope.repetition)

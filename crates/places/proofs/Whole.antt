@@ -2,29 +2,27 @@
 use Prim.Native.Nat.{ℕ, ◌≤◌}
 use mathlib.Core.Path.{◌≡◌}
 use mathlib.Core.List.{List}
-use mathlib.Core.Bool.{Bool, false, not}
-use Rattle.codec.specs.Codec.{list_c, pick}
+use mathlib.Core.Bool.{Bool, not}
+use Rattle.codec.specs.Codec.{list_c}
 use Rattle.codec.specs.Skip.{count_at}
 use Rattle.codec.specs.Field.{is_list, count_list}
 use lib.ListN.{length}
 use Rattle.codec.specs.Limits.{any_of}
 use Rattle.format.specs.Words.{any_from}
-use Rattle.format.specs.Job.{Job}
 use Rattle.format.specs.Decoding.{is_read}
 use Rattle.format.specs.Plan.{loop_plan_c, plan_c}
 use Rattle.format.specs.Sections.{job_of, plan_start, layout_start}
 use Rattle.format.specs.Passed.{Passed, few}
-use Rattle.complete.specs.Complete.{CodesClear, SeparatorsAlone}
+use Rattle.complete.specs.Complete.{SeparatorsAlone}
 use Rattle.says.specs.Says.{Says}
 use Rattle.says.proofs.Walk.{section_says}
 use Rattle.complete.specs.Decides.{Decides}
-use Rattle.codes.specs.Fits.{MapsFit, RulesFit}
-use Rattle.places.specs.Fits.{Fits5, SegmentsFit}
+use Rattle.places.specs.Fits.{SegmentsFit}
 use Rattle.places.specs.Triggers.{wrong_loop_at}
 use Rattle.places.proofs.Separate.{alone_refuted}
 use Rattle.places.specs.Spots.{wrong_plan}
 use Rattle.places.proofs.Placing.{segments_refuted}
-use Rattle.codes.proofs.Laws.{decided, decide_both, decide_as}
+use Rattle.codes.proofs.Laws.{decided}
 
 -- ---- planned segments
 pub segments_decided : (b : List ℕ) → Passed b → (e at : ℕ) (t : Bool) → at ≡ plan_start b → e ≡ layout_start b
@@ -49,13 +47,3 @@ pub alone_decided : (b : List ℕ) → Passed b → (e at : ℕ) (t : Bool) → 
 alone_decided b p e at t i k s =
     let z : t ≡ any_from (wrong_loop_at (job_of b)) 0 (job_of b).plan = section_says _ _ _ _ _ _ _ _ _ s i k p.read.plan in
     rw z (decided _ _ (alone_refuted (job_of b)))
-
--- ---- all of it
-pub all_decided : (j : Job) (a b c d e f g h r : Bool) → Decides a (SegmentsFit j) → Decides b (MapsFit j) → Decides c (RulesFit j) → Decides d (SeparatorsAlone j) → Decides e (CodesClear j)
-    → f ≡ pick d e false → g ≡ pick c f false → h ≡ pick b g false → r ≡ pick a h false → Decides r (Fits5 j)
-all_decided j a b c d e f g h r ia ib ic id ie jf jg jh jr =
-    let z : r ≡ pick a (pick b (pick c (pick d e false) false) false) false = rw (jr, jh, jg, jf) in
-    rw z (decide_as _ (SegmentsFit j × (MapsFit j × (RulesFit j × (SeparatorsAlone j × CodesClear j)))) _
-    (λ q. record { segments = q.0; maps = q.1.0; rules = q.1.1.0; separators_alone = q.1.1.1.0; codes = q.1.1.1.1 })
-    (λ q. (q.segments, (q.maps, (q.rules, (q.separators_alone, q.codes)))))
-    (decide_both _ _ _ _ ia (decide_both _ _ _ _ ib (decide_both _ _ _ _ ic (decide_both _ _ _ _ id ie)))))

@@ -5,11 +5,13 @@ use Rattle.codec.specs.Codec.{pick}
 use Rattle.codec.specs.Limits.{any, any_of}
 use Rattle.format.specs.Plan.{Source, from_envelope, from_row, from_repeat, Value, from_column, from_group, from_code, ElementPlan, SegmentPlan, LoopPlan}
 use Rattle.format.specs.Job.{Job}
-use Rattle.format.specs.Ask.{capacity_of}
+use Rattle.format.specs.Ask.{capacity_of, step_of}
 use Rattle.segment.specs.Parts.{rank}
 use Rattle.complete.specs.Complete.{step_in}
 use Rattle.codes.specs.Rules.{low}
 use Rattle.places.specs.declared.spots.Spot.{Spot}
+use Rattle.places.specs.declared.spots.Filled.{Filled}
+use Rattle.places.specs.declared.spots.Filled.TheVariants.{Envelope, Row, Repeat}
 
 -- how many rows of a chunk of `room` rows fill a planned element
 abbrev pub reach_of : ℕ → Value → ℕ
@@ -17,9 +19,9 @@ reach_of room (from_column c) = 1
 reach_of room (from_group c) = room
 reach_of room (from_code t) = 1
 
--- a planned element's first place, 0 for no component and one more than the component else, and how many rows fill it
+-- a planned element's first place, and how many rows fill it
 abbrev pub spot_of : ℕ → ElementPlan → Spot
-spot_of room e = record { element = e.element; rank = rank e.component; reach = reach_of room e.value }
+spot_of room e = record { element = e.element; component = e.component; reach = reach_of room e.value }
 
 -- ---- two planned elements of one segment
 
@@ -33,11 +35,11 @@ meet step x y = pick (leb x.element y.element) (hits step x.reach x.element y.el
 
 -- one is plain and the other a component
 unfoldable pub mixed : Spot → Spot → Bool
-mixed x y = pick (eqb x.rank 0) (not (eqb y.rank 0)) (eqb y.rank 0)
+mixed x y = pick (eqb (rank x.component) 0) (not (eqb (rank y.component) 0)) (eqb (rank y.component) 0)
 
 -- the place of x is in front of that of y
 unfoldable pub front : Spot → Spot → Bool
-front x y = pick (ltb x.element y.element) true (pick (eqb x.element y.element) (ltb x.rank y.rank) false)
+front x y = pick (ltb x.element y.element) true (pick (eqb x.element y.element) (ltb (rank x.component) (rank y.component)) false)
 
 -- by what fills the segment: an envelope 0, a row 1, repeat rows 2
 abbrev pub kind_of : Source → ℕ
@@ -47,14 +49,14 @@ kind_of (from_repeat t) = 2
 
 -- row segments' places rise, a repeat segment's don't collide; m says whether they meet
 unfoldable pub misplaced : ℕ → Bool → Spot → Spot → Bool
-misplaced kind m x y = pick (eqb kind 1) (not (front x y)) (pick (eqb kind 2) (pick m (eqb x.rank y.rank) false) false)
+misplaced kind m x y = pick (eqb kind 1) (not (front x y)) (pick (eqb kind 2) (pick m (eqb (rank x.component) (rank y.component)) false) false)
 
 unfoldable pub clash : ℕ → ℕ → Spot → Spot → Bool
 clash kind step x y = any (misplaced kind (meet step x y) x y ∷ pick (meet step x y) (mixed x y) false ∷ [])
 
 -- ---- one: places start at 1, and its rows' places differ
 unfoldable pub wrong_spot : ℕ → Spot → Bool
-wrong_spot step x = any (low x.element ∷ eqb x.rank 1 ∷ pick (eqb step 0) (ltb 1 x.reach) false ∷ [])
+wrong_spot step x = any (low x.element ∷ eqb (rank x.component) 1 ∷ pick (eqb step 0) (ltb 1 x.reach) false ∷ [])
 
 -- ---- the elements of a segment
 
@@ -81,6 +83,27 @@ abbrev pub room_in : Job → Source → ℕ
 room_in j from_envelope = 1
 room_in j (from_row t) = 1
 room_in j (from_repeat t) = max 1 (capacity_of j t)
+
+-- what fills a segment, as code keeps it, and its three numbers
+abbrev pub filled_of : Job → Source → Filled
+filled_of j from_envelope = Envelope
+filled_of j (from_row t) = Row
+filled_of j (from_repeat t) = Repeat (step_of j t) (max 1 (capacity_of j t))
+
+abbrev pub kind_by : Filled → ℕ
+kind_by Envelope = 0
+kind_by Row = 1
+kind_by (Repeat step room) = 2
+
+abbrev pub step_by : Filled → ℕ
+step_by Envelope = 0
+step_by Row = 0
+step_by (Repeat step room) = step
+
+abbrev pub room_by : Filled → ℕ
+room_by Envelope = 1
+room_by Row = 1
+room_by (Repeat step room) = room
 
 unfoldable pub wrong_segment : Job → SegmentPlan → Bool
 wrong_segment j p = wrong_spots (kind_of p.source) (step_in j p.source) (room_in j p.source) p.elements

@@ -1,44 +1,44 @@
 // Condition 5 of a complete plan (document 01): places, separators and codes, judged where the job stands.
 #![tactic(auto)]
 
+mod job_section;
 mod spots;
 mod triggers;
 
-ghost use Rattle.std.specs.Prelude.{length, ◌≡◌, false};
-ghost use Rattle.codec.specs.Codec.{pick};
+ghost use Rattle.std.specs.Prelude.{length, ◌≡◌};
+ghost use Rattle.format.specs.Sections.{layout_start};
 ghost use Rattle.complete.specs.Decides.{Decides};
 ghost use Rattle.complete.specs.Complete.{SeparatorsAlone};
 ghost use Rattle.places.specs.Fits.{Fits5, SegmentsFit};
 ghost use Rattle.nest.specs.Job.{job_by};
 
+use crate::job_section::JobSection;
 use codec::Section;
 use codes::{codes_clear, maps_fit, rules_fit};
 use nest::Job;
 use spec::read::start;
 
-fn both(x: bool, y: bool) -> bool
-    ensures { result ≡ pick x y false }
+// The section of a job's plan.
+fn plan_of(job: Job) -> JobSection
+    ensures bytes { result.section.bytes.now ≡ job.entry.at.bytes.now }
+    ensures job { result.job.at.bytes.now ≡ job.entry.at.bytes.now }
+    ensures end { result.section.end ≡ layout_start job.entry.at.bytes.now }
 {
-    if x {
-        return y;
+    JobSection {
+        section: Section {
+            bytes: job.at.bytes,
+            end: start(job.at.bytes, 8),
+        },
+        job,
     }
-    false
 }
 
 // The places of planned segments.
 pub fn segments_fit(job: Job) -> bool
     ensures { Decides result (SegmentsFit (job_by job.entry)) }
 {
-    let plan = start(job.at.bytes, 4);
-    let layout = start(job.at.bytes, 8);
-    !spots::plans_wrong(
-        Section {
-            bytes: job.at.bytes,
-            end: layout,
-        },
-        job.at.index,
-        plan as usize,
-    )
+    let at = start(job.at.bytes, 4);
+    !spots::plans_wrong(plan_of(job), at as usize)
 }
 
 // Envelope fields that give a separator.
@@ -46,16 +46,8 @@ pub fn separators_alone(job: Job) -> bool
     requires { length (job_by job).plan ≡ length (job_by job).spec.loops }
     ensures { Decides result (SeparatorsAlone (job_by job.entry)) }
 {
-    let plan = start(job.at.bytes, 4);
-    let layout = start(job.at.bytes, 8);
-    !triggers::loops_wrong(
-        Section {
-            bytes: job.at.bytes,
-            end: layout,
-        },
-        job.at.index,
-        plan as usize,
-    )
+    let at = start(job.at.bytes, 4);
+    !triggers::loops_wrong(plan_of(job), at as usize)
 }
 
 // Condition 5, where the plan has one entry a loop.
@@ -68,5 +60,5 @@ pub fn places_fit(job: Job) -> bool
     let segments = segments_fit(job);
     let codes = codes_clear(job);
     let alone = separators_alone(job);
-    both(segments, both(maps, both(rules, both(alone, codes))))
+    segments && maps && rules && alone && codes
 }

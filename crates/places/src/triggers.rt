@@ -7,19 +7,16 @@ ghost use Rattle.codec.specs.Limits.{any_of};
 ghost use Rattle.format.specs.Words.{any_from, if_some};
 ghost use Rattle.format.specs.Spec.{element_c, SegmentDef};
 ghost use Rattle.format.specs.Plan.{ElementPlan, element_plan_c, loop_plan_c, segment_plan_c};
-ghost use Rattle.format.specs.Sections.{job_of};
 ghost use Rattle.emit.specs.Envelope.{field_at};
-ghost use Rattle.nest.specs.Ready.{Ready};
 ghost use Rattle.says.specs.Says.{Says};
 ghost use Rattle.places.specs.Triggers.{crowded, field_gives, gives, part_of, trigger_of, wrong_element, wrong_loop_at, wrong_ruled, wrong_trigger};
 ghost use Rattle.nest.specs.Job.{job_by};
 
-use crate::both;
+use crate::job_section::JobSection;
 use codec::forms::{Le, NumMap};
 use codec::{Form, Section};
 use format::{Component, Element, Instances, LoopPlan, SegmentPlan, Source};
 use nest::Job;
-use spec::Indexed;
 use spec::ids::{ControlRule, LoopId};
 
 // What an element of a trigger is judged by: the element of the control number, the depth, and whether there is a repetition separator.
@@ -35,20 +32,17 @@ pub struct Trigger {
 fn field_gives(repeated: bool, plain: bool, f: u8) -> bool
     ensures { result ≡ field_gives repeated plain f }
 {
-    if f == 11 {
-        return true;
+    match f {
+        11 => true,
+        10 => plain && repeated,
+        _ => false,
     }
-    if f == 10 {
-        return both(plain, repeated);
-    }
-    false
 }
 
 fn position_gives(depth: usize, repeated: bool, plain: bool, position: u32) -> bool
     ensures { result ≡ if_some (field_gives repeated plain) (field_at depth position) }
 {
-    let h = emit::envelope::field_at(depth, position);
-    match h {
+    match emit::envelope::field_at(depth, position) {
         None => false,
         Some(f) => field_gives(repeated, plain, f),
     }
@@ -57,18 +51,12 @@ fn position_gives(depth: usize, repeated: bool, plain: bool, position: u32) -> b
 fn element_gives(s: Section, at: usize, t: Trigger) -> bool
     ensures { Says (num_c ⊗ element_c) s.entry.bytes.now s.entry.end at (gives t) result }
 {
-    let opener = t.opener;
-    let depth = t.depth;
-    let repeated = t.repetition;
     let value = s.le_at(4, at);
     let max = format::sizes_end(s, value);
     let codes = NumMap::<Component>::ends_at(s, max);
     let n = s.count_at(at);
     let m = s.count_at(codes);
-    if n == opener {
-        return false;
-    }
-    position_gives(depth, repeated, m == 0, n as u32)
+    n != t.opener && position_gives(t.depth, t.repetition, m == 0, n as u32)
 }
 
 // ---- elements with components
@@ -78,7 +66,7 @@ fn part_at(s: Section, at: usize, n: usize) -> bool
 {
     let component = s.le_at(4, at);
     let e = s.count_at(at);
-    both(e == n, s.case(component) == Some(1))
+    e == n && s.case(component) == Some(1)
 }
 
 fn parts_at(s: Section, at: usize, n: usize) -> bool
@@ -95,16 +83,13 @@ fn crowded_at(s: Section, at: usize, own: usize, plan: Section) -> bool
     let max = format::sizes_end(s, value);
     let m = s.count_at(max);
     let n = s.count_at(at);
-    let x = parts_at(plan, own, n);
-    codec::either(m != 0, x)
+    m != 0 || parts_at(plan, own, n)
 }
 
 fn element_wrong(s: Section, at: usize, t: Trigger, own: usize, plan: Section) -> bool
     ensures { (es : List ElementPlan) → Is (list_c element_plan_c) plan.entry.bytes.now plan.entry.end own es → Says (num_c ⊗ element_c) s.entry.bytes.now s.entry.end at (wrong_element t es) result }
 {
-    let x = element_gives(s, at, t);
-    let y = crowded_at(s, at, own, plan);
-    both(x, y)
+    element_gives(s, at, t) && crowded_at(s, at, own, plan)
 }
 
 fn elements_wrong(s: Section, at: usize, t: Trigger, own: usize, plan: Section) -> bool
@@ -120,10 +105,7 @@ fn trigger_wrong(s: Section, at: usize, t: Trigger, defs: usize, spec: Section) 
 {
     let source = s.le_at(4, at);
     let elements = Source::ends_at(s, source);
-    if s.case(source) == Some(0) {
-        return elements_wrong(spec, defs, t, elements, s);
-    }
-    false
+    s.case(source) == Some(0) && elements_wrong(spec, defs, t, elements, s)
 }
 
 fn triggers_wrong(s: Section, at: usize, t: Trigger, defs: usize, spec: Section) -> bool
@@ -138,85 +120,45 @@ fn trigger_of(job: Job, l: LoopId, opener: usize) -> Trigger
     requires { l.0 < 32 }
     ensures { result ≡ trigger_of (job_by job.entry) l.0 opener }
 {
-    let depth = plan::layout::depth(job.at, l) as usize;
-    let repetition = spec::envelope::repetition(job.at);
-    match repetition {
-        None => Trigger {
-            opener: opener,
-            depth: depth,
-            repetition: false,
-        },
-        Some(b) => Trigger {
-            opener: opener,
-            depth: depth,
-            repetition: true,
-        },
-    }
-}
-
-fn ruled_wrong(s: Section, index: &[u16], at: usize, l: LoopId, opener: usize) -> bool
-    requires { Ready s.bytes.now index.now × (l.0 < 32) }
-    ensures { Says loop_plan_c s.entry.bytes.now s.entry.end at (wrong_ruled (job_of s.entry.bytes.now) l.0 opener) result }
-{
-    let t = trigger_of(
-        Job {
-            at: Indexed {
-                bytes: s.bytes,
-                index,
-            },
-        },
-        l,
+    Trigger {
         opener,
-    );
-    let spec = Section {
-        bytes: s.bytes,
-        end: spec::read::spec_end(s.bytes),
-    };
-    let segments = Instances::ends_at(s, at);
-    let name = spec::loops::trigger(
-        Indexed {
-            bytes: s.bytes,
-            index,
-        },
-        l,
-    );
-    let place = spec::segments::elements_of(
-        Indexed {
-            bytes: s.bytes,
-            index,
-        },
-        name,
-    );
-    match place {
-        None => false,
-        Some(q) => triggers_wrong(s, segments, t, q, spec),
+        depth: plan::layout::depth(job.at, l) as usize,
+        repetition: spec::envelope::repetition(job.at).is_some(),
     }
 }
 
-fn loop_wrong(s: Section, index: &[u16], at: usize, l: LoopId) -> bool
-    requires { Ready s.bytes.now index.now × (l.0 < 32) }
-    ensures { Says loop_plan_c s.entry.bytes.now s.entry.end at (wrong_loop_at (job_of s.entry.bytes.now) l.0) result }
+fn ruled_wrong(part: JobSection, at: usize, l: LoopId, opener: usize) -> bool
+    requires { l.0 < 32 }
+    ensures { Says loop_plan_c part.entry.section.bytes.now part.entry.section.end at (wrong_ruled (job_by part.entry.job) l.0 opener) result }
 {
-    let c = spec::loops::control(
-        Indexed {
-            bytes: s.bytes,
-            index,
-        },
-        l,
-    );
-    match c {
+    let job = part.job.at;
+    let t = trigger_of(part.job, l, opener);
+    let spec = spec::read::spec_of(job.bytes);
+    let segments = Instances::ends_at(part.section, at);
+    let name = spec::loops::trigger(job, l);
+    match spec::segments::elements_of(job, name) {
         None => false,
-        Some(rule) => ruled_wrong(s, index, at, l, rule.opener as usize),
+        Some(q) => triggers_wrong(part.section, segments, t, q, spec),
     }
 }
 
-pub fn loops_wrong(s: Section, index: &[u16], at: usize) -> bool
-    requires { Ready s.bytes.now index.now × (count_at s.bytes.now at s.end ≤ 32) }
-    ensures { Says (list_c loop_plan_c) s.entry.bytes.now s.entry.end at (any_from (wrong_loop_at (job_of s.entry.bytes.now)) 0) result }
+fn loop_wrong(part: JobSection, at: usize, l: LoopId) -> bool
+    requires { l.0 < 32 }
+    ensures { Says loop_plan_c part.entry.section.bytes.now part.entry.section.end at (wrong_loop_at (job_by part.entry.job) l.0) result }
+{
+    match spec::loops::control(part.job.at, l) {
+        None => false,
+        Some(rule) => ruled_wrong(part, at, l, rule.opener as usize),
+    }
+}
+
+pub fn loops_wrong(part: JobSection, at: usize) -> bool
+    requires { count_at part.section.bytes.now at part.section.end ≤ 32 }
+    ensures { Says (list_c loop_plan_c) part.entry.section.bytes.now part.entry.section.end at (any_from (wrong_loop_at (job_by part.entry.job)) 0) result }
 {
     says::lists::any_numbered::<LoopPlan, _>(
-        s,
+        part.section,
         at,
-        |k, p| loop_wrong(s, index, p, LoopId(k as u32)),
+        |k, p| loop_wrong(part, p, LoopId(k as u32)),
     )
 }

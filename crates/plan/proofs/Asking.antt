@@ -9,13 +9,13 @@ use lib.ListN.{length, get_or, get_or-eq_default}
 use lib.Dec.{leb, ltb, eqb}
 use borrow.Author.Tests.{le-leb, lt-leb, le-ltb, lt-ltb, leb-true, leb-false, ltb-true, ltb-false}
 use Rattle.codec.specs.Codec.{Codec, le, list_c}
-use Rattle.codec.specs.Skip.{Is}
+use Rattle.codec.specs.Skip.{skip, Is}
 use Rattle.codec.specs.Forms.{num_c, opt_c, flag_c}
 use Rattle.codec.specs.Field.{is_at, is_list, count_of}
-use Rattle.format.specs.Plan.{LoopPlan, no_loop_plan, loop_plan_c, SegmentPlan, no_segment_plan, segment_plan_c, element_plan_c}
+use Rattle.format.specs.Plan.{LoopPlan, no_loop_plan, loop_plan_c, SegmentPlan, no_segment_plan, segment_plan_c, source_c, element_plan_c}
 use Rattle.format.specs.Layout.{item_c}
 use Rattle.format.specs.Sections.{job_of, layout_start, envelope_start}
-use Rattle.format.specs.Fields.{LoopPlanIs, is_loop_plan}
+use Rattle.format.specs.Fields.{LoopPlanIs, is_loop_plan, SegmentPlanIs, is_segment_plan}
 use Rattle.format.specs.Ask.{on, plan_of, planned_of, order_of, forced_of, group_columns_of, depth_of, capacity_of}
 use Rattle.plan.specs.Answers.{no_item}
 use Rattle.spec.specs.Region.{Listed}
@@ -103,6 +103,12 @@ module _ (b idx : List ℕ) (x : PlanIndexed b idx) where
           go : (t : Bool) → ltb l (length (job_of b).plan) ≡ t → Is segment_plan_c b (layout_start b) p (planned_of (job_of b) l i)
           go true r = is_at segment_plan_c b (layout_start b) p _ _ q ((x.segments l (ltb-true _ _ r) o).item i no_segment_plan (rw h at m) (omega (arith, x.few l)))
           go false r = absurd (let z : length (plan_of (job_of b) l).segments ≡ 0 = ap (λ (s : LoopPlan). length s.segments) (get_or-eq_default (job_of b).plan no_loop_plan {n = l} (ltb-false _ _ r)) in omega arith)
+
+      pub source_is : Is source_c b (layout_start b) (p + 4) (planned_of (job_of b) l i).source
+      source_is =
+          let f : SegmentPlanIs b (layout_start b) p (planned_of (job_of b) l i) = is_segment_plan b (layout_start b) p _ planned_is in
+          let s : skip num_c b p (layout_start b) ≡ p + 4 = wide_number b (layout_start b) p _ f.occurrence in
+          rw s at f.source
 
   -- ---- the layout
   module _ (l : ℕ) (m : l < 32) where

@@ -9,7 +9,7 @@ use codec::forms::{Flag, Items, Le, Les, Opt};
 use codec::{Form, Section};
 use format::{Instances, Item, LoopPlan, SegmentPlan};
 use spec::Indexed;
-use spec::read::start;
+use spec::read::{section, start};
 use spec::region::list_into;
 
 // Where the 33 numbers of each list begin:
@@ -69,23 +69,8 @@ pub fn fill(job: &[u8], index: &mut [u16])
 {
     let plan = start(job, 4);
     let layout = start(job, 8);
-    let envelope = start(job, 12);
-    plan_into(
-        Section {
-            bytes: job,
-            end: layout,
-        },
-        index,
-        plan as usize,
-    );
-    layout_into(
-        Section {
-            bytes: job,
-            end: envelope,
-        },
-        index,
-        layout as usize,
-    );
+    plan_into(section(job, 8), index, plan as usize);
+    layout_into(section(job, 12), index, layout as usize);
 }
 
 // How many items the list has whose place is number k of the index.

@@ -14,25 +14,26 @@ use spec::ids::{LoopId, TableId};
 use spec::read::{item_at, number_at};
 use spec::region::item_place;
 
-// How many items the order of a loop has.
-pub fn order_count(job: Indexed, l: LoopId) -> u32
-    requires { PlanIndexed job.bytes.now job.index.now × (l.0 < 32) }
-    ensures { result ≡ length (order_of (job_of job.entry.bytes.now) l.0) }
-{
-    read::inner_count(job, ORDER, l.0)
-}
-
 // The order of a loop.
 pub fn order(job: Indexed, l: LoopId) -> Order
     requires { PlanIndexed job.bytes.now job.index.now × (l.0 < 32) }
     ensures { OrderIs job.entry.bytes.now l.0 result }
 {
-    let count = order_count(job, l);
-    let p = codec::place(job.index, ORDER + 1 + l.0 as usize);
-    Order {
-        count,
-        first: p + 4,
+    match item_place(job, ORDER, l.0) {
+        None => Order { count: 0, first: 0 },
+        Some(p) => Order {
+            count: codec::num(job.bytes, p) as u32,
+            first: p + 4,
+        },
     }
+}
+
+// How many items the order of a loop has.
+pub fn order_count(job: Indexed, l: LoopId) -> u32
+    requires { PlanIndexed job.bytes.now job.index.now × (l.0 < 32) }
+    ensures { result ≡ length (order_of (job_of job.entry.bytes.now) l.0) }
+{
+    order(job, l).count
 }
 
 // Item k of an order.
@@ -49,6 +50,7 @@ pub fn item(job: Indexed, l: LoopId, k: u32) -> Item
     ensures { item_of result ≡ get_or (order_of (job_of job.entry.bytes.now) l.0) k no_item }
 {
     let o = order(job, l);
+    // an Option would be no plainer: past the order's end the definitions go by this item (`no_item`)
     if o.count <= k {
         return Item::Segment(0);
     }
@@ -60,13 +62,14 @@ pub fn forced(job: Indexed, l: LoopId, i: u32) -> bool
     requires { PlanIndexed job.bytes.now job.index.now × (l.0 < 32) }
     ensures { result ≡ forced_of (job_of job.entry.bytes.now) l.0 i }
 {
-    let n = read::inner_count(job, FORCED, l.0);
-    if n <= i {
-        return false;
+    match item_place(job, FORCED, l.0) {
+        None => false,
+        Some(p) => {
+            let n = codec::num(job.bytes, p);
+            let mark = codec::byte_at(job.bytes, p + 4 + i as usize);
+            (i as usize) < n && mark == 1
+        }
     }
-    let p = codec::place(job.index, FORCED + 1 + l.0 as usize);
-    let mark = codec::byte_at(job.bytes, p + 4 + i as usize);
-    mark == 1
 }
 
 // How many columns make the groups of a loop.
@@ -77,7 +80,7 @@ pub fn group_column_count(job: Indexed, l: LoopId) -> u32
     read::inner_count(job, COLUMNS, l.0)
 }
 
-// Group column k of a loop.
+// Group column k of a loop, 0 past the last, as `get_or` tells it.
 pub fn group_column(job: Indexed, l: LoopId, k: u32) -> u32
     requires { PlanIndexed job.bytes.now job.index.now × (l.0 < 32) }
     ensures { result ≡ get_or (group_columns_of (job_of job.entry.bytes.now) l.0) k 0 }
@@ -88,7 +91,7 @@ pub fn group_column(job: Indexed, l: LoopId, k: u32) -> u32
     }
 }
 
-// The depth of a loop among the envelope loops; 0 where it has none.
+// The depth of a loop among the envelope loops; 0 where it has none, as `depth_of` tells it.
 pub fn depth(job: Indexed, l: LoopId) -> u32
     requires { PlanIndexed job.bytes.now job.index.now × (l.0 < 32) }
     ensures { result ≡ depth_of (job_of job.entry.bytes.now) l.0 }

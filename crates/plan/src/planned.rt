@@ -7,7 +7,7 @@ ghost use Rattle.plan.specs.Index.{PlanIndexed};
 ghost use Rattle.plan.specs.Planned.{PlannedIs};
 
 use crate::answers::{Instances, Planned, Source};
-use crate::index::{PLAN, SEGMENTS};
+use crate::index::{PLAN, SEGMENTS, list_count};
 use crate::read;
 use spec::Indexed;
 use spec::ids::LoopId;
@@ -29,14 +29,10 @@ pub fn planned_count(job: Indexed, l: LoopId) -> u32
     requires { PlanIndexed job.bytes.now job.index.now × (l.0 < 32) }
     ensures { result ≡ length (plan_of (job_of job.entry.bytes.now) l.0).segments }
 {
-    let i = l.0 as usize;
-    let list = codec::place(job.index, PLAN);
-    let n = codec::num(job.bytes, list);
-    if n <= i {
-        return 0;
+    match item_place(job, PLAN, l.0) {
+        None => 0,
+        Some(_) => list_count(job, SEGMENTS + l.0 as usize * 33),
     }
-    let p = codec::place(job.index, SEGMENTS + i * 33);
-    codec::num(job.bytes, p) as u32
 }
 
 // What fills planned segment i of a loop.
@@ -44,7 +40,12 @@ pub fn source(job: Indexed, l: LoopId, i: u32) -> Source
     requires { PlanIndexed job.bytes.now job.index.now × (l.0 < 32) }
     ensures { source_of result ≡ (planned_of (job_of job.entry.bytes.now) l.0 i).source }
 {
-    segment(job, l, i).source
+    let n = planned_count(job, l);
+    if n <= i {
+        return Source::Envelope;
+    }
+    let p = codec::place(job.index, SEGMENTS + l.0 as usize * 33 + 1 + i as usize);
+    read::source_at(job.bytes, p + 4)
 }
 
 // Which occurrence of its loop planned segment i is.

@@ -1,9 +1,10 @@
-// What stands at a place, read there: each answer is that of whatever structure stands there.
+// What stands at a place, read there: each answer is that of whatever structure stands there. The bound on a place is each function's own: places
+// further into a structure have higher ones, and a type for one bound would ask of every caller that it makes such a place.
 ghost use Rattle.std.specs.Prelude.{◌≡◌, ℕ, ◌+◌, ◌≤◌, ◌<◌, length};
 ghost use Rattle.codec.specs.Skip.{Is};
-ghost use Rattle.format.specs.Plan.{Instances as InstancesIn, instances_c, Value as ValueIn, value_c, ElementPlan as ElementPlanIn, element_plan_c, SegmentPlan as SegmentPlanIn, segment_plan_c};
+ghost use Rattle.format.specs.Plan.{Instances as InstancesIn, instances_c, Source as SourceIn, source_c, Value as ValueIn, value_c, ElementPlan as ElementPlanIn, element_plan_c, SegmentPlan as SegmentPlanIn, segment_plan_c};
 ghost use Rattle.format.specs.Layout.{Item as ItemIn, item_c};
-ghost use Rattle.plan.specs.Answers.{instances_of, item_of, ElementRead, ValueRead};
+ghost use Rattle.plan.specs.Answers.{instances_of, source_of, item_of, ElementRead, ValueRead};
 ghost use Rattle.plan.specs.Index.{inner_count};
 ghost use Rattle.plan.specs.Planned.{unplanned, SegmentRead};
 
@@ -32,6 +33,22 @@ pub fn instances_at(job: &[u8], at: usize) -> Instances
     }
 }
 
+// The source that stands at a place.
+pub fn source_at(job: &[u8], at: usize) -> Source
+    requires { at < 4294967304 }
+    ensures { (e : ℕ) (v : SourceIn) → Is source_c job.now e at v → source_of result ≡ v }
+{
+    let t = codec::byte_at(job, at);
+    let n = codec::num(job, at + 1);
+    if t == 0 {
+        return Source::Envelope;
+    }
+    if t == 1 {
+        return Source::Row(TableId(n as u32));
+    }
+    Source::Repeat(TableId(n as u32))
+}
+
 // What stands for a planned segment that is not there.
 pub fn unplanned() -> Planned
     ensures { result ≡ unplanned }
@@ -45,7 +62,8 @@ pub fn unplanned() -> Planned
     }
 }
 
-// The planned segment that stands at a place. Two tests of the job's length spare those of each read.
+// The planned segment that stands at a place. Two tests of the job's length spare those of each read, as `source_at` makes them: the source is told here
+// again.
 pub fn segment_at(job: &[u8], at: usize) -> Planned
     requires { at < 4294967296 }
     ensures { (e : ℕ) (v : SegmentPlanIn) → e ≤ length job.now → Is segment_plan_c job.now e at v → SegmentRead job.now e v result }
@@ -132,7 +150,9 @@ fn unplanned_element() -> ElementPlan {
     }
 }
 
-// The planned element that stands at a place, and the place behind it. Two tests of the job's length spare those of each read.
+// The planned element that stands at a place, and the place behind it. Two tests of the job's length spare those of each read. The callers' loops
+// over the elements are no one function: each keeps a state of its own from element to element, with a clause of its own on it, so that the closure and
+// its clause would be as long as the loop.
 pub fn element_at(job: &[u8], at: usize) -> ElementPlan
     requires { at < 4294967296 }
     ensures { (e : ℕ) (v : ElementPlanIn) → e ≤ length job.now → Is element_plan_c job.now e at v → ElementRead job.now e at v result }
@@ -152,6 +172,7 @@ pub fn element_at(job: &[u8], at: usize) -> ElementPlan
     value_at(job, element, Some(component), at + 9)
 }
 
+// The item that stands at a place. Where the job ends before, any item will do, as none stands there: no Option, for the same reason as above.
 pub fn item_at(job: &[u8], at: usize) -> Item
     requires { at < 1099511627776 }
     ensures { (e : ℕ) (v : ItemIn) → e ≤ length job.now → Is item_c job.now e at v → item_of result ≡ v }

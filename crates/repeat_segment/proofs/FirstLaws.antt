@@ -1,10 +1,11 @@
 -- The first part at a place: by the lowest row number, then by the first planned element.
 use Prim.Native.Nat.{ℕ, zero, suc, ◌+◌, ◌≤◌, ◌<◌}
 use mathlib.Core.Path.{◌≡◌, refl, ap, ◌∙◌}
-use mathlib.Core.Bool.{Bool, true, false}
+use mathlib.Core.Bool.{Bool, true, false, false≢true}
 use mathlib.Core.List.{List, [], ◌∷◌, ◌++◌}
 use native.Mathlib.Omega.{arith}
 use Rattle.std.specs.Prelude.{Option, None, Some}
+use Rattle.std.specs.Option.{option_eq}
 use lib.Dec.{eqb, ltb}
 use lib.ListN.{get_or, take}
 use borrow.Author.Tests.{eq-eqb, ne_eqb, eqb-true, eqb-false, lt-ltb, le-ltb, ltb-true, ltb-false}
@@ -22,6 +23,19 @@ use Rattle.repeat_segment.specs.Planned.{plans_of, Of, Along, Read}
 use Rattle.repeat_segment.specs.Places.{place_in, text_in, element_put, row_puts, parts_from, parts_of, Earlier, taken, kept, found_text}
 use Rattle.repeat_segment.proofs.Steps.{take_next, take_end, along_first, row_snoc}
 use Rattle.repeat_segment.proofs.PlaceLaws.{element_parts}
+
+-- components are equal where their ranks are
+pub rank_same : (c d : Option ℕ) → option_eq eqb c d ≡ true → rank c ≡ rank d
+rank_same None None e = refl
+rank_same None (Some d) e = absurd (false≢true e)
+rank_same (Some c) None e = absurd (false≢true e)
+rank_same (Some c) (Some d) e = ap suc (eqb-true c d e)
+
+pub same_rank : (c d : Option ℕ) → rank c ≡ rank d → option_eq eqb c d ≡ true
+same_rank None None e = refl
+same_rank None (Some d) e = absurd (omega (arith, e))
+same_rank (Some c) None e = absurd (omega (arith, e))
+same_rank (Some c) (Some d) e = eq-eqb c d (omega (arith, e))
 
 -- a component as findings have it is its rank
 pub word_rank : (c : Option ℕ) → or_zero c ≡ rank c

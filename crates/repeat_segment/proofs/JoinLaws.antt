@@ -2,11 +2,12 @@
 use Prim.Native.Nat.{ℕ, zero, suc, ◌+◌, ◌≤◌, ◌<◌}
 use mathlib.Core.Path.{◌≡◌, refl, ap, ◌∙◌}
 use mathlib.Core.Bool.{true, false}
-use mathlib.Core.List.{List, [], ◌∷◌, ◌++◌}
+use mathlib.Core.List.{List, [], ◌++◌}
 use native.Mathlib.Omega.{arith}
 use Rattle.std.specs.Prelude.{None, Some}
 use lib.ListN.{length, get_or, take, drop}
 use lib.Seq.{drop-cons}
+use Rattle.std.proofs.Math.Seq.{take-length}
 use Rattle.lent.specs.Fit.{cap, stretch, Stored}
 use Rattle.format.specs.Plan.{ElementPlan}
 use Rattle.format.specs.Sections.{job_of}
@@ -79,15 +80,11 @@ module _ {d d₁ : List ℕ} {at last : ℕ} {pen : Pen} (sep : Separators) (b :
   pub chunk_stuck : {d₂ : List ℕ} {e : ℕ} → zero_free parts ≡ false → Stored d₁ pen.at (closing sep pen last) e d₂ → Stored d at (joined sep (id_of b s) (sorted parts)) e d₂
   chunk_stuck f q = stuck_run_stored sep (id_of b s) parts fits f (named b s o w) (rw l at q)
 
-pub source_first : (t r count : ℕ) (rows : List ℕ) → (count ≡ 0 → ⊥) → count ≤ length rows → r ≡ get_or rows 0 0 → Some (t, r) ≡ first_row t (take count rows)
-source_first t r zero rows h i e = absurd (h refl)
-source_first t r (suc count) [] h i e = absurd (omega arith)
-source_first t r (suc count) (x ∷ rows) h i e = rw e refl
-
-pub did_chunk : {n : Counts} {d d' g g' : List ℕ} {at : ℕ} (b : List ℕ) (s : Planned) (rows : List ℕ) (count : ℕ) (state : Counts) (sep : Separators) (from : From) → Of b s → count ≤ length rows → Within state
-    → separators_of (job_of b) ≡ sep → row_in from ≡ first_row s.table.0 (take count rows) → Stored d state.bytes (joined sep (id_of b s) (sorted (parts_of b s rows count))) at d'
-    → Finished from 0 at state.findings state n g g' → (f p : List ℕ) → DidCounts (chunk_out (job_of b) s.l.0 s.i s.table.0 (take count rows)) state n d d' g g' f f p p
+pub did_chunk : {n : Counts} {d d' g g' : List ℕ} {at : ℕ} (b : List ℕ) (s : Planned) (rows : List ℕ) (state : Counts) (sep : Separators) (from : From) → Of b s → Within state
+    → separators_of (job_of b) ≡ sep → row_in from ≡ first_row s.table.0 rows → Stored d state.bytes (joined sep (id_of b s) (sorted (parts_of b s rows (length rows)))) at d'
+    → Finished from 0 at state.findings state n g g' → (f p : List ℕ) → DidCounts (chunk_out (job_of b) s.l.0 s.i s.table.0 rows) state n d d' g g' f f p p
 unfolding chunk_out
-did_chunk b s rows count state sep from o c h q y x z f p high counter =
-    rw (← o.step, chunk_parts b s rows (plans_of b s) count c, ← y)
-    (did_segment (job_of b) (id_of b s) (sorted (parts_of b s rows count)) [] 0 from h (rw q x) (none_stored (still state.findings h.findings)) z high counter)
+did_chunk b s rows state sep from o h q y x z f p high counter =
+    let e = rw (take-length rows) at (chunk_parts b s rows (plans_of b s) (length rows) (omega arith)) in
+    rw (← o.step, e, ← y)
+    (did_segment (job_of b) (id_of b s) (sorted (parts_of b s rows (length rows))) [] 0 from h (rw q x) (none_stored (still state.findings h.findings)) z high counter)

@@ -5,8 +5,10 @@ ghost use Rattle.segment.specs.Calls.{zero_free};
 ghost use Rattle.plan.specs.Answers.{element_of};
 ghost use Rattle.emit.specs.Puts.{part_at};
 ghost use Rattle.repeat_segment.specs.Planned.{Of, plans_of};
+ghost use Rattle.repeat_segment.specs.Chunk.{parts_in};
 ghost use Rattle.repeat_segment.specs.Places.{text_in, element_put, parts_from, parts_of, number_by, all_above};
 
+use crate::chunk::Chunk;
 use crate::places;
 use crate::planned::Planned;
 use emit::signs;
@@ -59,62 +61,58 @@ fn highest_at(job: Job, s: Planned, e: ElementPlan, q: Option<u32>, k: u32, r: R
 }
 
 // For one planned element and some rows.
-fn highest_rows(
-    job: Job,
-    rows: &[u32],
-    s: Planned,
-    e: ElementPlan,
-    q: Option<u32>,
-    from: u32,
-    to: u32,
-) -> u32
-    requires { Of job.at.bytes.now s × (e.element ≤ 255) × (from ≤ to) × (to ≤ 256) × (to ≤ length rows.now) }
-    ensures { result ≡ highest (number_by q) (parts_from job.entry.at.bytes.now s rows.now from (to - from) (element_of job.entry.at.bytes.now e ∷ [])) }
+fn highest_rows(chunk: Chunk, e: ElementPlan, q: Option<u32>, from: u32, to: u32) -> u32
+    requires { Of chunk.job.at.bytes.now chunk.segment × (e.element ≤ 255) × (from ≤ to) × (to ≤ length chunk.rows.now) }
+    ensures { result ≡ highest (number_by q) (parts_from chunk.entry.job.at.bytes.now chunk.entry.segment chunk.entry.rows.now from (to - from) (element_of chunk.entry.job.at.bytes.now e ∷ [])) }
 {
     let mut best: u32 = 0;
     for k in from..to {
-        let r = RowId(rows[k as usize]);
-        best = best.max(highest_at(job, s, e, q, k, r));
+        let r = RowId(chunk.rows[k as usize]);
+        best = best.max(highest_at(chunk.job, chunk.segment, e, q, k, r));
     }
     best
 }
 
 // For one planned element and all rows: with a step one row at most stands at an element.
-fn highest_of(job: Job, rows: &[u32], count: u32, s: Planned, e: ElementPlan, q: Option<u32>) -> u32
-    requires { Of job.at.bytes.now s × (e.element ≤ 255) × (count ≤ 256) × (count ≤ length rows.now) }
-    ensures { result ≡ highest (number_by q) (parts_from job.entry.at.bytes.now s rows.now 0 count (element_of job.entry.at.bytes.now e ∷ [])) }
+fn highest_of(chunk: Chunk, e: ElementPlan, q: Option<u32>) -> u32
+    requires { Of chunk.job.at.bytes.now chunk.segment × (e.element ≤ 255) }
+    ensures { result ≡ highest (number_by q) (parts_from chunk.entry.job.at.bytes.now chunk.entry.segment chunk.entry.rows.now 0 (length chunk.entry.rows.now) (element_of chunk.entry.job.at.bytes.now e ∷ [])) }
 {
+    let count = chunk.count();
+    let step = chunk.segment.step;
     match q {
-        None => highest_rows(job, rows, s, e, None, 0, count),
+        None => highest_rows(chunk, e, None, 0, count),
         Some(p) => {
-            if s.step == 0 {
-                return highest_rows(job, rows, s, e, Some(p), 0, count);
+            if step == 0 {
+                return highest_rows(chunk, e, Some(p), 0, count);
             }
-            let k = places::row_at(e, s.step, p);
+            let k = places::row_at(e, step, p);
             if count <= k {
                 return 0;
             }
-            highest_rows(job, rows, s, e, Some(p), k, k + 1)
+            highest_rows(chunk, e, Some(p), k, k + 1)
         }
     }
 }
 
 // The last filled element, or the last filled component of the element asked for.
-pub fn highest_in(job: Job, rows: &[u32], count: u32, s: Planned, q: Option<u32>) -> u32
-    requires { Of job.at.bytes.now s × (count ≤ 256) × (count ≤ length rows.now) }
-    ensures { result ≡ highest (number_by q) (parts_of job.entry.at.bytes.now s rows.now count) }
+pub fn highest_in(chunk: Chunk, q: Option<u32>) -> u32
+    requires { Of chunk.job.at.bytes.now chunk.segment }
+    ensures { result ≡ highest (number_by q) (parts_in chunk.entry) }
 {
+    let s = chunk.segment;
     let mut at = s.first;
     let mut best: u32 = 0;
     for _i in 0..s.count {
-        let e = read::element_at(job.at.bytes, at);
-        best = best.max(highest_of(job, rows, count, s, e, q));
+        let e = read::element_at(chunk.job.at.bytes, at);
+        best = best.max(highest_of(chunk, e, q));
         at = e.next;
     }
     best
 }
 
-// Whether every planned element is at 1 or behind.
+// Whether every planned element is at 1 or behind. `due::some_column` asks of their columns in such a loop: one function for both would take a closure over
+// an element, and say of it what each of the two contracts says, for two loops of six lines.
 fn all_above(job: &[u8], s: Planned) -> bool
     requires { Of job.now s }
     ensures { result ≡ all_above (plans_of job.now s) }

@@ -1,6 +1,7 @@
 // Repeat segments: each row of a chunk fills it, with its findings and trace entries; then the segment is written at once.
 #![tactic(auto)]
 
+mod chunk;
 mod fill;
 mod join;
 mod last;
@@ -9,12 +10,13 @@ mod places;
 pub mod planned;
 mod scan;
 
-ghost use Rattle.std.specs.Prelude.{◌≡◌, List, ℕ, ◌≤◌, ◌<◌, length, take};
+ghost use Rattle.std.specs.Prelude.{◌≡◌, List, ℕ, ◌≤◌, ◌<◌, length};
 ghost use Rattle.emit.specs.Fold.{fill_out, chunk_out, first_row};
 ghost use Rattle.emit.specs.Did.{row_in, DidCounts, Within};
 ghost use Rattle.repeat_segment.specs.Planned.{Of};
 ghost use Rattle.nest.specs.Job.{job_by};
 
+use crate::chunk::Chunk;
 use crate::planned::Planned;
 use emit::state::{Counts, From};
 use emit::{signs, state};
@@ -38,32 +40,31 @@ pub fn fill_row(
 }
 
 // What a chunk comes from: its first row.
-fn source_of(rows: &[u32], count: usize, t: TableId) -> From
-    requires { count ≤ length rows.now }
-    ensures { row_in result ≡ first_row t.0 (take count rows.now) }
+fn source_of(rows: &[u32], t: TableId) -> From
+    ensures { row_in result ≡ first_row t.0 rows.now }
 {
-    if count == 0 {
-        return From::Envelope;
+    match rows.first() {
+        None => From::Envelope,
+        Some(r) => From::Row(t, RowId(*r)),
     }
-    From::Row(t, RowId(rows[0]))
 }
 
-// The segment of a chunk: its first `count` rows.
+// The segment of a chunk, which are the rows.
 pub fn write_chunk(
     job: Job,
     rows: &[u32],
-    count: usize,
     doc: &mut [u8],
     segments: &mut [u64],
     s: Counts,
     segment: Planned,
 ) -> Counts
-    requires { Within s × Of job.at.bytes.now segment × (count ≤ length rows.now) × (count ≤ 256) }
-    ensures { (f p : List ℕ) → DidCounts (chunk_out (job_by job.entry) segment.l.0 segment.i segment.table.0 (take count rows.now)) s result
+    requires { Within s × Of job.at.bytes.now segment × (length rows.now ≤ 256) }
+    ensures { (f p : List ℕ) → DidCounts (chunk_out (job_by job.entry) segment.l.0 segment.i segment.table.0 rows.now) s result
         doc.old doc.new segments.old segments.new f f p p }
 {
     let separators = signs::separators_of(job.at);
-    let at = join::put_chunk(doc, s.bytes, job, rows, count as u32, separators, segment);
-    let from = source_of(rows, count, segment.table);
+    let chunk = Chunk { job, segment, rows };
+    let at = join::put_chunk(doc, s.bytes, chunk, separators);
+    let from = source_of(rows, segment.table);
     state::finish_segment(segments, s, from, 0, at, s.findings)
 }

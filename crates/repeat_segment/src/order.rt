@@ -11,9 +11,11 @@ ghost use Rattle.emit.specs.Puts.{cell_text};
 ghost use Rattle.emit.specs.Written.{scale_in, is_own};
 ghost use Rattle.repeat_segment.specs.Planned.{Of, id_of, plans_of};
 ghost use Rattle.repeat_segment.specs.Places.{text_in, element_put, row_puts, parts_of};
+ghost use Rattle.repeat_segment.specs.Chunk.{parts_in, id_in};
 ghost use Rattle.repeat_segment.specs.Order.{Ends, Ordered, Fed};
 ghost use Rattle.nest.specs.Job.{job_by};
 
+use crate::chunk::Chunk;
 use crate::places;
 use crate::places::Source;
 use crate::planned::Planned;
@@ -32,21 +34,13 @@ fn behind(s: Planned, e: ElementPlan, k: u32, last: u32) -> Option<u32>
     requires { (e.element ≤ 255) × (s.step ≤ 255) × (k < 256) }
     ensures { (b : List ℕ) (row : ℕ) → Ends last (element_put b s k row (element_of b e)).parts result }
 {
-    let c = e.component;
-    match c {
+    if e.component.is_some() {
+        return None;
+    }
+    match places::place_of(e, s.step, k) {
+        None => Some(last),
+        Some(m) if last < m => Some(m),
         Some(_) => None,
-        None => {
-            let place = places::place_of(e, s.step, k);
-            match place {
-                None => Some(last),
-                Some(m) => {
-                    if last < m {
-                        return Some(m);
-                    }
-                    None
-                }
-            }
-        }
     }
 }
 
@@ -191,7 +185,7 @@ fn put_element(
     let place = places::place_of(e, s.step, k);
     match place {
         None => pen,
-        Some(p) => { put_source(doc, job, sep, s, pen, e, p, r) }
+        Some(p) => put_source(doc, job, sep, s, pen, e, p, r),
     }
 }
 
@@ -211,41 +205,25 @@ fn put_row(doc: &mut [u8], job: Job, sep: Separators, s: Planned, pen: Pen, k: u
 }
 
 // The texts of so many rows.
-fn put_rows(
-    doc: &mut [u8],
-    job: Job,
-    rows: &[u32],
-    count: u32,
-    sep: Separators,
-    s: Planned,
-    pen: Pen,
-) -> Pen
-    requires { Of job.at.bytes.now s × (count ≤ 256) × (count ≤ length rows.now) }
-    ensures { Fed sep (parts_of job.entry.at.bytes.now s rows.now count) pen doc.old result doc.new }
+fn put_rows(doc: &mut [u8], chunk: Chunk, sep: Separators, pen: Pen) -> Pen
+    requires { Of chunk.job.at.bytes.now chunk.segment }
+    ensures { Fed sep (parts_in chunk.entry) pen doc.old result doc.new }
 {
     let mut t = pen;
-    for k in 0..count {
-        let r = RowId(rows[k as usize]);
-        t = put_row(doc, job, sep, s, t, k, r);
+    for k in 0..chunk.count() {
+        let r = RowId(chunk.rows[k as usize]);
+        t = put_row(doc, chunk.job, sep, chunk.segment, t, k, r);
     }
     t
 }
 
 // The segment of a chunk whose parts come in order: its pen ends at the last filled element.
-pub fn put_ordered(
-    doc: &mut [u8],
-    at: usize,
-    job: Job,
-    rows: &[u32],
-    count: u32,
-    sep: Separators,
-    s: Planned,
-) -> usize
-    requires { Of job.at.bytes.now s × (count ≤ 256) × (count ≤ length rows.now) × Ordered (parts_of job.at.bytes.now s rows.now count) }
-    ensures { Stored doc.old at (joined sep (id_of job.entry.at.bytes.now s) (sorted (parts_of job.entry.at.bytes.now s rows.now count))) result doc.new }
+pub fn put_ordered(doc: &mut [u8], at: usize, chunk: Chunk, sep: Separators) -> usize
+    requires { Of chunk.job.at.bytes.now chunk.segment × Ordered (parts_in chunk) }
+    ensures { Stored doc.old at (joined sep (id_in chunk.entry) (sorted (parts_in chunk.entry))) result doc.new }
 {
-    let id = s.id;
-    let pen = segment::begin(doc, at, job.at.bytes, id.start, id.len);
-    let end = put_rows(doc, job, rows, count, sep, s, pen);
+    let id = chunk.segment.id;
+    let pen = segment::begin(doc, at, chunk.job.at.bytes, id.start, id.len);
+    let end = put_rows(doc, chunk, sep, pen);
     segment::close(doc, sep, end, end.elements)
 }

@@ -18,10 +18,7 @@ use spec::ids::{RowId, Stretch};
 fn first_only(element: u32, k: u32) -> Option<u32>
     ensures { result ≡ pick (eqb k 0) (Some element) None }
 {
-    if k == 0 {
-        return Some(element);
-    }
-    None
+    (k == 0).then_some(element)
 }
 
 pub fn moved(element: u32, step: u32, k: u32) -> u32
@@ -31,7 +28,9 @@ pub fn moved(element: u32, step: u32, k: u32) -> u32
     element + k * step
 }
 
-// The place of a planned element for row number k.
+// The place of a planned element for row number k. Of the three bounds none is a ghost field: an `ElementPlan` is read from any bytes, with any element; the
+// step's is part of `Of`; k counts the rows of a chunk, by the side of a row or, where the order is looked at, alone, and a number with its bound
+// would be unwrapped wherever it is counted with.
 pub fn place_of(e: ElementPlan, step: u32, k: u32) -> Option<u32>
     requires { (e.element ≤ 255) × (step ≤ 255) × (k < 256) }
     ensures { (b : List ℕ) → result ≡ place_in step k (element_of b e) }
@@ -78,7 +77,7 @@ pub fn row_at(e: ElementPlan, step: u32, p: u32) -> u32
 
 // ---- texts
 
-// What gives a planned element its text: a column's cell, or a code.
+// What gives a planned element its text: a column's cell, or a code. row_segment has the same cases, for its parts (a line there).
 #[derive(Clone, Copy)]
 pub enum Source {
     Cell(u32),

@@ -1,15 +1,15 @@
 // The first part at a place of a repeat segment, and its text: one pass over the planned elements.
-ghost use Rattle.std.specs.Prelude.{◌≡◌, List, [], ℕ, ◌≤◌, ◌<◌, length, get_or};
+ghost use Rattle.std.specs.Prelude.{◌≡◌, List, [], ℕ, ◌≤◌, ◌<◌, length, get_or, Some};
 ghost use Rattle.segment.specs.Pen.{value_text};
 ghost use Rattle.segment.specs.Calls.{first_at, or_text, repeat_text};
 ghost use Rattle.plan.specs.Answers.{element_of};
 ghost use Rattle.repeat_segment.specs.Planned.{Of};
-ghost use Rattle.repeat_segment.specs.Places.{text_in, parts_of, Earlier, found_text};
+ghost use Rattle.repeat_segment.specs.Places.{text_in, parts_of, rank_of, Earlier, found_text};
+ghost use Rattle.repeat_segment.specs.Chunk.{parts_in};
 
+use crate::chunk::Chunk;
 use crate::places;
 use crate::planned::Planned;
-use emit::signs;
-use nest::Job;
 use plan::answers::{ElementPlan, ValueSource};
 use plan::read;
 use segment::Value;
@@ -23,12 +23,10 @@ pub struct First {
     pub plan: ElementPlan,
 }
 
-fn earlier(f: First, e: ElementPlan, step: u32, p: u32, rank: u64) -> First
-    ensures { (b : List ℕ) → Earlier step p rank b f e result }
+fn earlier(f: First, e: ElementPlan, step: u32, p: u32, c: Option<u32>) -> First
+    ensures { (b : List ℕ) → Earlier step p (rank_of c) b f e result }
 {
-    let c = e.component;
-    let own = signs::component_word(c);
-    if own == rank {
+    if e.component == c {
         let k = places::row_at(e, step, p);
         if k < f.row {
             return First { row: k, plan: e };
@@ -52,61 +50,61 @@ fn nothing_yet(count: u32) -> First
     }
 }
 
-// The first part at element p with that rank (0: plain; c + 1: component c): its row number is the lowest, then its planned element the first.
-fn first_at(job: &[u8], s: Planned, count: u32, p: u32, rank: u64) -> First
+// The first part at element p that is at component c, or plain for None: its row number is the lowest, then its planned element the first.
+fn first_at(job: &[u8], s: Planned, count: u32, p: u32, c: Option<u32>) -> First
     requires { Of job.now s × (count ≤ 256) }
-    ensures { (rows : List ℕ) → first_at p rank (parts_of job.now s rows count) ≡ found_text job.now s rows count p result }
+    ensures { (rows : List ℕ) → first_at p (rank_of c) (parts_of job.now s rows count) ≡ found_text job.now s rows count p result }
 {
     let mut f = nothing_yet(count);
     let mut at = s.first;
     for _i in 0..s.count {
         let e = read::element_at(job, at);
-        f = earlier(f, e, s.step, p, rank);
+        f = earlier(f, e, s.step, p, c);
         at = e.next;
     }
     f
 }
 
-fn found_value(job: Job, rows: &[u32], s: Planned, p: u32, f: First) -> Value
-    requires { Of job.at.bytes.now s × (f.row < length rows.now) }
-    ensures { value_text job.entry.at.bytes.now result ≡ (text_in job.entry.at.bytes.now s p (get_or rows.now f.row 0) (element_of job.entry.at.bytes.now f.plan)).text }
+fn found_value(chunk: Chunk, p: u32, f: First) -> Value
+    requires { Of chunk.job.at.bytes.now chunk.segment × (f.row < length chunk.rows.now) }
+    ensures { value_text chunk.entry.job.at.bytes.now result ≡ (text_in chunk.entry.job.at.bytes.now chunk.entry.segment p (get_or chunk.entry.rows.now f.row 0) (element_of chunk.entry.job.at.bytes.now f.plan)).text }
 {
-    let k = f.row as usize;
-    let r = RowId(rows[k]);
-    let e = f.plan;
-    let w = places::text(job, s, e, p, r);
+    let r = RowId(chunk.rows[f.row as usize]);
+    let w = places::text(chunk.job, chunk.segment, f.plan, p, r);
     w.value
 }
 
-fn ranked_value(job: Job, rows: &[u32], count: u32, s: Planned, p: u32, rank: u64) -> Value
-    requires { Of job.at.bytes.now s × (count ≤ 256) × (count ≤ length rows.now) }
-    ensures { value_text job.entry.at.bytes.now result ≡ or_text (first_at p rank (parts_of job.entry.at.bytes.now s rows.now count)) [] }
+fn ranked_value(chunk: Chunk, p: u32, c: u32) -> Value
+    requires { Of chunk.job.at.bytes.now chunk.segment }
+    ensures { value_text chunk.entry.job.at.bytes.now result ≡ or_text (first_at p (rank_of (Some c)) (parts_in chunk.entry)) [] }
 {
-    let f = first_at(job.at.bytes, s, count, p, rank);
+    let count = chunk.count();
+    let f = first_at(chunk.job.at.bytes, chunk.segment, count, p, Some(c));
     if f.row < count {
-        return found_value(job, rows, s, p, f);
+        return found_value(chunk, p, f);
     }
     segment::held(0, 0)
 }
 
-fn first_component(job: Job, rows: &[u32], count: u32, s: Planned, p: u32) -> Value
-    requires { Of job.at.bytes.now s × (count ≤ 256) × (count ≤ length rows.now) }
-    ensures { value_text job.entry.at.bytes.now result ≡ repeat_text (parts_of job.entry.at.bytes.now s rows.now count) p 1 }
+fn first_component(chunk: Chunk, p: u32) -> Value
+    requires { Of chunk.job.at.bytes.now chunk.segment }
+    ensures { value_text chunk.entry.job.at.bytes.now result ≡ repeat_text (parts_in chunk.entry) p 1 }
 {
-    let f = first_at(job.at.bytes, s, count, p, 0);
+    let count = chunk.count();
+    let f = first_at(chunk.job.at.bytes, chunk.segment, count, p, None);
     if f.row < count {
-        return found_value(job, rows, s, p, f);
+        return found_value(chunk, p, f);
     }
-    ranked_value(job, rows, count, s, p, 2)
+    ranked_value(chunk, p, 1)
 }
 
 // The text of component c of element p.
-pub fn component_value(job: Job, rows: &[u32], count: u32, s: Planned, p: u32, c: u32) -> Value
-    requires { Of job.at.bytes.now s × (count ≤ 256) × (count ≤ length rows.now) }
-    ensures { value_text job.entry.at.bytes.now result ≡ repeat_text (parts_of job.entry.at.bytes.now s rows.now count) p c }
+pub fn component_value(chunk: Chunk, p: u32, c: u32) -> Value
+    requires { Of chunk.job.at.bytes.now chunk.segment }
+    ensures { value_text chunk.entry.job.at.bytes.now result ≡ repeat_text (parts_in chunk.entry) p c }
 {
     if c == 1 {
-        return first_component(job, rows, count, s, p);
+        return first_component(chunk, p);
     }
-    ranked_value(job, rows, count, s, p, c as u64 + 1)
+    ranked_value(chunk, p, c)
 }

@@ -23,7 +23,8 @@ use repeat_segment::{fill_row, write_chunk};
 use spec::ids::{LoopId, RowId, TableId};
 use walk::Nest;
 
-// A repeat table: where its rows stand among all, up to which of them they are gone through, and how many go into a segment.
+// A repeat table: where its rows stand among all, up to which of them they are gone through, and how many go into a segment. No `nest::TableRows`: it is
+// made of the job alone (`table_of`), and the definitions (`PartIs`, `left`) take nest's list beside it, which would stand in both then.
 #[derive(Clone, Copy)]
 pub struct Table {
     pub t: TableId,
@@ -48,6 +49,8 @@ pub struct Repeated {
 }
 
 // A chunk that rows are still added to: the table's highest row, the counts, how many segments stand before it, its first row, and how many rows it has.
+// What it holds is said of the rows lent beside it (`Holds`), and the room for its segments by what is still to be written; that a row is the table's, of
+// the job, the table and the row: no struct has them together.
 #[derive(Clone, Copy)]
 pub struct Chunk {
     pub mark: Mark,
@@ -78,7 +81,8 @@ fn table_of(job: Job, t: TableId) -> Table
     }
 }
 
-// The rows of table t that may go into an instance that row p opens: where the rows hang on rising rows, those that hang on p.
+// The rows of table t that may go into an instance that row p opens: where the rows hang on rising rows, those that hang on p. That p is below 4096 is no
+// ghost field of `RowId`: repeat_segment makes one of each number in a chunk, of which it knows no bound.
 fn part_of(nest: Nest, t: TableId, p: RowId) -> Part
     requires { (p.0 < 4096) × (repeated (outline_by nest.job) t.0 ≡ true) }
     ensures { (l : ℕ) → PartIs nest.entry.job.at.bytes.now nest.entry.array.now t.0 l p.0 result }
@@ -106,10 +110,7 @@ fn joins(job: Job, l: LoopId, i: u32, head: RowId, count: u32, room: u32, r: Row
     requires { l.0 < 32 }
     ensures { result ≡ ltb count room && (outline_by job.entry).same_chunk l.0 i head.0 r.0 }
 {
-    if room <= count {
-        return false;
-    }
-    due::same_chunk(job, l, i, head, r)
+    count < room && due::same_chunk(job, l, i, head, r)
 }
 
 // Row r is entered as number k of its chunk, and gives its cells.
@@ -149,8 +150,8 @@ fn close(
     ensures { ((f p : List ℕ) → DidMark s.table.0 (steps_out (job_by job.entry) (chunk s.l.0 s.i s.table.0 (take c.count rows.now) ∷ [])) c.mark result.mark c.counts result.counts
         doc.old doc.new segments.old segments.new f f p p) × (result.written ≡ c.written + 1) }
 {
-    let count = c.count as usize;
-    let counts = write_chunk(job, rows, count, doc, segments, c.counts, s);
+    let chunk = &rows[..c.count as usize];
+    let counts = write_chunk(job, chunk, doc, segments, c.counts, s);
     Repeated {
         mark: c.mark,
         counts,
@@ -375,6 +376,7 @@ pub fn write_repeats(
 {
     let again = spec::tables::repeats(nest.job.at, t);
     if again {
+        // An array, no `Vec`: the project has no heap; no more than 255 rows go into a segment.
         let mut rows: [u32; 256] = [0; 256];
         return write_hooked(
             nest, &mut rows, doc, segments, findings, stops, m, c, l, i, t, p,

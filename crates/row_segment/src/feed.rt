@@ -20,7 +20,8 @@ use emit::{cells, findings, signs};
 use nest::Job;
 use segment::{Pen, Separators};
 
-// The pen behind a part, how many numbers of findings there are then, and how many trace entries.
+// The pen behind a part, how many numbers of findings there are then, and how many trace entries. They go in apart (`pen`, `from`, `entries`): put_parts
+// keeps each for itself, and would put them together for every part alone, to be taken apart again below.
 #[derive(Clone, Copy)]
 pub struct Behind {
     pub pen: Pen,
@@ -119,7 +120,8 @@ fn put_value(
     }
 }
 
-// A cell: a stretch of the job or a text of its own; one that holds a separator goes by its value.
+// A cell: a stretch of the job or a text of its own; one that holds a separator goes by its value. That d has the job's separators is no ghost field of
+// `Delimiters`, which hold no job; a struct of both would be made once a line, and leave `Lined` in each contract.
 fn put_cell(
     job: Job,
     doc: &mut [u8],

@@ -76,12 +76,6 @@ fn component_value(job: Job, x: Line, n: Look, e: u32, c: u32) -> Value
     segment::held(0, 0)
 }
 
-fn wide(n: u32) -> usize
-    ensures { (result ≡ n) × (result < 4294967296) }
-{
-    n as usize
-}
-
 // The pen behind some elements, the look behind their parts, and the tally with them.
 #[derive(Clone, Copy)]
 pub struct Step {
@@ -138,7 +132,7 @@ fn put_groups(
     let mut done: usize = 1;
     // No `for`: the cursor over the planned elements counts itself.
     while let Some(p) = a.part {
-        let place = wide(p.element);
+        let place = p.element as usize;
         if place < done {
             return Step {
                 pen: q,

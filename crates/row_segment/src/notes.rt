@@ -18,7 +18,8 @@ use emit::{findings, signs};
 use nest::Job;
 use texts::render::Refused;
 
-// How many numbers of findings there are, how many trace entries, and the last filled element.
+// How many numbers of findings there are, how many trace entries, and the last filled element. That entries find room is asked where they are counted:
+// how much room there has to be goes by what is still to come.
 #[derive(Clone, Copy)]
 pub struct Tally {
     pub findings: usize,
@@ -26,7 +27,8 @@ pub struct Tally {
     pub last: usize,
 }
 
-// The end of a segment, how many numbers of findings there are then, and its trace entries.
+// The end of a segment, how many numbers of findings there are then, and its trace entries. trigger's `Put` has the same numbers, as it has no method
+// either: a struct for both would put an import of emit in the sources and the definitions of each in the place of five lines.
 #[derive(Clone, Copy)]
 pub struct Ended {
     pub bytes: usize,
@@ -34,7 +36,7 @@ pub struct Ended {
     pub entries: usize,
 }
 
-// The identifier as a number, and the separators that texts are tried for.
+// The identifier as a number, and the separators that texts are tried for. That they are a line's (`Tries`) speaks of the job and the line too.
 #[derive(Clone, Copy)]
 pub struct Tried {
     pub name: u64,
@@ -53,8 +55,8 @@ pub fn tried_of(job: Job, x: Line) -> Tried
     }
 }
 
-// The findings on a cell's text. repeat_segment takes the same steps; one function for both would need a closure for the spot, and a function
-// for that closure in each: no plainer.
+// The findings on a cell's text. repeat_segment takes the same steps; one function for both would take the spot by value, which repeat_segment, that
+// has no number of the identifier at hand, would make for a text without a finding too. It would save the test alone, and be no plainer.
 fn note_cell(
     job: &[u8],
     findings: &mut [u64],

@@ -24,16 +24,10 @@ use segment::{Pen, Separators};
 fn behind(e: u32, c: u32, at: u32, from: usize) -> bool
     ensures { (x : Part) → result ≡ true → e ≡ x.element → c ≡ component_of x → BehindAt at from x }
 {
-    if e < at {
-        return false;
-    }
     if c == 0 {
         return false;
     }
-    if e == at {
-        return from <= c as usize;
-    }
-    true
+    (at, from) <= (e, c as usize)
 }
 
 // Whether the parts of a line come in the order of their places.

@@ -11,7 +11,9 @@ use nest::Job;
 use plan::answers::{ElementPlan, Planned as PlannedSegment, ValueSource};
 use spec::ids::{LoopId, RowId, Stretch, TableId};
 
-// A planned segment of a loop, with its identifier, how many elements it has and from where on they stand, and the row that fills it.
+// A planned segment of a loop, with its identifier, how many elements it has and from where on they stand, and the row that fills it. No ghost
+// field says that it is the job's (`Lined`): that speaks of the whole struct, in a definition that takes it in; a struct round both would hold
+// this one, and be no plainer.
 #[derive(Clone, Copy)]
 pub struct Line {
     pub l: LoopId,
@@ -23,7 +25,8 @@ pub struct Line {
     pub r: RowId,
 }
 
-// What gives a part its text. repeat_segment has the same cases: a type for both would stand in a crate below, for these two alone.
+// What gives a part its text. repeat_segment has the same cases, made of other values: a `Group` value is no part here (`seen`), and a cell there. A type
+// for both, of two cases and without a function, would put imports of emit in the sources and the definitions of both in the place of four lines.
 #[derive(Clone, Copy)]
 pub enum Source {
     Cell(u32),
@@ -37,7 +40,8 @@ pub struct Planned {
     pub source: Source,
 }
 
-// The next part, if there is one; the number and the place of the planned element behind it.
+// The next part, if there is one; the number and the place of the planned element behind it. That it looks on from where it stands (`Sees`), and that
+// the entries behind it find room (`Room`), speak of the job and the line too, as `Line` says of its own.
 #[derive(Clone, Copy)]
 pub struct Look {
     pub part: Option<Planned>,
@@ -117,7 +121,8 @@ pub fn first_part(job: Job, x: Line) -> Look
     next_part(job, x, 0, x.first)
 }
 
-// The text of a part, and the reason why it has none.
+// The text of a part, and the reason why it has none. repeat_segment's `text` has the same two arms: one function for both would take the job, the
+// identifier, the table, the row, the element, the component and the source, to call one of two functions with them, and be no plainer.
 pub fn text_of(job: Job, x: Line, p: Planned) -> Written
     requires { Lined job.at.bytes.now x }
     ensures { Writes job.entry.at.bytes.now result (outcome_of job.entry.at.bytes.now x p) }

@@ -63,15 +63,28 @@ module _ (j : Job) (l : ℕ) (c : Context) (k : P.Instances) (e : k ≡ (A.plan_
   pub own_tableless : n ≡ None → None ≡ own_row (kind_of (outline_of j) l) c
   own_tableless h = rw (kind, ← q) (rw h refl)
 
+-- the table of an owner, 0 where there is none
+pub table_in : Option Owner → ℕ
+table_in None = 0
+table_in (Some o) = o.table.0
+
 -- its stop, of a state
 module _ (j : Job) (l : ℕ) {own : Option Row} (x : Option Owner) (e : owner_by x ≡ own) where
+  pub stops_in_lem : {n : Mark} {k : Counts} {d g f f' p p' : List ℕ} (i : ℕ) (s : State) (m : Mark) → i ≡ table_in x → m ≡ get_or s.high i None → i < length s.high
+      → DidMark (table_in x) (steps_out j (stop_at l (owner_by x))) m n s.counts k d d g g f f' p p'
+      → Did (steps_out j (stop_at l own) (state_of s)) s (state_with (set s.high i n) s.counter k) d d g g f f' p p'
+  stops_in_lem i s m q em h y = rw (← e, q) (did_mark (steps_out j (stop_at l (owner_by x))) s (table_in x) m (rw (← q) em) (rw (← q) h) y)
+
   pub stops_there : {s : State} {m n : Mark} {k : Counts} {d g f f' p p' : List ℕ} (o : Owner) → x ≡ Some o → m ≡ get_or s.high o.table.0 None → o.table.0 < length s.high
       → DidMark o.table.0 (stop_out (outline_of j) l o.table.0 o.row.0) m n s.counts k d d g g f f' p p'
       → Did (steps_out j (stop_at l own) (state_of s)) s (state_with (set s.high o.table.0 n) s.counter k) d d g g f f' p p'
+  unfolding table_in
   stops_there {s} {m} o q em h y =
       let t : ℕ = o.table.0 in
-      rw (← e) (rw q (did_mark (steps_out j (stop l t o.row.0 ∷ [])) s t m em h
-      (λ high counter z. did_step j (stop l t o.row.0) (rw (step_stop j l t o.row.0 (state_of (state_with (set high t m) counter s.counts))) (y high counter z)))))
+      let z : table_in x ≡ t = ap table_in q in
+      let w : stop_at l (owner_by x) ≡ stop l t o.row.0 ∷ [] = rw q refl in
+      stops_in_lem t s m (sym z) em h (rw (z, w)
+      (λ high counter z. did_step j (stop l t o.row.0) (rw (step_stop j l t o.row.0 (state_of (state_with (set high t m) counter s.counts))) (y high counter z))))
 
   pub stops_not : {s : State} {d g f p : List ℕ} → x ≡ None → Small s → Did (steps_out j (stop_at l own) (state_of s)) s s d d g g f f p p
   stops_not {s} q h = rw (← e) (rw q (took_none j s h).did)

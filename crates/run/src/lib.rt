@@ -17,7 +17,7 @@ use crate::closing::close;
 use crate::own::enter_own;
 use crate::planned::write_planned;
 use emit::state::State;
-use instances::{context_in, instances, next_instance};
+use instances::{behind, context_in, instances, next_instance};
 use plan::answers::Item;
 use spec::ids::LoopId;
 use walk::{Context, Nest};
@@ -34,7 +34,8 @@ struct Visited {
     pub instances: usize,
 }
 
-// Every instance of loop l in a context, so many levels deep.
+// Every instance of loop l in a context, so many levels deep. `Walks` stays a clause: it is of the state and the context, and each of them changes while
+// the other stands.
 #[cycle(items_visits)]
 fn visits(
     nest: Nest,
@@ -69,9 +70,7 @@ fn visits(
         let closed = close(nest.job, doc, segments, s, l, v.instances, v.written);
         written += v.written + closed;
         n += 1;
-        cur.kind = next.kind;
-        cur.seen = next.seen;
-        cur.next = next.next;
+        cur = behind(cur, next);
     }
     Visited {
         written,

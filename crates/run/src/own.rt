@@ -1,7 +1,6 @@
 // The row that opened an instance of a `Rows` loop.
 ghost use Rattle.std.specs.Prelude.{◌≡◌, List, ℕ, ◌<◌};
 ghost use Rattle.std.specs.Option.{option_map};
-ghost use Rattle.nest.specs.Found.{found_by};
 ghost use Rattle.nest.specs.Outline.{kind_of};
 ghost use Rattle.nest.specs.Nest.{row_of};
 ghost use Rattle.walk.specs.Contexts.{context_by};
@@ -14,23 +13,13 @@ ghost use Rattle.nest.specs.Job.{outline_by, job_by};
 use emit::state::State;
 use nest::Job;
 use spec::ids::{LoopId, RowId, TableId};
-use walk::{Context, Nest};
+use walk::{Context, Nest, row_of};
 
 // The row that opened an instance.
 #[derive(Clone, Copy)]
 pub struct Owner {
     pub table: TableId,
     pub row: RowId,
-}
-
-// The row of table t that an instance sits in.
-pub fn row_of(c: Context, t: TableId) -> Option<RowId>
-    ensures { result ≡ found_by ((context_by c).row t.0) }
-{
-    if t.0 < 16 {
-        return walk::row_in(c, t);
-    }
-    None
 }
 
 fn owner_in(c: Context, t: TableId) -> Option<Owner>

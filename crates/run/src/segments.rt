@@ -8,11 +8,11 @@ ghost use Rattle.walk.specs.Tour.{opener, row_segment, due_row, from_source, seg
 ghost use Rattle.run.specs.Went.{Gives};
 ghost use Rattle.nest.specs.Job.{outline_by};
 
-use crate::own;
+use crate::own::own_row;
 use nest::Job;
 use plan::answers::{Planned, Source};
 use spec::ids::{ControlRule, LoopId, RowId, TableId};
-use walk::Context;
+use walk::{Context, row_of};
 
 // The trigger of the loop, the segment of a table's row, or the repeat segments of a table below a row.
 #[derive(Clone, Copy)]
@@ -34,9 +34,10 @@ fn opener_due(job: Job, l: LoopId) -> Option<Due>
     ensures { (i : ℕ) → Gives (outline_by job.entry) l.0 i (cond (loop_of (outline_by job.entry) l.0).controlled (opener l.0 ∷ []) []) result }
 {
     if controlled(job, l) {
-        return Some(Due::Opener);
+        Some(Due::Opener)
+    } else {
+        None
     }
-    None
 }
 
 // The segment of a row.
@@ -44,12 +45,11 @@ fn due_at(job: Job, l: LoopId, i: u32, s: Planned, t: TableId, r: RowId) -> Opti
     requires { (l.0 < 32) × PlannedIs job.at.bytes.now l.0 i s }
     ensures { Gives (outline_by job.entry) l.0 i (cond (has_occurrence (outline_by job.entry) l.0 i && due_row (outline_by job.entry) l.0 i t.0 r.0) (row_segment l.0 i t.0 r.0 ∷ []) []) result }
 {
-    if due::has_occurrence(job, l, i, s) {
-        if due::due_row(job, l, i, s, t, r) {
-            return Some(Due::Row(t, r));
-        }
+    if due::has_occurrence(job, l, i, s) && due::due_row(job, l, i, s, t, r) {
+        Some(Due::Row(t, r))
+    } else {
+        None
     }
-    None
 }
 
 // A segment of a table's row, in an instance that sits in one.
@@ -57,7 +57,7 @@ fn row_due(job: Job, l: LoopId, i: u32, s: Planned, t: TableId, c: Context) -> O
     requires { (l.0 < 32) × PlannedIs job.at.bytes.now l.0 i s }
     ensures { Gives (outline_by job.entry) l.0 i (from_source (outline_by job.entry) l.0 i (context_by c) (of_row t.0)) result }
 {
-    let r = own::row_of(c, t)?;
+    let r = row_of(c, t)?;
     due_at(job, l, i, s, t, r)
 }
 
@@ -69,11 +69,11 @@ fn repeat_due(job: Job, l: LoopId, i: u32, s: Planned, t: TableId, c: Context) -
     if 16 <= t.0 {
         return None;
     }
-    if due::has_occurrence(job, l, i, s) {
-        let own = own::own_row(job, l, c)?;
-        return Some(Due::Repeat(t, own.row));
+    if !due::has_occurrence(job, l, i, s) {
+        return None;
     }
-    None
+    let own = own_row(job, l, c)?;
+    Some(Due::Repeat(t, own.row))
 }
 
 // What planned segment i of loop l, which is s, gives by its source.

@@ -1,3 +1,4 @@
 pub mod Walk
 pub mod Behind
 pub mod Pass
+pub mod Members

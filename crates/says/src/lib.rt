@@ -3,6 +3,8 @@
 
 pub mod lists;
 
+// That the job isn't broken, and its sections not spoilt, is asked where a test of refusals 3 to 5 begins: `refusal::check`, their one caller, has told
+// it, and a struct that says it would be made there for each test alone.
 ghost use Rattle.std.specs.Prelude.{◌≡◌, ◌+◌, ◌-◌, length, false};
 ghost use Rattle.codec.specs.Codec.{le};
 ghost use Rattle.format.specs.Sections.{broken};

@@ -16,6 +16,7 @@ use Rattle.segment.specs.Pen.{closing}
 use Rattle.segment.specs.Calls.{stays, stands_at, first_at, or_text, repeat_text, component_in, last_component_at, zero_free}
 use Rattle.segment.proofs.Pending.{to_come, come_open, come_close, come_skip}
 use Rattle.segment.proofs.Groups.{texts_some, texts_none, group_rest, group_start}
+use Rattle.std.proofs.Math.Arith.{lt_of_le-ne}
 use Rattle.segment.proofs.Rows.{never, highest_head, element_text_lem, elements_empty}
 use Rattle.segment.proofs.Sorting.{AllLow, InOrder, sorted_order, stands, sorted_first, sorted_highest, behind_true, behind_false}
 
@@ -68,9 +69,6 @@ starts_tail : (p : ℕ) (x : Part) (xs : List Part) → p ≤ x.element → AllL
 starts_tail p x [] h a = tt
 starts_tail p x (y ∷ ys) h a = omega (arith, a.0.elements)
 
-over : (p q : ℕ) → p ≤ q → (p ≡ q → ⊥) → p < q
-over p q h k = omega arith
-
 stands_here : (p r : ℕ) (x : Part) → x.element ≡ p → stands_at p r x ≡ eqb (rank x.component) r
 unfolding stands_at
 stands_here p r x e = rw (eq-eqb x.element p e)
@@ -94,7 +92,7 @@ here_component (x ∷ xs) p c h o q = go (eqb x.element p) refl (here_component 
         → component_text (pick t (x ∷ here p xs) []) c ≡ or_text (pick (stands_at p (suc c) x) (Some x.text) (first_at p (suc c) xs)) []
     go true e ih = rw (stands_here p (suc c) x (eqb-true _ _ e), ← same_component x.component c h) (choose (eqb (or_one x.component) c) ih)
     go false e ih =
-        let n : p < x.element = over p x.element q (λ f. eqb-false _ _ e (sym f)) in
+        let n : p < x.element = lt_of_le-ne q (λ f. eqb-false _ _ e (sym f)) in
         rw (stands_not p (suc c) x (eqb-false _ _ e), none_at p (suc c) x xs n o.0)
 
 here_first : (rest : List Part) (p : ℕ) → InOrder rest → starts_from p rest
@@ -123,7 +121,7 @@ here_first (x ∷ xs) p o q = go (eqb x.element p) refl (here_first xs p o.1 (st
         ≡ or_text (pick (stands_at p 0 x) (Some x.text) (first_at p 0 xs)) (or_text (pick (stands_at p 2 x) (Some x.text) (first_at p 2 xs)) [])
     go true e ih = rw (stands_here p 0 x (eqb-true _ _ e), stands_here p 2 x (eqb-true _ _ e)) (kinds x.component refl (eqb-true _ _ e) ih)
     go false e ih =
-        let n : p < x.element = over p x.element q (λ f. eqb-false _ _ e (sym f)) in
+        let n : p < x.element = lt_of_le-ne q (λ f. eqb-false _ _ e (sym f)) in
         rw (stands_not p 0 x (eqb-false _ _ e), stands_not p 2 x (eqb-false _ _ e), none_at p 0 x xs n o.0, none_at p 2 x xs n o.0)
 
 here_text : (rest : List Part) (p c : ℕ) → InOrder rest → starts_from p rest → component_text (here p rest) c ≡ repeat_text rest p c
@@ -147,7 +145,7 @@ here_last (x ∷ xs) p o q = go (eqb x.element p) refl (here_last xs p o.1 (star
         → last_component (pick t (x ∷ here p xs) []) ≡ max (pick (is_empty x.text) 0 (pick t (component_of x) 0)) (highest (component_in p) xs)
     go true e ih = ap (λ (n : ℕ). max (pick (is_empty x.text) 0 (component_of x)) n) ih
     go false e ih =
-        let n : p < x.element = over p x.element q (λ f. eqb-false _ _ e (sym f)) in
+        let n : p < x.element = lt_of_le-ne q (λ f. eqb-false _ _ e (sym f)) in
         rw (none_high p x xs n o.0) (zero_pick (is_empty x.text))
 
 -- ---- what is used up at p is missed nowhere else
@@ -192,7 +190,7 @@ after_starts p (x ∷ xs) o q = go (eqb x.element p) refl (after_starts p xs o.1
   where
     go : (t : Bool) → eqb x.element p ≡ t → starts_from (p + 1) (after p xs) → starts_from (p + 1) (pick t (after p xs) (x ∷ xs))
     go true e ih = ih
-    go false e ih = let n : p < x.element = over p x.element q (λ f. eqb-false _ _ e (sym f)) in omega arith
+    go false e ih = let n : p < x.element = lt_of_le-ne q (λ f. eqb-false _ _ e (sym f)) in omega arith
 
 -- ---- the elements of a list whose places never fall
 

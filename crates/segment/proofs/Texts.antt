@@ -7,7 +7,7 @@ use native.Mathlib.Omega.{arith}
 use native.Mathlib.Numerals.{add-one}
 use lib.ListN.{length, get_or, take, drop, replicate, length-append, length-replicate, drop_of_length-le}
 use lib.Seq.{drop-cons, get_or-take, get_or-drop}
-use lib.Dec.{eqb}
+use lib.Dec.{eqb, eqb-suc-zero}
 use Rattle.lent.specs.Fit.{cap, more, stretch, Stored}
 use Rattle.lent.proofs.Laws.{stored_append, length_stretch}
 use Rattle.segment.specs.declared.Value.{Value}
@@ -29,6 +29,14 @@ pub length_value : (job : List ℕ) (v : Value)
 unfolding value_text
 length_value job v = simp (length-append, length-replicate)
 
+pub empty_value : (job : List ℕ) (v : Value)
+    → is_empty (value_text job v) ≡ eqb (v.zeros + (length (take v.count v.bytes) + (length (stretch job v.start v.len) + v.spaces))) 0
+empty_value job v = go (value_text job v) ∙ ap (λ n. eqb n 0) (length_value job v)
+  where
+    go : (l : List ℕ) → is_empty l ≡ eqb (length l) 0
+    go [] = refl
+    go (x ∷ xs) = sym (eqb-suc-zero (length xs))
+
 -- ---- a text is stored in two halves
 
 pub stored_value : (job : List ℕ) (v : Value) {d d₁ d₂ : List ℕ} {at p q : ℕ} → length d ≤ cap
@@ -37,10 +45,6 @@ pub stored_value : (job : List ℕ) (v : Value) {d d₁ d₂ : List ℕ} {at p q
     → Stored d at (value_text job v) q d₂
 unfolding value_text
 stored_value job v h a b = rw append_assoc at (stored_append _ _ h a b)
-
--- a piece with nothing behind it
-pub stored_alone : {d d₁ : List ℕ} {at p : ℕ} (xs ys : List ℕ) → ys ≡ [] → Stored d at xs p d₁ → Stored d at (xs ++ ys) p d₁
-stored_alone xs ys e s = rw (e, append-nil xs) s
 
 -- ---- texts of one piece
 
@@ -113,30 +117,6 @@ any_text f job v =
     any_append f (replicate v.zeros 48) _
     ∙ ap (either (holds_any f (replicate v.zeros 48))) (any_append f (take v.count v.bytes) _
     ∙ ap (either (holds_any f (take v.count v.bytes))) (any_append f (stretch job v.start v.len) (replicate v.spaces 32)))
-
-some_last : (a b c : Bool) → either a (either b (either c true)) ≡ true
-some_last true b c = refl
-some_last false true c = refl
-some_last false false true = refl
-some_last false false false = refl
-
-none_last : (c : Bool) → either c false ≡ c
-none_last true = refl
-none_last false = refl
-
-module _ (f : ℕ → Bool) (job : List ℕ) (v : Value) where
-  pub in_zeros : true ≡ holds_any f (replicate v.zeros 48) → true ≡ holds_any f (value_text job v)
-  in_zeros z = sym (any_text f job v ∙ rw (← z))
-
-  pub in_spaces : true ≡ holds_any f (replicate v.spaces 32) → true ≡ holds_any f (value_text job v)
-  in_spaces s = sym (any_text f job v ∙ rw (← s) (some_last (holds_any f (replicate v.zeros 48)) (holds_any f (take v.count v.bytes)) (holds_any f (stretch job v.start v.len))))
-
-  pub in_own : false ≡ holds_any f (replicate v.zeros 48) → true ≡ holds_any f (take v.count v.bytes) → true ≡ holds_any f (value_text job v)
-  in_own z o = sym (any_text f job v ∙ rw (← z, ← o))
-
-  pub in_held : {r : Bool} → false ≡ holds_any f (replicate v.zeros 48) → false ≡ holds_any f (replicate v.spaces 32) → false ≡ holds_any f (take v.count v.bytes)
-      → r ≡ holds_any f (stretch job v.start v.len) → r ≡ holds_any f (value_text job v)
-  in_held z s o e = e ∙ sym (any_text f job v ∙ rw (← z, ← s, ← o) (none_last (holds_any f (stretch job v.start v.len))))
 
 -- ---- one of four bytes
 

@@ -18,7 +18,8 @@ pub struct Separators {
     pub line_break: bool,
 }
 
-// A text: zeros, the first `count` of `bytes`, `len` bytes of the job from `start` on, spaces.
+// A text: zeros, the first `count` of `bytes`, `len` bytes of the job from `start` on, spaces. No `texts::Text` with a `spec::ids::Stretch`, and
+// none in `held`, `begin` and `part`: this crate stands on `lent` alone and knows neither type.
 #[derive(Clone, Copy)]
 pub struct Value {
     pub zeros: usize,
@@ -41,22 +42,11 @@ pub struct Pen {
 pub fn is_empty(job: &[u8], v: Value) -> bool
     ensures { result ≡ is_empty (value_text job.now v) }
 {
-    if 0 < v.zeros {
-        return false;
-    }
-    if 0 < v.spaces {
-        return false;
-    }
     let bytes = v.bytes;
-    let own = lent::stretch_len(&bytes, 0, v.count);
-    if 0 < own {
-        return false;
-    }
-    let held = lent::stretch_len(job, v.start, v.len);
-    if 0 < held {
-        return false;
-    }
-    true
+    v.zeros == 0
+        && v.spaces == 0
+        && lent::stretch_len(&bytes, 0, v.count) == 0
+        && lent::stretch_len(job, v.start, v.len) == 0
 }
 
 // The higher of a number and that of a text, which counts where the text is filled.
@@ -106,25 +96,13 @@ pub struct Signs(pub u8, pub u8, pub u8, pub u8);
 fn one_of(x: u8, s: Signs) -> bool
     ensures { result ≡ one_of s.0 s.1 s.2 s.3 x }
 {
-    if x == s.0 {
-        return true;
-    }
-    if x == s.1 {
-        return true;
-    }
-    if x == s.2 {
-        return true;
-    }
-    x == s.3
+    x == s.0 || x == s.1 || x == s.2 || x == s.3
 }
 
 fn run_holds(n: usize, x: u8, s: Signs) -> bool
     ensures { result ≡ holds_any (one_of s.0 s.1 s.2 s.3) (replicate n x) }
 {
-    if n == 0 {
-        return false;
-    }
-    one_of(x, s)
+    n != 0 && one_of(x, s)
 }
 
 // Whether one of four bytes is in a stretch.
@@ -140,30 +118,15 @@ pub fn stretch_holds(source: &[u8], start: usize, len: usize, s: Signs) -> bool
     false
 }
 
-fn own_holds(v: Value, s: Signs) -> bool
-    ensures { result ≡ holds_any (one_of s.0 s.1 s.2 s.3) (take v.count v.bytes) }
-{
-    if v.count == 0 {
-        return false;
-    }
-    let bytes = v.bytes;
-    stretch_holds(&bytes, 0, v.count, s)
-}
-
 // Whether one of four bytes is in a text.
 pub fn holds_any(job: &[u8], v: Value, s: Signs) -> bool
     ensures { result ≡ holds_any (one_of s.0 s.1 s.2 s.3) (value_text job.now v) }
 {
-    if run_holds(v.zeros, b'0', s) {
-        return true;
-    }
-    if run_holds(v.spaces, b' ', s) {
-        return true;
-    }
-    if own_holds(v, s) {
-        return true;
-    }
-    stretch_holds(job, v.start, v.len, s)
+    let bytes = v.bytes;
+    run_holds(v.zeros, b'0', s)
+        || run_holds(v.spaces, b' ', s)
+        || stretch_holds(&bytes, 0, v.count, s)
+        || stretch_holds(job, v.start, v.len, s)
 }
 
 // Whether a byte is in a text.
@@ -251,7 +214,8 @@ fn stay(pen: Pen) -> Pen
     }
 }
 
-// A text at component c of element p: nothing if it is empty, else the separators that are due and the text.
+// A text at component c of element p: nothing if it is empty, else the separators that are due and the text. Pen, element and component go one by
+// one: `put_components` moves the pen and the component on and `finish` takes the last for it, so a struct of them would be made at each call.
 pub fn component(
     doc: &mut [u8],
     job: &[u8],
@@ -275,7 +239,8 @@ pub fn component(
     }
 }
 
-// A stretch of a list at component c of element p.
+// A stretch of a list at component c of element p. Not `component` of a held text: that would be put together to be taken apart, which takes more
+// instructions (docs/BENCHMARKS.md).
 pub fn part(
     doc: &mut [u8],
     source: &[u8],

@@ -20,7 +20,8 @@ pub enum SegmentAt {
     End,
 }
 
-// The first place of a byte from `at` on, or the document's end.
+// The first place of a byte from `at` on, or the document's end. No Option: the grammar's `run` counts up to the byte or the end, and `segment_at`
+// tells a segment by that place.
 pub fn find(document: &[u8], at: usize, b: u8) -> usize
     ensures { result ≡ at + run b (drop at document.now) }
 {
@@ -36,10 +37,7 @@ pub fn find(document: &[u8], at: usize, b: u8) -> usize
 fn line_feed_at(document: &[u8], at: usize) -> bool
     ensures { result ≡ starts_feed (drop at document.now) }
 {
-    if document.len() <= at {
-        return false;
-    }
-    document[at] == 10
+    at < document.len() && document[at] == b'\n'
 }
 
 // A segment from `at` to its terminator at `end`, by whether it has an identifier.
@@ -47,10 +45,7 @@ fn with_name(document: &[u8], at: usize, end: usize, next: usize, element: u8) -
     requires { (at ≤ end) × (end < length document.now) }
     ensures { result ≡ named (cut element (take (end - at) (drop at document.now))).first end next }
 {
-    if at == end {
-        return SegmentAt::Nameless { end, next };
-    }
-    if document[at] == element {
+    if at == end || document[at] == element {
         return SegmentAt::Nameless { end, next };
     }
     SegmentAt::Whole { end, next }

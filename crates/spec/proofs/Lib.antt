@@ -1,1 +1,2 @@
 pub mod Storing
+mod Held

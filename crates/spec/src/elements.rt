@@ -7,7 +7,7 @@ ghost use Rattle.spec.specs.Answers.{HoldsText};
 ghost use Rattle.spec.specs.Cursor.{Entries, ElementSays, is_numeric, first_of};
 
 use crate::ids::{Element, Elements, Stretch};
-use crate::read::{spec_end, stretch_at};
+use crate::read::{spec_of, stretch_at};
 use crate::segments::{element_min, max_at};
 use codec::forms::NumMap;
 use codec::{Form, Section};
@@ -50,10 +50,7 @@ pub fn element(job: &[u8], c: Elements) -> Element
     ensures { (x : ℕ × ElementDef) (xs : SegmentDef) → Entries job.now c (x ∷ xs) → ElementSays job.now result x }
 {
     let at = c.at;
-    let s = Section {
-        bytes: job,
-        end: spec_end(job),
-    };
+    let s = spec_of(job);
     let number = s.count_at(at) as u32;
     let value = s.le_at(4, at);
     let numeric = numeric_at(job, value);
@@ -76,10 +73,7 @@ pub fn next_element(job: &[u8], c: Elements) -> Elements
 {
     let at = c.at;
     let left = c.left;
-    let s = Section {
-        bytes: job,
-        end: spec_end(job),
-    };
+    let s = spec_of(job);
     let value = s.le_at(4, at);
     let next = format::Element::ends_at(s, value);
     Elements {

@@ -14,12 +14,13 @@ ghost use Rattle.spec.specs.Segments.{SegmentsIndexed};
 ghost use Rattle.spec.specs.Kept.{Kept};
 ghost use Rattle.spec.specs.Rows.{loop_row, table_row, loop_rows, table_rows, entry_rows};
 
-use crate::read::{spec_end, start};
+use crate::read::{section, spec_of, start};
 use codec::forms::{Bytes, Items, Le, NumMap, Opt};
 use codec::{Form, Section};
 use format::{Control, Element, Repeat};
 
-// Stores where the parts of a loop stand.
+// Stores where the parts of a loop stand. The fields are written out, as those of a table and of the envelope: here each place is kept, elsewhere
+// others, so that a walk with a hook for each field would be no plainer.
 pub fn loop_into(s: Section, index: &mut [u16], k: u32, at: usize) -> usize
     ensures { (result ≡ skip loop_c s.entry.bytes.now at s.entry.end) × (index.new ≡ stored index.old k (loop_row s.entry.bytes.now s.entry.end at)) }
 {
@@ -111,10 +112,7 @@ pub fn fill_spec(job: &[u8], index: &mut [u16])
     requires { Passed job.now }
     ensures { SpecFilled job.now index.old index.new }
 {
-    let s = Section {
-        bytes: job,
-        end: spec_end(job),
-    };
+    let s = spec_of(job);
     let roots = loops_into(s, index);
     let segments = s.les_at(4, roots);
     let tables = fill_segments(job, index, segments, s.end);
@@ -169,8 +167,7 @@ pub fn fill_envelope(job: &[u8], index: &mut [u16])
     ensures kept { Kept 2560 2624 index.old index.new }
 {
     let at = start(job, 12);
-    let end = start(job, 16);
-    envelope_into(Section { bytes: job, end }, index, at as usize);
+    envelope_into(section(job, 16), index, at as usize);
 }
 
 // All three regions.

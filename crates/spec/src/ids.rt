@@ -10,7 +10,8 @@ pub struct TableId(pub u32);
 #[derive(Clone, Copy, PartialEq, Eq, PartialOrd, Ord)]
 pub struct RowId(pub u32);
 
-// A byte string, where it stands in the job.
+// A byte string, where it stands in the job. That it lies within the job is said by whoever reads it: no job stands here, whose length a ghost field
+// could name, and one beside these two numbers would go along with every answer that holds a stretch.
 #[derive(Clone, Copy)]
 pub struct Stretch {
     pub start: usize,

@@ -8,9 +8,8 @@ ghost use Rattle.spec.specs.Index.{SpecIndexed, row_place};
 use crate::Indexed;
 use crate::ids::{ControlRule, LoopId, Stretch};
 use crate::read::{
-    control_at, flag_at, item_at, number_at, row_place, spec_end, stretch_at, string_at, text_at,
+    control_at, flag_at, item_at, number_at, row_place, spec_of, stretch_at, string_at, text_at,
 };
-use codec::Section;
 
 // Readers of one field each, as in `envelope`: each promises a field of its own, in the type of that field.
 pub fn loop_count(job: Indexed) -> u32
@@ -78,15 +77,7 @@ pub fn occurrence(job: Indexed, l: LoopId, k: u32) -> Stretch
     if n <= k as usize {
         return Stretch { start: 0, len: 0 };
     }
-    let e = spec_end(job.bytes);
-    let q = string_at(
-        Section {
-            bytes: job.bytes,
-            end: e,
-        },
-        p,
-        k,
-    );
+    let q = string_at(spec_of(job.bytes), p, k);
     stretch_at(job.bytes, q)
 }
 

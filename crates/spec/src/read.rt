@@ -1,4 +1,7 @@
 // Readers by place. Past the job's end every byte reads as 0, so that a place there reads as none, empty, false or 0.
+// The bound on a place is each function's own (a byte string may stand further on than a number): a type for one bound would ask of every caller that
+// it makes such a place. How long the bytes are (24 to 65,536) is asked where a sum or a cast needs it: bytes with that in their type would be one more
+// struct round those of `Indexed`, made wherever bytes come in.
 ghost use Rattle.std.specs.Prelude.{ℕ, ◌+◌, ◌-◌, ◌*◌, ◌<◌, ◌≤◌, ◌≡◌, List, [], get_or, length, Option, None};
 ghost use Rattle.codec.specs.Codec.{le, list_c};
 ghost use Rattle.codec.specs.Skip.{steps};
@@ -14,18 +17,21 @@ use crate::Indexed;
 use crate::ids::{ControlRule, Stretch};
 use codec::Section;
 
+// Whether a flag is set, or an option holds something: of either, what stands there is the byte 0 if not.
+pub fn flag_at(b: &[u8], at: usize) -> bool
+    ensures { ByteSays b.now at result }
+{
+    codec::byte_at(b, at) != 0
+}
+
 pub fn number_at(b: &[u8], at: usize) -> Option<u32>
     requires { at < 4294967296 }
     ensures { (e : ℕ) (v : Option ℕ) → Reads (opt_c num_c) b.now e at None v → result ≡ v }
 {
-    let t = codec::byte_at(b, at);
-    if t == 0 {
-        return None;
-    }
-    Some(codec::num(b, at + 1) as u32)
+    flag_at(b, at).then(|| codec::num(b, at + 1) as u32)
 }
 
-// Number k of a list, 0 past its last.
+// Number k of a list, 0 past its last: the definition is `get_or` with 0, so that an Option would be taken apart at once.
 pub fn item_at(b: &[u8], at: usize, k: u32) -> u32
     requires { at < 4294967296 }
     ensures { (e : ℕ) (vs : List ℕ) → Reads (list_c num_c) b.now e at [] vs → result ≡ get_or vs k 0 }
@@ -55,47 +61,29 @@ pub fn text_at(b: &[u8], at: usize) -> Option<Stretch>
     requires { at < 4294967296 }
     ensures { (e : ℕ) (v : Option (List ℕ)) → Reads (opt_c bytes_c) b.now e at None v → HoldsText b.now result v }
 {
-    let t = codec::byte_at(b, at);
-    if t == 0 {
-        return None;
-    }
-    Some(stretch_at(b, at + 1))
+    flag_at(b, at).then_some(stretch_at(b, at + 1))
 }
 
-pub fn flag_at(b: &[u8], at: usize) -> bool
-    ensures { ByteSays b.now at result }
-{
-    codec::byte_at(b, at) != 0
-}
-
+// The step of a repeat segment, 0 where there is none: the definition is `on` with 0, so that an Option would be taken apart at once.
 pub fn step_at(b: &[u8], at: usize) -> u32
     requires { at < 4294967296 }
     ensures { (e : ℕ) (v : Option Repeat) → Reads (opt_c repeat_c) b.now e at None v → result ≡ on v (λ (s : Repeat). s.step) 0 }
 {
-    let t = codec::byte_at(b, at);
-    if t == 0 {
-        return 0;
+    if flag_at(b, at) {
+        return codec::num(b, at + 5) as u32;
     }
-    codec::num(b, at + 5) as u32
+    0
 }
 
 pub fn control_at(b: &[u8], at: usize) -> Option<ControlRule>
     requires { at < 4294967296 }
     ensures { (e : ℕ) (v : Option Control) → Reads (opt_c control_c) b.now e at None v → control_of result ≡ v }
 {
-    let t = codec::byte_at(b, at);
-    if t == 0 {
-        return None;
-    }
-    let opener = codec::num(b, at + 1) as u32;
-    let closer = codec::num(b, at + 5) as u32;
-    let count = codec::num(b, at + 9) as u32;
-    let children = flag_at(b, at + 13);
-    Some(ControlRule {
-        opener,
-        closer,
-        count,
-        children,
+    flag_at(b, at).then(|| ControlRule {
+        opener: codec::num(b, at + 1) as u32,
+        closer: codec::num(b, at + 5) as u32,
+        count: codec::num(b, at + 9) as u32,
+        children: flag_at(b, at + 13),
     })
 }
 
@@ -120,12 +108,23 @@ pub fn start(b: &[u8], k: u8) -> u32
     codec::num(b, t + k as usize) as u32
 }
 
-// Where the spec ends.
-pub fn spec_end(b: &[u8]) -> u32
-    requires { (24 ≤ length b.now) × (length b.now ≤ 65536) }
-    ensures { result ≡ plan_start b.now }
+// The bytes up to where one of the trailer's numbers tells.
+pub fn section(b: &[u8], k: u8) -> Section<'_>
+    requires { (24 ≤ length b.now) × (length b.now ≤ 65536) × (le 4 b.now (length b.now - 24 + k) ≤ length b.now) }
+    ensures { (result.bytes.now ≡ b.now) × (result.end ≡ le 4 b.now (length b.now - 24 + k)) }
 {
-    start(b, 4)
+    Section {
+        bytes: b,
+        end: start(b, k),
+    }
+}
+
+// The bytes of the spec.
+pub fn spec_of(b: &[u8]) -> Section<'_>
+    requires { (24 ≤ length b.now) × (length b.now ≤ 65536) × (plan_start b.now ≤ length b.now) }
+    ensures { (result.bytes.now ≡ b.now) × (result.end ≡ plan_start b.now) }
+{
+    section(b, 4)
 }
 
 // The place of field f of row i, past every job where the list has no such row. No Option: a place past the job reads as none, empty, false or 0,
@@ -149,9 +148,5 @@ pub fn byte_number_at(b: &[u8], at: usize) -> Option<u32>
     requires { at < 4294967296 }
     ensures { (e : ℕ) (v : Option ℕ) → Reads (opt_c byte_c) b.now e at None v → HoldsByte result v }
 {
-    let t = codec::byte_at(b, at);
-    if t == 0 {
-        return None;
-    }
-    Some(codec::byte_at(b, at + 1) as u32)
+    flag_at(b, at).then(|| codec::byte_at(b, at + 1) as u32)
 }

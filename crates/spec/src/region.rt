@@ -8,7 +8,8 @@ ghost use Rattle.spec.specs.Region.{put_item, Stored, ItemAt};
 use crate::Indexed;
 use codec::{Form, Section};
 
-// Stores the place of item i of the list whose numbers begin at k, if it is among the first 32.
+// Stores the place of item i of the list whose numbers begin at k, if it is among the first 32. The bound on k is for the sum: every list's numbers
+// begin far below it.
 pub fn put_item(index: &mut [u16], k: usize, i: usize, p: usize)
     requires { k < 4294967296 }
     ensures { index.new ≡ put_item index.old k i p }

@@ -12,7 +12,7 @@ ghost use Rattle.spec.specs.Found.{PlaceOf, max_in, same_at};
 
 use crate::Indexed;
 use crate::ids::Stretch;
-use crate::read::{number_at, spec_end};
+use crate::read::{number_at, spec_of};
 use codec::{Form, Section};
 use format::{Component, Element, Kind};
 
@@ -40,7 +40,8 @@ pub fn key_is(b: &[u8], s: Stretch, p: usize) -> bool
     n == s.len && same_at(b, s.start, p + 4, n)
 }
 
-// Where the definition of a number stands in the map of elements or components at a place.
+// Where the definition of a number stands in the map of elements or components at a place. The map is gone through one by one: its entries differ in
+// width, so that where the middle one stands isn't known, and there is no heap for a map of std's.
 pub fn map_place<F: Form>(s: Section, at: usize, number: u32) -> Option<usize>
     requires { at < 4294967296 }
     ensures { (xs : List (ℕ × F.Value)) → Is (num_map_c F.codec) s.entry.bytes.now s.entry.end at xs → PlaceOf F.codec s.entry.bytes.now s.entry.end result (found (eqb number) xs) }
@@ -80,10 +81,7 @@ pub fn element_of(job: Indexed, identifier: Stretch, element: u32) -> Option<usi
     ensures { PlaceOf element_c job.entry.bytes.now (plan_start job.entry.bytes.now) result (element_def (job_of job.entry.bytes.now) (stretch_of job.entry.bytes.now identifier) element) }
 {
     let at = elements_of(job, identifier)?;
-    let s = Section {
-        bytes: job.bytes,
-        end: spec_end(job.bytes),
-    };
+    let s = spec_of(job.bytes);
     map_place::<Element>(s, at, element)
 }
 
@@ -148,10 +146,7 @@ pub fn max_of(
     ensures { result ≡ max_of (job_of job.entry.bytes.now) (stretch_of job.entry.bytes.now identifier) element component }
 {
     let at = element_of(job, identifier, element)?;
-    let s = Section {
-        bytes: job.bytes,
-        end: spec_end(job.bytes),
-    };
+    let s = spec_of(job.bytes);
     max_in(s, at, component)
 }
 
@@ -160,9 +155,6 @@ pub fn min_of(job: Indexed, identifier: Stretch, element: u32) -> Option<u32>
     ensures { result ≡ min_of (job_of job.entry.bytes.now) (stretch_of job.entry.bytes.now identifier) element }
 {
     let at = element_of(job, identifier, element)?;
-    let s = Section {
-        bytes: job.bytes,
-        end: spec_end(job.bytes),
-    };
+    let s = spec_of(job.bytes);
     element_min(s, at)
 }

@@ -9,14 +9,14 @@ ghost use Rattle.spec.specs.Index.{SpecIndexed};
 
 use crate::Indexed;
 use crate::ids::VersionRule;
-use crate::read::stretch_at;
+use crate::read::{flag_at, stretch_at};
 
+// No `then` as in `read`: its closure would have to say of two stretches what `stretch_at` says of each.
 pub fn version_at(b: &[u8], at: usize) -> Option<VersionRule>
     requires { at < 4294967296 }
     ensures { (e : ℕ) (v : OptVersion) → Reads (opt_c version_c) b.now e at None v → HoldsVersion b.now result v }
 {
-    let t = codec::byte_at(b, at);
-    if t == 0 {
+    if !flag_at(b, at) {
         return None;
     }
     let n = codec::num(b, at + 1);

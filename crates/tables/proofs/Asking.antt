@@ -1,24 +1,28 @@
 -- The ways through the accessors.
-use Prim.Native.Nat.{ℕ, zero, suc, ◌+◌, ◌*◌, ◌≤◌, ◌<◌}
+use Prim.Native.Nat.{ℕ, zero, suc, ◌+◌, ◌≤◌, ◌<◌, min}
 use mathlib.Core.Path.{◌≡◌, refl, sym, ap, ◌∙◌}
 use mathlib.Core.List.{List, [], ◌∷◌}
+use mathlib.Core.Bool.{Bool, true, false}
 use native.Mathlib.Omega.{arith}
 use Rattle.std.specs.Prelude.{Option, None, Some}
 use lib.ListN.{length, get_or, get_or-eq_default}
+use lib.Dec.{ltb}
+use borrow.Author.Tests.{ltb-true, ltb-false}
 use Rattle.codec.specs.Codec.{le}
 use Rattle.codec.specs.Forms.{opt_c}
 use Rattle.codec.specs.Skip.{skip, Is}
-use Rattle.codec.specs.Field.{is_list, is_le, is_in}
+use Rattle.codec.specs.Field.{is_list, is_le}
 use Rattle.format.specs.Data.{Column, column_c, TableData, table_data_c, no_table_data}
 use Rattle.format.specs.Sections.{job_of, trailer}
 use Rattle.format.specs.Refusal.{rows_of_all}
 use Rattle.format.specs.Ask.{data_of}
 use Rattle.column.specs.Cell.{cell_of, segment_cell, opt_get, key_of, reference_of, reference_in, ref_column}
-use Rattle.column.specs.Answers.{Reads, Within, cell_at, place_of}
+use Rattle.column.specs.Answers.{Reads, Within, cell_at}
 use Rattle.column.specs.declared.Cell.TheVariants as cell
-use Rattle.column.specs.Parts.{refs_c, TableDataIs, is_table_data, absent_cell, absent_key, past_cell}
+use Rattle.column.specs.Parts.{TableDataIs, is_table_data, absent_cell, absent_key, past_cell}
 use Rattle.tables.specs.Parts.{TableAt, rows_before}
-use Rattle.tables.specs.Index.{TablesIndexed}
+use Rattle.spec.specs.Region.{ItemAt}
+use Rattle.tables.specs.Index.{TablesIndexed, columns_at}
 
 before_past : (ts : List TableData) (t : ℕ) → length ts ≤ t → rows_before ts (length ts) ≡ rows_before ts t
 unfolding rows_before rows_of_all
@@ -36,29 +40,27 @@ module _ (b idx : List ℕ) (x : TablesIndexed b idx) where
   unfolding data_of
   table_there n t p h q i = let f = x.few in rw i (x.tables.item t no_table_data (omega arith) (omega arith))
 
-  pub first_there : (n t p : ℕ) → n ≡ length (job_of b).tables → t < n → p ≡ get_or idx (2657 + t) 0 → p ≡ rows_before (job_of b).tables t
-  first_there n t p h q i = i ∙ x.first t (omega arith)
-
-  pub first_past : (n t p : ℕ) → n ≡ length (job_of b).tables → n ≤ t → p ≡ get_or idx (2657 + n) 0 → p ≡ rows_before (job_of b).tables t
-  first_past n t p h q i = i ∙ x.first n (omega arith) ∙ rw h (before_past (job_of b).tables t (omega arith))
-
-  pub refs_there : (n t p : ℕ) → n ≡ length (job_of b).tables → t < n → p ≡ get_or idx (3203 + t) 0 → Is refs_c b (trailer b) p (data_of (job_of b) t).refs
-  refs_there n t p h q i = rw i (x.refs t (omega arith))
+  pub first_there : (n t m p : ℕ) → n ≡ length (job_of b).tables → m ≡ min n t → p ≡ get_or idx (2657 + m) 0 → p ≡ rows_before (job_of b).tables t
+  first_there n t m p h l q = q ∙ x.first m (omega (arith, h, l)) ∙ go (ltb t n) refl
+    where
+      go : (u : Bool) → ltb t n ≡ u → rows_before (job_of b).tables m ≡ rows_before (job_of b).tables t
+      go true w = let i : m ≡ t = omega (arith, l, ltb-true t n w) in rw i
+      go false w = let i : m ≡ length (job_of b).tables = omega (arith, h, l, ltb-false t n w) in rw i (before_past (job_of b).tables t (omega (arith, h, ltb-false t n w)))
 
   -- the columns of a table
-  pub column_there : (t n i p q : ℕ) → t < length (job_of b).tables → p ≡ get_or idx (2674 + t * 33) 0 → n ≡ le 4 b p → i < n → q ≡ get_or idx (2674 + t * 33 + 1 + i) 0 → Is (opt_c column_c) b (trailer b) q (get_or (data_of (job_of b) t).columns i None)
-  column_there t n i p q h j k m o =
+  pub column_there : (t i p : ℕ) → t < length (job_of b).tables → ItemAt b idx (columns_at t) i (Some p) → Is (opt_c column_c) b (trailer b) p (get_or (data_of (job_of b) t).columns i None)
+  column_there t i p h q =
       let l = x.columns t h in
-      let c : n ≡ length (data_of (job_of b) t).columns = k ∙ rw j (sym (is_list (opt_c column_c) b (trailer b) _ _ l.list).counted) in
+      let c = (is_list (opt_c column_c) b (trailer b) _ _ l.list).counted in
       let f = x.few_columns t in
-      rw o (l.item i None (omega arith) (omega arith))
+      rw q.1 (l.item i None (omega (arith, q.0, c)) (omega (arith, q.0, c, f)))
 
-  pub column_past : (t n i p row : ℕ) → t < length (job_of b).tables → p ≡ get_or idx (2674 + t * 33) 0 → n ≡ le 4 b p → n ≤ i → Reads b cell.Null (Some (cell_of (data_of (job_of b) t) i row))
+  pub column_past : (t i row : ℕ) → t < length (job_of b).tables → ItemAt b idx (columns_at t) i None → Reads b cell.Null (Some (cell_of (data_of (job_of b) t) i row))
   unfolding cell_at Within
-  column_past t n i p row h j k m =
+  column_past t i row h m =
       let l = x.columns t h in
-      let c : n ≡ length (data_of (job_of b) t).columns = k ∙ rw j (sym (is_list (opt_c column_c) b (trailer b) _ _ l.list).counted) in
-      record { cell = ap Some (sym (past_cell (data_of (job_of b) t) i row (omega arith))); within = search }
+      let c = (is_list (opt_c column_c) b (trailer b) _ _ l.list).counted in
+      record { cell = ap Some (sym (past_cell (data_of (job_of b) t) i row (omega (arith, m, c)))); within = search }
 
 -- ---- a table's data at a place
 pub at_num : (b : List ℕ) (r : Option ℕ) (p : ℕ) (v : TableData) → r ≡ Some p → TableAt b r v → Is table_data_c b (trailer b) p v
@@ -66,9 +68,6 @@ at_num b r p v e h = rw e at h
 
 pub at_nothing : (b : List ℕ) (r : Option ℕ) (v : TableData) → r ≡ None → TableAt b r v → v ≡ no_table_data
 at_nothing b r v e h = rw e at h
-
-pub num_small : (r : Option ℕ) (p : ℕ) → r ≡ Some p → place_of r < 4294967296 → p < 4294967296
-num_small r p e h = rw e at h
 
 module _ (b : List ℕ) (p : ℕ) (v : TableData) (h : Is table_data_c b (trailer b) p v) where
   all : TableDataIs b (trailer b) p v
@@ -83,9 +82,6 @@ module _ (b : List ℕ) (p : ℕ) (v : TableData) (h : Is table_data_c b (traile
   module _ (s : ℕ) (f : (e : ℕ) (o : Option Column) → Is (opt_c column_c) b e (p + 4) o → s ≡ skip (opt_c column_c) b (p + 4) e) where
     pub segment_there : Is (opt_c column_c) b (trailer b) s v.segment
     segment_there = rw (f _ _ row_there) all.segment
-
-    pub segment_in : s ≤ length b
-    segment_in = let i : s ≤ trailer b = is_in _ b (trailer b) s _ segment_there in omega arith
 
 -- ---- a table that is not there
 pub none_cell : (b : List ℕ) (v : TableData) (column row : ℕ) → v ≡ no_table_data → Reads b cell.Null (Some (cell_of v column row))
@@ -102,6 +98,3 @@ none_key v row h = rw h (sym (absent_key row))
 pub none_reference : (v : TableData) (above row : ℕ) → v ≡ no_table_data → None ≡ reference_of v above row
 unfolding reference_in ref_column opt_get
 none_reference v above row h = rw h
-
-pub none_rows : (v : TableData) → v ≡ no_table_data → 0 ≡ v.rows
-none_rows v h = rw h

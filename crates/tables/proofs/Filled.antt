@@ -25,55 +25,24 @@ use Rattle.format.specs.Ask.{data_of}
 use Rattle.column.specs.Parts.{refs_c, is_table_data}
 use Rattle.spec.specs.Kept.{Kept, kept_same, kept_set, kept_then, kept_wide}
 use Rattle.spec.specs.Region.{Stored, Listed}
-use Rattle.spec.proofs.Storing.{stored_kept, listed, lists_more, lists_all}
+use Rattle.spec.proofs.Storing.{stored_kept, listed, lists_more}
 use Rattle.tables.specs.Parts.{refs_from, columns_from, rows_before, rows_by}
 use Rattle.tables.specs.Index.{DataLists, DataInto, TablesIndexed, RefsStored, TablesFilled}
 
 -- ---- the tables and their columns, one table after the other
 module _ (b : List ℕ) (e : ℕ) where
   -- the columns stand behind rows, row, segment and refs
-  pub table_more : (start t p r s f at q : ℕ) (old d mid new : List ℕ) → t < 16 → mid ≡ set d (2625 + t) (small p) → r ≡ skip (le_c 4) b p e → s ≡ skip (opt_c column_c) b r e → f ≡ skip (opt_c column_c) b s e → at ≡ skip refs_c b f e → (q ≡ skip (list_c (opt_c column_c)) b at e) × Kept (2674 + t * 33) (2674 + t * 33 + 33) mid new × Stored (opt_c column_c) b e at (2674 + t * 33) new → DataLists b e start t p old d → DataLists b e start (t + 1) q old new
+  pub table_more : (start t p f at q : ℕ) (old d mid new : List ℕ) → t < 16 → mid ≡ set d (2625 + t) (small p) → f ≡ refs_from b e p → at ≡ skip refs_c b f e → (q ≡ skip (list_c (opt_c column_c)) b at e) × Kept (2674 + t * 33) (2674 + t * 33 + 33) mid new × Stored (opt_c column_c) b e at (2674 + t * 33) new → DataLists b e start t p old d → DataLists b e start (t + 1) q old new
   unfolding table_data_c
-  table_more start t p r s f at q old d mid new m w i j k l x h =
-      let z : at ≡ columns_from b e p = rw (l, k, j, i) in
+  table_more start t p f at q old d mid new m w i l x h =
+      let z : at ≡ columns_from b e p = rw (l, i) in
       lists_more table_data_c (opt_c column_c) b e (columns_from b e) 2624 2674 3202 start t p q old d mid new (omega arith) (omega arith) (omega arith) h w x.1 (rw z at x.2) (x.0 ∙ rw z (simp (skip_map, skip_pair)))
-
-  pub data-into : (at n start p t : ℕ) (old d new : List ℕ) → n ≤ 16 → n ≡ count_at b at e → start ≡ skip (le_c 4) b at e → t ≡ n → DataLists b e start t p old d → new ≡ set d 2624 (small at) → DataInto b e at old new
-  data-into at n start p t old d new m c f x h w =
-      let y = lists_all table_data_c (opt_c column_c) b e (columns_from b e) 2624 2674 3202 start at n p t old d new c f x (omega arith) (omega arith) h w in
-      record { kept = y.0; tables = y.1; columns = λ j i. y.2 j (omega arith) (omega arith) }
 
 -- ---- the references of the tables
 -- the places of the first t tables' references are stored
 pub record Refs (b : List ℕ) (e t : ℕ) (old new : List ℕ) : Type 0 where
   pub kept : Kept 3202 3219 old new
   pub stored : (j : ℕ) → j < t → 3203 + j < length old → get_or new (3203 + j) 0 ≡ small (refs_from b e (get_or old (2625 + j) 0))
-
-module _ (b : List ℕ) (e : ℕ) where
-  pub refs_none : (idx : List ℕ) → Refs b e 0 idx idx
-  refs_none idx = record { kept = kept_same _ _ idx; stored = λ j m. absurd (omega arith) }
-
-  pub refs_more : (t p r s q : ℕ) (old d new : List ℕ) → t < 16 → Refs b e t old d → p ≡ get_or d (2625 + t) 0 → r ≡ skip (le_c 4) b p e → s ≡ skip (opt_c column_c) b r e → q ≡ skip (opt_c column_c) b s e → new ≡ set d (3203 + t) (small q) → Refs b e (t + 1) old new
-  refs_more t p r s q old d new m h i k l n w = record { kept = kept_set 3202 3219 old d new (3203 + t) (small q) h.kept w (omega arith) (omega arith); stored = λ j o y. rw w (go j o y (ltb j t) refl) }
-    where
-      from : q ≡ refs_from b e (get_or old (2625 + t) 0)
-      from = rw (n, l, k, i, h.kept.below (2625 + t) (omega arith))
-
-      go : (j : ℕ) → j < t + 1 → 3203 + j < length old → (u : Bool) → ltb j t ≡ u → get_or (set d (3203 + t) (small q)) (3203 + j) 0 ≡ small (refs_from b e (get_or old (2625 + j) 0))
-      go j o y true v = let z : j < t = ltb-true _ _ v in get_or-set_other d (3203 + t) (3203 + j) (small q) 0 (omega arith) ∙ h.stored j z y
-      go j o y false v =
-          let z : t ≤ j = ltb-false _ _ v in
-          let x : j ≡ t = omega arith in
-          let g : 3203 + t < length d = omega (arith, h.kept.long) in
-          rw x (get_or-set_same d (3203 + t) (small q) 0 g ∙ ap small from)
-
-  -- and in front of them the count
-  pub refs_all : (n t : ℕ) (old d new : List ℕ) → n ≤ t → Refs b e t old d → new ≡ set d 3202 (small n) → RefsStored b e n old new
-  refs_all n t old d new q h w = record {
-    kept = kept_set 3202 3219 old d new 3202 (small n) h.kept w (omega arith) (omega arith);
-    count = λ m. rw w (get_or-set_same d 3202 (small n) 0 (omega (arith, h.kept.long)));
-    place = λ j m l. rw w (get_or-set_other d 3202 (3203 + j) (small n) 0 (omega arith) ∙ h.stored j (omega arith) l);
-  }
 
 -- ---- the rows before each table
 -- the numbers of the first t tables are stored; f rows stand before the next
@@ -99,13 +68,6 @@ module _ (b : List ℕ) where
           let z : j ≡ t = omega arith in
           let y : 2657 + t < length d = omega (arith, h.kept.long) in
           rw z (get_or-set_same d (2657 + t) (small f) 0 y ∙ rw h.count)
-
-  -- the last number
-  pub firsts_all : (n t f : ℕ) (old d new : List ℕ) → n ≤ 16 → t ≤ n → n ≤ t → Firsts b t f old d → new ≡ set d (2657 + n) (small f) → Kept 2657 2674 old new × ((j : ℕ) → j ≤ n → 2657 + j < length old → get_or new (2657 + j) 0 ≡ small (rows_by b old j))
-  firsts_all n t f old d new m p q h w =
-      let e : n ≡ t = omega arith in
-      let z = firsts_put t f old d new (omega arith) h (rw (← e) w) in
-      (z.0, λ j o. z.1 j (omega arith))
 
   -- and the rows of its table
   pub firsts_more : (t f p n : ℕ) (old d new : List ℕ) → t < 16 → Firsts b t f old d → new ≡ set d (2657 + t) (small f) → p ≡ get_or new (2625 + t) 0 → n ≡ le 4 b p → n < 4294967296 → Firsts b (t + 1) (f + n) old new

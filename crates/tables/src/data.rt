@@ -11,6 +11,7 @@ use column::Cell;
 use column::data::after_opt;
 use spec::Indexed;
 use spec::ids::{RowId, TableId};
+use spec::region::item_place;
 
 // How many tables data has.
 pub fn data_count(job: Indexed) -> u32
@@ -36,8 +37,7 @@ pub fn row_count(job: Indexed, t: TableId) -> u32
     requires { TablesIndexed job.bytes.now job.index.now }
     ensures { result ≡ (data_of (job_of job.entry.bytes.now) t.0).rows }
 {
-    let found = table_at(job, t);
-    match found {
+    match table_at(job, t) {
         Some(p) => codec::num(job.bytes, p) as u32,
         None => 0,
     }
@@ -48,11 +48,8 @@ pub fn first_row(job: Indexed, t: TableId) -> u32
     requires { TablesIndexed job.bytes.now job.index.now }
     ensures { result ≡ rows_before (job_of job.entry.bytes.now).tables t.0 }
 {
-    let n = data_count(job);
-    if n <= t.0 {
-        return codec::place(job.index, 2657 + n as usize) as u32;
-    }
-    codec::place(job.index, 2657 + t.0 as usize) as u32
+    let before = data_count(job).min(t.0);
+    codec::place(job.index, 2657 + before as usize) as u32
 }
 
 // The cell of a row; no answer reads as null.
@@ -64,14 +61,10 @@ pub fn cell(job: Indexed, t: TableId, column: u32, row: RowId) -> Cell
     if n <= t.0 {
         return Cell::Null;
     }
-    let k = 2674 + t.0 as usize * 33;
-    let columns = codec::place(job.index, k);
-    let width = codec::num(job.bytes, columns);
-    if width <= column as usize {
-        return Cell::Null;
+    match item_place(job, 2674 + t.0 as usize * 33, column) {
+        Some(p) => column::data::cell(job.bytes, p, row.0),
+        None => Cell::Null,
     }
-    let p = codec::place(job.index, k + 1 + column as usize);
-    column::data::cell(job.bytes, p, row.0)
 }
 
 // The cell of the `segment` column, which keeps that there is no answer.
@@ -79,8 +72,7 @@ pub fn segment_cell(job: Indexed, t: TableId, row: RowId) -> Cell
     requires { TablesIndexed job.bytes.now job.index.now }
     ensures { Reads job.entry.bytes.now result (segment_cell (data_of (job_of job.entry.bytes.now) t.0) row.0) }
 {
-    let found = table_at(job, t);
-    match found {
+    match table_at(job, t) {
         Some(p) => column::data::opt_get(job.bytes, after_opt(job.bytes, p + 4), row.0),
         None => Cell::None,
     }
@@ -91,8 +83,7 @@ pub fn key(job: Indexed, t: TableId, row: RowId) -> u64
     requires { TablesIndexed job.bytes.now job.index.now }
     ensures { result ≡ key_of (data_of (job_of job.entry.bytes.now) t.0) row.0 }
 {
-    let found = table_at(job, t);
-    match found {
+    match table_at(job, t) {
         Some(p) => column::data::key(job.bytes, p + 4, row.0),
         None => row.0 as u64,
     }

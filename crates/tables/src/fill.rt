@@ -4,7 +4,7 @@ ghost use Rattle.codec.specs.Skip.{count_at};
 ghost use Rattle.codec.specs.Rows.{small};
 ghost use Rattle.format.specs.Passed.{Passed};
 ghost use Rattle.spec.specs.Kept.{Kept};
-ghost use Rattle.tables.specs.Parts.{rows_by};
+ghost use Rattle.tables.specs.Parts.{refs_from, rows_by};
 ghost use Rattle.tables.specs.Index.{DataLists, DataInto, RefsStored, TablesFilled};
 
 use codec::forms::{Items, Le, Opt};
@@ -12,15 +12,23 @@ use codec::{Form, Section};
 use format::Column;
 use spec::region::list_into;
 
-// Stores the place of table t and those of its columns; answers the place behind it.
+// Where the references of the table at p stand.
+fn refs_at(s: Section, p: usize) -> usize
+    ensures { result ≡ refs_from s.entry.bytes.now s.entry.end p }
+{
+    let row = s.le_at(4, p);
+    let segment = Opt::<Column>::ends_at(s, row);
+    Opt::<Column>::ends_at(s, segment)
+}
+
+// Stores the place of table t and those of its columns; answers the place behind it. That there are 16 tables at most is asked at each: a number of
+// tables with that in its type would be made of the job's count in one place, and taken apart in each.
 pub fn table_into(s: Section, index: &mut [u16], t: u32, p: usize) -> usize
     requires { t < 16 }
     ensures { (start : ℕ) (old : List ℕ) → DataLists s.entry.bytes.now s.entry.end start t p old index.old → DataLists s.entry.bytes.now s.entry.end start (t + 1) result old index.new }
 {
     codec::put(index, 2625 + t as usize, p);
-    let row = s.le_at(4, p);
-    let segment = Opt::<Column>::ends_at(s, row);
-    let refs = Opt::<Column>::ends_at(s, segment);
+    let refs = refs_at(s, p);
     let columns = Items::<(Le<4>, Opt<Column>)>::ends_at(s, refs);
     list_into::<Opt<Column>>(s, index, 2674 + t as usize * 33, columns)
 }
@@ -44,10 +52,7 @@ pub fn refs_into(s: Section, index: &mut [u16], n: u32)
 {
     for t in 0..n {
         let p = codec::place(index, 2625 + t as usize);
-        let row = s.le_at(4, p);
-        let segment = Opt::<Column>::ends_at(s, row);
-        let refs = Opt::<Column>::ends_at(s, segment);
-        codec::put(index, 3203 + t as usize, refs);
+        codec::put(index, 3203 + t as usize, refs_at(s, p));
     }
     codec::put(index, 3202, n as usize);
 }

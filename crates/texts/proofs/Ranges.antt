@@ -1,38 +1,54 @@
 -- Signed numbers within bounds: the ways of `in_range`, and what its answer says.
-use Rattle.std.proofs.Common.{◌≡◌, ℕ, ◌<◌, ◌≤◌, Bool, true, false, leb, ℤ, pos, negsuc, nat_abs, sym, refl, ap, ◌∙◌, arith, to_z-of_z, w32, SFits, ltb-true, le-leb, leb-true, Option, Some, None}
-use lib.Signed.{lt_z}
-use borrow.Author.Tests.{lt-leb}
+use Rattle.std.proofs.Common.{◌≡◌, ℕ, ◌<◌, ◌≤◌, Bool, true, false, leb, ltb, eqb, ◌&&◌, eqb-true, ltb-false, ℤ, pos, negsuc, nat_abs, sym, refl, ap, ◌∙◌, arith, to_z-of_z, w32, SFits, ltb-true, le-leb, leb-true, Option, Some, None, Result, Ok, Err}
+use borrow.Author.Tests.{lt-leb, eqb-false}
+use mathlib.Core.Bool.{false≢true}
+use Rattle.std.specs.Bool.{then_some}
+use Rattle.std.specs.Ordering.{nat_cmp, as_partial_cmp, partial_le}
+use Rattle.std.specs.Range.{range_inclusive_start, range_inclusive_end, range_inclusive_exhausted, range_inclusive_contains}
+use Rattle.std.specs.declared.ops.RangeInclusive.{RangeInclusive}
+use Rattle.std.specs.Result.{OkIff, is_ok, result_ok}
+use Rattle.std.specs.Int.{FitsUnsignedBits}
+use Rattle.std.proofs.lemmas.Option.{none-some, same_Some}
 use Rattle.texts.specs.Floor.{ranged_of, pick_ranged}
 use Rattle.texts.specs.DateText.{between}
 use Rattle.texts.proofs.Sums.{Back}
 
-pub below_zero_out : (low high : ℕ) (d : ℤ) → SFits w32 d → lt_z (Back d) (pos 0) ≡ true → None ≡ ranged_of low high d
+-- a number that is no u32 is negative
+pub no_u32 : {E : Type 0} (low high : ℕ) (d : ℤ) (t : Result ℕ E) → SFits w32 d → OkIff t (FitsUnsignedBits 32 (Back d)) (nat_abs (Back d)) → false ≡ is_ok t → None ≡ ranged_of low high d
 unfolding ranged_of
-below_zero_out low high d f h = go d (rw (to_z-of_z f) at h)
+no_u32 low high d (Ok x) f h e = absurd (false≢true e)
+no_u32 low high d (Err x) f h e = go d f (rw (to_z-of_z f) at h)
   where
-    go : (d : ℤ) → lt_z d (pos 0) ≡ true → None ≡ ranged_of low high d
-    go (pos n) h = let q : n < 0 = ltb-true n 0 h in absurd (omega arith)
-    go (negsuc n) h = refl
+    go : (d : ℤ) → SFits w32 d → (FitsUnsignedBits 32 d → ⊥) → None ≡ ranged_of low high d
+    go (pos n) f h = absurd (h (omega (arith, f.sfits)))
+    go (negsuc n) f h = refl
 
-pub abs_is : (z : ℤ) (r : ℕ) → r ≡ nat_abs z → lt_z z (pos 0) ≡ false → pos r ≡ z
-abs_is (pos n) r e h = ap pos e
-abs_is (negsuc n) r e h = absurd (let z : ◌≡◌ {A = ℕ} 0 1 = cc in omega arith)
+-- and one that is a u32 is that
+pub u32_is : {E : Type 0} (d : ℤ) (n : ℕ) (t : Result ℕ E) → SFits w32 d → OkIff t (FitsUnsignedBits 32 (Back d)) (nat_abs (Back d)) → Some n ≡ result_ok t → pos n ≡ d
+u32_is d n (Err x) f h e = absurd (none-some _ (sym e))
+u32_is d n (Ok x) f h e = go d (rw (to_z-of_z f) at h)
+  where
+    go : (d : ℤ) → FitsUnsignedBits 32 d × (x ≡ nat_abs d) → pos n ≡ d
+    go (pos m) h = ap pos (same_Some _ _ e ∙ h.1)
+    go (negsuc m) h = absurd h.0
 
-module _ (low high : ℕ) (d : ℤ) (r : ℕ) (f : SFits w32 d) (e : pos r ≡ Back d) where
-  is : ranged_of low high d ≡ ranged_of low high (pos r)
-  is = ap (ranged_of low high) (sym (e ∙ to_z-of_z f))
+le_tells : (x y : ℕ) → partial_le (as_partial_cmp nat_cmp) x y ≡ leb x y
+le_tells x y = go (ltb x y) refl (eqb x y) refl
+  where
+    go : (s : Bool) → ltb x y ≡ s → (t : Bool) → eqb x y ≡ t → partial_le (as_partial_cmp nat_cmp) x y ≡ leb x y
+    go true p t q = let h : x ≤ y = omega (arith, ltb-true x y p) in simp (p, le-leb x y h)
+    go false p true q = let h : x ≤ y = omega (arith, eqb-true x y q) in simp (p, q, le-leb x y h)
+    go false p false q = let h : y < x = omega (arith, ltb-false x y p, eqb-false x y q) in simp (p, q, lt-leb x y h)
 
-  pub below_low : r < low → None ≡ ranged_of low high d
-  unfolding ranged_of
-  below_low h = sym (is ∙ simp (lt-leb _ _ h))
-
-  pub above_high : low ≤ r → high < r → None ≡ ranged_of low high d
-  unfolding ranged_of
-  above_high h k = sym (is ∙ simp (le-leb _ _ h, lt-leb _ _ k))
-
-  pub in_between : low ≤ r → r ≤ high → Some r ≡ ranged_of low high d
-  unfolding ranged_of
-  in_between h k = sym (is ∙ simp (le-leb _ _ h, le-leb _ _ k))
+pub contained : (s : RangeInclusive ℕ) (low high n : ℕ) (r : Bool) → range_inclusive_start s ≡ low → range_inclusive_end s ≡ high → range_inclusive_exhausted s ≡ false
+    → r ≡ range_inclusive_contains (as_partial_cmp nat_cmp) s n → then_some r n ≡ ranged_of low high (pos n)
+unfolding ranged_of
+contained s low high n r a b x e = rw (e, a, b, x, le_tells low n, le_tells n high) (go (leb low n) (leb n high))
+  where
+    go : (s t : Bool) → then_some (s && t) n ≡ pick_ranged s (pick_ranged t (Some n) None) None
+    go true true = refl
+    go true false = refl
+    go false t = refl
 
 -- a number within bounds
 pub record Inside (low high : ℕ) (z : ℤ) (n : ℕ) : Type 0 where

@@ -1,14 +1,8 @@
 -- What the passes over a number's digits promise each other.
-use Rattle.std.specs.Prelude.{◌≡◌, ℕ, zero, suc, ◌+◌, ◌-◌, ◌*◌, ◌/◌, ◌%◌, ◌^◌, ◌<◌, ◌≤◌, List, [], ◌∷◌, ◌≢◌, slice_index}
-use Rattle.texts.specs.declared.number.Divided.{Divided}
+use Rattle.std.specs.Prelude.{◌≡◌, ℕ, zero, suc, ◌+◌, ◌-◌, ◌/◌, ◌^◌, ◌<◌, ◌≤◌, List, [], ◌∷◌, ◌≢◌, slice_index}
 use Rattle.texts.specs.declared.number.Places.{Places}
 use Rattle.texts.specs.declared.number.Shortened.{Shortened}
 use Rattle.texts.specs.Number.{digit}
-
--- a number divided by ten, and the digit left
-pub record Tenths (n : ℕ) (t : Divided) : Type 0 where
-  pub rest : t.lo + t.hi * 2 ^ 64 ≡ n / 10
-  pub figure : t.figure ≡ 48 + n % 10
 
 -- the digits of n, the lowest first; n has `count` of them, none for 0
 pub record Written (n : ℕ) (p : Places) : Type 0 where

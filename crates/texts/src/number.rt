@@ -1,32 +1,41 @@
 // Whole numbers and decimals as text.
-ghost use Rattle.std.specs.Prelude.{◌≡◌, ◌+◌, ◌-◌, ◌^◌, ◌<◌, ◌≤◌, min, max, [], ◌∷◌, ◌++◌, nat_lt};
+ghost use Rattle.std.specs.Prelude.{◌≡◌, ◌+◌, ◌-◌, ◌/◌, ◌%◌, ◌^◌, ◌<◌, ◌≤◌, min, ◌++◌};
 ghost use Rattle.texts.specs.Held.{held, added};
 ghost use Rattle.texts.specs.Wide.{value, signed64, signed128};
 ghost use Rattle.texts.specs.Number.{size, count_text, int_text, decimal_text, fixed_text, minus};
-ghost use Rattle.texts.specs.Digits.{Tenths, Written, FirstFilled, Shortens, down};
+ghost use Rattle.texts.specs.Digits.{Written, FirstFilled, Shortens, down};
 
 use crate::Text;
 
-// A 128-bit two's complement number in two halves.
+// A 128-bit two's complement number in two halves, as a column's cell has it, so that no caller joins them.
 #[derive(Clone, Copy)]
 pub struct Wide {
     pub lo: u64,
     pub hi: u64,
 }
 
-// Zero less w, by halves: the high half gives one more where the low half borrows.
+impl Wide {
+    // Both halves as one number.
+    fn bits(self) -> u128
+        ensures { result ≡ value self }
+    {
+        (self.hi as u128) << 64 | self.lo as u128
+    }
+}
+
+// Zero less w, by halves, as document 01 names it (docs/DECISIONS.md, Forms): the high half gives one more where the low half borrows.
 fn negated(w: Wide) -> Wide
     requires { 0 < w.hi }
     ensures { value result + value w ≡ 2 ^ 128 }
 {
-    let lo = std::num::wrapping_sub_u64(0, w.lo);
-    let hi = std::num::wrapping_sub_u64(0, w.hi);
+    let lo = 0u64.wrapping_sub(w.lo);
+    let hi = 0u64.wrapping_sub(w.hi);
     if w.lo == 0 {
         return Wide { lo, hi };
     }
     Wide {
         lo,
-        hi: std::num::wrapping_sub_u64(hi, 1),
+        hi: hi.wrapping_sub(1),
     }
 }
 
@@ -37,38 +46,15 @@ pub fn from_bits64(n: u64) -> i64
     n.cast_signed()
 }
 
-// A number divided by ten, and the digit left, as a byte of text.
-#[derive(Clone, Copy)]
-struct Divided {
-    lo: u64,
-    hi: u64,
-    figure: u8,
-}
-
-// The halves are divided from the top in pieces of 32 bits, each with what the one above it left.
-fn tenth(w: Wide) -> Divided
-    ensures { Tenths (value w) result }
+// A number divided by ten, and the digit left; one of 64 bits as such, since dividing 128 bits is slow.
+fn tenth(n: u128) -> (u128, u8)
+    ensures { (result.0 ≡ n / 10) × (result.1 ≡ n % 10) }
 {
-    if w.hi == 0 {
-        return Divided {
-            lo: w.lo / 10,
-            hi: 0,
-            figure: 48 + (w.lo % 10) as u8,
-        };
+    if n <= u64::MAX as u128 {
+        let n = n as u64;
+        return ((n / 10) as u128, (n % 10) as u8);
     }
-    let upper = w.hi % 10 * 4294967296 + w.lo / 4294967296;
-    let lower = upper % 10 * 4294967296 + w.lo % 4294967296;
-    Divided {
-        lo: upper / 10 * 4294967296 + lower / 10,
-        hi: w.hi / 10,
-        figure: 48 + (lower % 10) as u8,
-    }
-}
-
-fn positive(w: Wide) -> bool
-    ensures { result ≡ nat_lt 0 (value w) }
-{
-    0 < w.hi || 0 < w.lo
+    (n / 10, (n % 10) as u8)
 }
 
 // The digits of a number as bytes of text, the lowest first, and how many there are; zeros stand behind them. An array, since there is no heap.
@@ -78,17 +64,17 @@ struct Places {
     count: usize,
 }
 
-fn places_of(w: Wide) -> Places
-    ensures { Written (value w) result }
+fn places_of(n: u128) -> Places
+    ensures { Written n result }
 {
     let mut bytes = [48u8; 48];
     let mut count: usize = 0;
-    let mut rest = w;
+    let mut rest = n;
     // No `for`: the digits end the loop, and no count that is known before it.
-    while positive(rest) {
-        let t = tenth(rest);
-        bytes[count] = t.figure;
-        rest = Wide { lo: t.lo, hi: t.hi };
+    while 0 < rest {
+        let (above, digit) = tenth(rest);
+        bytes[count] = 48 + digit;
+        rest = above;
         count += 1;
     }
     Places { bytes, count }
@@ -99,12 +85,10 @@ fn first_filled(places: [u8; 48], scale: usize) -> usize
     requires { scale ≤ 48 }
     ensures { FirstFilled places scale result }
 {
-    for i in 0..scale {
-        if places[i] != 48 {
-            return i;
-        }
-    }
-    scale
+    places[..scale]
+        .iter()
+        .position(|digit| *digit != 48)
+        .unwrap_or(scale)
 }
 
 impl Text {
@@ -134,11 +118,11 @@ impl Text {
 }
 
 // A number in fixed point by its places: those down to the point, then those below up to the last that is no zero.
-fn placed_text(negative: bool, w: Wide, scale: usize) -> Text
+fn placed_text(negative: bool, n: u128, scale: usize) -> Text
     requires { scale ≤ 38 }
-    ensures { result ≡ held (minus negative ++ fixed_text (value w) scale) }
+    ensures { result ≡ held (minus negative ++ fixed_text n scale) }
 {
-    let p = places_of(w);
+    let p = places_of(n);
     let places = p.bytes;
     let top = p.count.max(scale + 1);
     let low = first_filled(places, scale);
@@ -172,7 +156,7 @@ fn without_zeros(n: u64, scale: usize) -> Shortened
     Shortened { rest, scale: 0 }
 }
 
-// How many digits a number is written with.
+// How many digits a number is written with. A match, since `map_or` with a closure would say the same two cases, the one for none first, and be no plainer.
 fn size_of(n: u64) -> usize
     ensures { (result ≡ size n) × (result ≤ 20) }
 {
@@ -199,17 +183,17 @@ fn whole_text(negative: bool, n: u64) -> Text
 }
 
 // The sign and the number in fixed point; a number of 64 bits without a fraction is a whole number.
-fn fixed_text(negative: bool, w: Wide, scale: usize) -> Text
+fn fixed_text(negative: bool, n: u128, scale: usize) -> Text
     requires { scale ≤ 38 }
-    ensures { result ≡ held (minus negative ++ fixed_text (value w) scale) }
+    ensures { result ≡ held (minus negative ++ fixed_text n scale) }
 {
-    if w.hi == 0 {
-        let t = without_zeros(w.lo, scale);
+    if n <= u64::MAX as u128 {
+        let t = without_zeros(n as u64, scale);
         if t.scale == 0 {
             return whole_text(negative, t.rest);
         }
     }
-    placed_text(negative, w, scale)
+    placed_text(negative, n, scale)
 }
 
 pub fn count_text(value: u64) -> Text
@@ -236,7 +220,7 @@ pub fn decimal_text(w: Wide, scale: u8) -> Text
 {
     let places = scale_of(scale);
     if w.hi < 9223372036854775808 {
-        return fixed_text(false, w, places);
+        return fixed_text(false, w.bits(), places);
     }
-    fixed_text(true, negated(w), places)
+    fixed_text(true, negated(w).bits(), places)
 }

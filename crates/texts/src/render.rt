@@ -32,11 +32,12 @@ impl Refused {
 fn is_below(max: Option<usize>, n: usize) -> bool
     ensures { result ≡ shorter max n }
 {
-    matches!(max, Some(m) if m < n)
+    max.is_some_and(|m| m < n)
 }
 
 impl Text {
-    // Two more digits.
+    // Two more digits. That a number has no more is asked here, and of a `Date`'s fields by what writes them: a type for such numbers, or a bound in
+    // `Date`, would ask it of everyone who makes one.
     fn pair(self, n: u32) -> Text
         requires { (self.len ≤ 46) × (n < 100) }
         ensures { result ≡ added self (two n) }

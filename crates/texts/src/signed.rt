@@ -6,9 +6,6 @@ ghost use Rattle.texts.specs.Floor.{ranged_of};
 pub fn in_range(d: i32, low: u32, high: u32) -> Option<u32>
     ensures { result ≡ ranged_of low high d }
 {
-    let n = d.unsigned_abs();
-    if d < 0 || n < low || high < n {
-        return None;
-    }
-    Some(n)
+    let n = u32::try_from(d).ok()?;
+    (low..=high).contains(&n).then_some(n)
 }

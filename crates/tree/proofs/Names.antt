@@ -5,9 +5,9 @@ use mathlib.Core.List.{List, [], ◌∷◌, ◌++◌, append_assoc, append-nil}
 use mathlib.Core.Bool.{Bool, true, false}
 use native.Mathlib.Omega.{arith}
 use lib.ListN.{length, get_or, set, take, drop, drop_of_length-le}
-use lib.Seq.{take-suc-set, drop-cons, length-take-le, get_or-take}
+use lib.Seq.{take-suc-set}
 use lib.Dec.{eqb}
-use borrow.Author.Tests.{eq-eqb, ne_eqb}
+use Rattle.std.specs.List.{list_any}
 use Rattle.codec.specs.Codec.{Codec, pick, le_c, list_c}
 use Rattle.codec.specs.Forms.{num_c}
 use Rattle.codec.specs.Skip.{skip, count_at, Is}
@@ -16,6 +16,7 @@ use Rattle.format.specs.Words.{member_of, repeats}
 use Rattle.says.specs.Says.{Says, Rest}
 use Rattle.tree.specs.Parts.{Noted}
 use Rattle.says.proofs.Walk.{number_is, rest_start, rest_again, rest_done}
+use Rattle.says.proofs.Members.{behind, next}
 
 -- ---- one item
 pub number_there : (b : List ℕ) (e at x : ℕ) → x ≡ count_at b at e → (y : ℕ) → Is num_c b e at y → x ∷ [] ≡ y ∷ []
@@ -49,39 +50,19 @@ module _ {A : Type 0} (C : Codec A) (f : List A → List ℕ) (b : List ℕ) (e 
   noting_done none k n p d h o j = record { more = f []; split = rest_done C b e (λ us. f o ≡ take k ps ++ f us) n p (d.rest o j) h; all = λ l. none }
 
 -- ---- the names
-module _ (ps : List ℕ) (n : ℕ) (h : n ≤ length ps) where
-  names_next : (j : ℕ) → j < n → drop j (take n ps) ≡ get_or ps j 0 ∷ drop (j + 1) (take n ps)
-  names_next j l =
-      let z : j + 1 ≡ suc j = omega arith in
-      let m : j < length (take n ps) = omega (arith, length-take-le n ps h, l) in
-      rw z (drop-cons (take n ps) j 0 m ∙ ap (λ x. x ∷ drop (suc j) (take n ps)) (get_or-take n ps j 0 l))
+module _ (ps : List ℕ) (a r : Bool) (j : ℕ) (d : a ≡ repeats (drop j ps)) where
+  module _ (l : j < length ps) (s : r ≡ list_any (λ y. eqb y (get_or ps j 0)) (take (length ps - (j + 1)) (drop (j + 1) ps))) where
+    pub repeat_hit : r ≡ true → true ≡ a
+    unfolding repeats
+    repeat_hit t = sym (d ∙ rw (next ps j l, ← behind (get_or ps j 0) (j + 1) ps, ← s, t))
 
-  names_end : (j : ℕ) → n ≤ j → drop j (take n ps) ≡ []
-  names_end j l = drop_of_length-le (take n ps) {i = j} (omega (arith, length-take-le n ps h, l))
+    pub repeat_miss : r ≡ false → a ≡ repeats (drop (j + 1) ps)
+    unfolding repeats
+    repeat_miss t = d ∙ rw (next ps j l, ← behind (get_or ps j 0) (j + 1) ps, ← s, t)
 
-  pub behind_hit : (a : Bool) (x j : ℕ) → a ≡ member_of x (drop j (take n ps)) → j < n → x ≡ get_or ps j 0 → true ≡ a
-  unfolding member_of
-  behind_hit a x j d l q = sym (d ∙ rw (names_next j l, eq-eqb x (get_or ps j 0) q))
-
-  pub behind_miss : (a : Bool) (x j : ℕ) → a ≡ member_of x (drop j (take n ps)) → j < n → (x ≡ get_or ps j 0 → ⊥) → a ≡ member_of x (drop (j + 1) (take n ps))
-  unfolding member_of
-  behind_miss a x j d l q = d ∙ rw (names_next j l, ne_eqb x (get_or ps j 0) q)
-
-  pub behind_end : (a : Bool) (x j : ℕ) → a ≡ member_of x (drop j (take n ps)) → n ≤ j → false ≡ a
-  unfolding member_of
-  behind_end a x j d l = sym (d ∙ rw (names_end j l))
-
-  pub repeat_hit : (a r : Bool) (j : ℕ) → a ≡ repeats (drop j (take n ps)) → j < n → r ≡ member_of (get_or ps j 0) (drop (j + 1) (take n ps)) → r ≡ true → true ≡ a
-  unfolding repeats
-  repeat_hit a r j d l s t = sym (d ∙ rw (names_next j l, ← s, t))
-
-  pub repeat_miss : (a r : Bool) (j : ℕ) → a ≡ repeats (drop j (take n ps)) → j < n → r ≡ member_of (get_or ps j 0) (drop (j + 1) (take n ps)) → r ≡ false → a ≡ repeats (drop (j + 1) (take n ps))
-  unfolding repeats
-  repeat_miss a r j d l s t = d ∙ rw (names_next j l, ← s, t)
-
-  pub repeat_end : (a : Bool) (j : ℕ) → a ≡ repeats (drop j (take n ps)) → n ≤ j → false ≡ a
-  unfolding repeats
-  repeat_end a j d l = sym (d ∙ rw (names_end j l))
+pub repeat_end : (ps : List ℕ) (a : Bool) (j : ℕ) → a ≡ repeats (drop j ps) → length ps ≤ j → false ≡ a
+unfolding repeats
+repeat_end ps a j d l = sym (d ∙ rw (drop_of_length-le ps {i = j} l))
 
 -- ---- more names behind change nothing for those that repeat
 member_more : (x : ℕ) (xs ys : List ℕ) → member_of x xs ≡ true → member_of x (xs ++ ys) ≡ true

@@ -15,12 +15,9 @@ use Rattle.format.specs.Fields.{loop_children}
 use Rattle.format.specs.Spec.{loop_c}
 use Rattle.tree.specs.Parts.{Placed}
 
-module _ (b : List ℕ) (e at : ℕ) (ps : List ℕ) (i : ℕ) (d : Placed b e at ps) (h : i + i + 1 < length ps) (k : i < count_at b at e) where
-  pub placed_at : get_or ps (i + i) 0 ≡ steps loop_c b e i (skip (le_c 4) b at e)
+module _ (b : List ℕ) (e at : ℕ) (ps : List (ℕ × ℕ)) (i : ℕ) (d : Placed b e at ps) (h : i < length ps) (k : i < count_at b at e) where
+  pub placed_at : (get_or ps i (0, 0)).0 ≡ steps loop_c b e i (skip (le_c 4) b at e)
   placed_at = (d i h k).0
-
-  pub placed_below : get_or ps (i + i + 1) 0 ≡ loop_children b e (steps loop_c b e i (skip (le_c 4) b at e))
-  placed_below = (d i h k).1
 
 -- the last step
 pub steps_last : {A : Type 0} (C : Codec A) (b : List ℕ) (e n p : ℕ) → steps C b e (n + 1) p ≡ skip C b (steps C b e n p) e
@@ -34,41 +31,26 @@ unfolding loop_c
 loop_end_lem b e p = simp (skip_map, skip_pair)
 
 -- k loops are in, and p is the next
-pub record Filling (b : List ℕ) (e at p k : ℕ) (ps : List ℕ) : Type 0 where
+pub record Filling (b : List ℕ) (e at p k : ℕ) (ps : List (ℕ × ℕ)) : Type 0 where
   pub next : p ≡ steps loop_c b e k (skip (le_c 4) b at e)
-  pub kept : (i : ℕ) → i < k → i + i + 1 < length ps → (get_or ps (i + i) 0 ≡ steps loop_c b e i (skip (le_c 4) b at e)) × (get_or ps (i + i + 1) 0 ≡ loop_children b e (steps loop_c b e i (skip (le_c 4) b at e)))
+  pub kept : (i : ℕ) → i < k → i < length ps → ((get_or ps i (0, 0)).0 ≡ steps loop_c b e i (skip (le_c 4) b at e)) × ((get_or ps i (0, 0)).1 ≡ loop_children b e (steps loop_c b e i (skip (le_c 4) b at e)))
 
 module _ (b : List ℕ) (e at : ℕ) where
-  pub filling_start : (p : ℕ) (ps : List ℕ) → p ≡ skip (le_c 4) b at e → Filling b e at p 0 ps
+  pub filling_start : (p : ℕ) (ps : List (ℕ × ℕ)) → p ≡ skip (le_c 4) b at e → Filling b e at p 0 ps
   unfolding steps
   filling_start p ps h = record { next = h; kept = λ i l m. absurd (omega (arith, l)) }
 
-  pub filling_again : (p k c q : ℕ) (ps : List ℕ) → Filling b e at p k ps → k + k + 1 < length ps → c ≡ loop_children b e p → q ≡ skip (list_c num_c) b c e → Filling b e at q (k + 1) (set (set ps (k + k) p) (k + k + 1) c)
+  pub filling_again : (p k c q : ℕ) (ps : List (ℕ × ℕ)) → Filling b e at p k ps → k < length ps → c ≡ loop_children b e p → q ≡ skip (list_c num_c) b c e → Filling b e at q (k + 1) (set ps k (p, c))
   filling_again p k c q ps d h u i = record {
     next = i ∙ rw (u, loop_end_lem b e p, d.next) (sym (steps_last loop_c b e k (skip (le_c 4) b at e)));
-    kept = λ j l m. go j l (ltb j k) refl;
+    kept = λ j l m. go j l (omega (arith, m, length-set ps k (p, c))) (ltb j k) refl;
   }
     where
-      first : List ℕ
-      first = set ps (k + k) p
-
-      go : (j : ℕ) → j < k + 1 → (t : Bool) → ltb j k ≡ t → (get_or (set first (k + k + 1) c) (j + j) 0 ≡ steps loop_c b e j (skip (le_c 4) b at e)) × (get_or (set first (k + k + 1) c) (j + j + 1) 0 ≡ loop_children b e (steps loop_c b e j (skip (le_c 4) b at e)))
-      go j l true w =
+      go : (j : ℕ) → j < k + 1 → j < length ps → (t : Bool) → ltb j k ≡ t → ((get_or (set ps k (p, c)) j (0, 0)).0 ≡ steps loop_c b e j (skip (le_c 4) b at e)) × ((get_or (set ps k (p, c)) j (0, 0)).1 ≡ loop_children b e (steps loop_c b e j (skip (le_c 4) b at e)))
+      go j l n true w =
           let m : j < k = ltb-true _ _ w in
-          let o = d.kept j m (omega (arith, m, h)) in (
-            get_or-set_other first (k + k + 1) (j + j) c 0 (λ z. omega (arith, z, m)) ∙ get_or-set_other ps (k + k) (j + j) p 0 (λ z. omega (arith, z, m)) ∙ o.0,
-            get_or-set_other first (k + k + 1) (j + j + 1) c 0 (λ z. omega (arith, z, m)) ∙ get_or-set_other ps (k + k) (j + j + 1) p 0 (λ z. omega (arith, z, m)) ∙ o.1,
-          )
-      go j l false w =
+          rw (get_or-set_other ps k j (p, c) (0, 0) (λ z. omega (arith, z, m))) (d.kept j m n)
+      go j l n false w =
           let m : k ≤ j = ltb-false _ _ w in
           let z : j ≡ k = omega (arith, m, l) in
-          rw z (
-            get_or-set_other first (k + k + 1) (k + k) c 0 (λ v. omega (arith, v)) ∙ get_or-set_same ps (k + k) p 0 (omega (arith, h)) ∙ d.next,
-            get_or-set_same first (k + k + 1) c 0 (omega (arith, h, length-set ps (k + k) p)) ∙ u ∙ rw (← d.next),
-          )
-
-  pub filling_full : (p k : ℕ) (ps : List ℕ) → Filling b e at p k ps → length ps ≤ k + k + 1 → Placed b e at ps
-  filling_full p k ps d h i l m = d.kept i (omega (arith, l, h)) l
-
-  pub filling_done : (p k n : ℕ) (ps : List ℕ) → Filling b e at p k ps → n ≡ count_at b at e → n ≤ k → Placed b e at ps
-  filling_done p k n ps d h j i l m = d.kept i (omega (arith, h, j, m)) l
+          rw (z, get_or-set_same ps k (p, c) (0, 0) h) (d.next, u ∙ rw (← d.next))

@@ -1,5 +1,5 @@
 -- Loops that an order names, places of loops, numbers noted, and loop numbers of the spec that are out of range.
-use Rattle.std.specs.Prelude.{ℕ, ◌+◌, ◌<◌, ◌^◌, ◌≡◌, List, [], ◌∷◌, ◌++◌, Bool, false, length, get_or, take, Option, Some, None}
+use Rattle.std.specs.Prelude.{ℕ, ◌<◌, ◌^◌, ◌≡◌, List, [], ◌∷◌, ◌++◌, Bool, false, length, get_or, take, Option, Some, None}
 use Rattle.codec.specs.Codec.{le_c}
 use Rattle.codec.specs.Limits.{any, any_of}
 use Rattle.codec.specs.Skip.{count_at, skip, steps}
@@ -25,9 +25,9 @@ held None = None
 held (Some x) = Some x
 
 -- ps has, pair by pair, the places of the loops that stand at a place and of their children, of the first ones where it is shorter
-abbrev pub Placed : List ℕ → ℕ → ℕ → List ℕ → Type 0
-Placed b e at ps = (i : ℕ) → i + i + 1 < length ps → i < count_at b at e
-    → (get_or ps (i + i) 0 ≡ steps loop_c b e i (skip (le_c 4) b at e)) × (get_or ps (i + i + 1) 0 ≡ loop_children b e (steps loop_c b e i (skip (le_c 4) b at e)))
+abbrev pub Placed : List ℕ → ℕ → ℕ → List (ℕ × ℕ) → Type 0
+Placed b e at ps = (i : ℕ) → i < length ps → i < count_at b at e
+    → ((get_or ps i (0, 0)).0 ≡ steps loop_c b e i (skip (le_c 4) b at e)) × ((get_or ps i (0, 0)).1 ≡ loop_children b e (steps loop_c b e i (skip (le_c 4) b at e)))
 
 -- loop k of those that stand at a place: it stands at p, and its children at q
 pub record LoopAt (b : List ℕ) (e at k p q : ℕ) : Type 0 where

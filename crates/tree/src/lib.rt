@@ -3,7 +3,7 @@
 
 mod loops;
 
-ghost use Rattle.std.specs.Prelude.{◌≡◌, List, ◌<◌, ◌≤◌, ℕ, drop, length, take, eqb, Some};
+ghost use Rattle.std.specs.Prelude.{◌≡◌, Bool, List, ◌<◌, ◌≤◌, ℕ, drop, length, take, eqb, Some};
 ghost use Rattle.codec.specs.Codec.{le_c, list_c};
 ghost use Rattle.codec.specs.Forms.{num_c, opt_c};
 ghost use Rattle.codec.specs.Skip.{count_at, Is, skip, steps};
@@ -13,7 +13,7 @@ ghost use Rattle.format.specs.Spec.{Loop, loop_c, spec_c, table_c};
 ghost use Rattle.format.specs.Layout.{item_c};
 ghost use Rattle.format.specs.Fields.{loop_children, spec_roots, spec_tables};
 ghost use Rattle.format.specs.Refusal.{loop_at, outside, outside_loop, outside_order, outside_table};
-ghost use Rattle.says.specs.Says.{Says, Clears, SaysBefore};
+ghost use Rattle.says.specs.Says.{Says, Clears, SaysBefore, Tests};
 ghost use Rattle.tree.specs.Parts.{again, on_loop, Placed, Noted, outside_spec};
 
 use codec::forms::{Bytes, Items, Le, Opt};
@@ -41,7 +41,8 @@ fn outsides_at(s: Section, at: usize, n: usize) -> bool
     says::lists::any_at::<Le<4>, _>(s, at, |p| outside_at(s, p, n))
 }
 
-// Where the children of a loop stand.
+// Where the children of a loop stand. The fields are written out: each test keeps other places, so that a walk with a hook for each field would be no
+// plainer.
 fn children_at(s: Section, at: usize) -> usize
     ensures { result ≡ loop_children s.entry.bytes.now s.entry.end at }
 {
@@ -84,14 +85,21 @@ fn tables_outside(s: Section, at: usize, n: usize) -> bool
     says::lists::any_at::<Table, _>(s, at, |p| table_outside(s, p, n))
 }
 
+// Whether the loop that an item of an order names is found; where an item names none, nothing is.
+pub fn named_at<T: Fn(usize) -> bool>(s: Section, at: usize, test: T) -> bool
+    requires { T.IsAlwaysCallable test }
+    ensures { (f : ℕ → Bool) → Tests num_c s.entry.bytes.now s.entry.end (T.post test) f → Says item_c s.entry.bytes.now s.entry.end at (on_loop f) result }
+{
+    if s.case(at) == Some(1) {
+        return test(s.le_at(1, at));
+    }
+    false
+}
+
 fn item_outside(s: Section, at: usize, n: usize) -> bool
     ensures { Says item_c s.entry.bytes.now s.entry.end at (on_loop (outside n)) result }
 {
-    if s.case(at) == Some(1) {
-        let p = s.le_at(1, at);
-        return outside_at(s, p, n);
-    }
-    false
+    named_at(s, at, |p| outside_at(s, p, n))
 }
 
 fn order_outside(s: Section, at: usize, n: usize) -> bool
@@ -123,18 +131,17 @@ pub fn spec_outside(s: Section, at: usize, roots: usize, tables: usize) -> bool
 // ---- where the loops stand, and a number
 
 // Where the loops and their children stand, as far as there is room.
-pub fn fill_places(s: Section, at: usize, places: &mut [usize])
+pub fn fill_places(s: Section, at: usize, places: &mut [(usize, usize)])
     ensures { Placed s.entry.bytes.now s.entry.end at places.new }
 {
     let n = s.count_at(at);
     let mut p = s.le_at(4, at);
     for k in 0..n {
-        if places.len() <= k + k + 1 {
+        if places.len() <= k {
             return;
         }
         let children = children_at(s, p);
-        places[k + k] = p;
-        places[k + k + 1] = children;
+        places[k] = (p, children);
         p = s.les_at(4, children);
     }
 }
@@ -147,26 +154,12 @@ pub fn same_at(s: Section, at: usize, i: usize) -> bool
 
 // ---- numbers that repeat
 
-// Whether x is among the first n names, from i on.
-fn name_behind(names: &[usize], n: usize, i: usize, x: usize) -> bool
-    requires { n ≤ length names.now }
-    ensures { result ≡ member_of x (drop i (take n names.now)) }
+// Whether one of the names stands there twice.
+pub fn names_repeat(names: &[usize]) -> bool
+    ensures { result ≡ repeats names.now }
 {
-    for j in i..n {
-        if x == names[j] {
-            return true;
-        }
-    }
-    false
-}
-
-// Whether one of the first n names stands there twice.
-pub fn names_repeat(names: &[usize], n: usize) -> bool
-    requires { n ≤ length names.now }
-    ensures { result ≡ repeats (take n names.now) }
-{
-    for i in 0..n {
-        if name_behind(names, n, i + 1, names[i]) {
+    for i in 0..names.len() {
+        if names[i + 1..].contains(&names[i]) {
             return true;
         }
     }
@@ -213,7 +206,7 @@ pub fn repeats_at(s: Section, at: usize) -> bool
     }
     let mut names = [0usize; 33];
     let noted = note_numbers(s, at, &mut names);
-    if names_repeat(&names, noted) {
+    if names_repeat(&names[..noted]) {
         return true;
     }
     if noted < 33 {

@@ -18,7 +18,7 @@ use codec::{Form, Section};
 pub struct Loops<'a, 'p> {
     pub section: Section<'a>,
     pub at: usize,
-    pub places: &'p [usize],
+    pub places: &'p [(usize, usize)],
     pub ghost placed: { Placed section.bytes.now section.end at places.now },
 }
 
@@ -27,10 +27,8 @@ impl<'a, 'p> Loops<'a, 'p> {
     pub fn place_of(self, i: usize) -> usize
         ensures { i < count_at self.entry.section.bytes.now self.entry.at self.entry.section.end → result ≡ steps loop_c self.entry.section.bytes.now self.entry.section.end i (skip (le_c 4) self.entry.section.bytes.now self.entry.at self.entry.section.end) }
     {
-        if i < 32 {
-            if i + i + 1 < self.places.len() {
-                return self.places[i + i];
-            }
+        if i < self.places.len() {
+            return self.places[i].0;
         }
         loop_place(self.section, self.at, i)
     }
@@ -39,10 +37,8 @@ impl<'a, 'p> Loops<'a, 'p> {
     pub fn below(self, i: usize) -> usize
         ensures { i < count_at self.entry.section.bytes.now self.entry.at self.entry.section.end → result ≡ loop_children self.entry.section.bytes.now self.entry.section.end (steps loop_c self.entry.section.bytes.now self.entry.section.end i (skip (le_c 4) self.entry.section.bytes.now self.entry.at self.entry.section.end)) }
     {
-        if i < 32 {
-            if i + i + 1 < self.places.len() {
-                return self.places[i + i + 1];
-            }
+        if i < self.places.len() {
+            return self.places[i].1;
         }
         let p = loop_place(self.section, self.at, i);
         crate::children_at(self.section, p)

@@ -2,15 +2,16 @@
 use Prim.Native.Nat.{ℕ, zero, suc, ◌+◌, ◌-◌, ◌≤◌, ◌<◌}
 use mathlib.Core.Path.{◌≡◌, refl, sym, ap, ◌∙◌}
 use mathlib.Core.Bool.{Bool, true, false}
-use mathlib.Core.List.{List, [], ◌∷◌, ◌++◌, append-nil}
+use mathlib.Core.List.{List, [], ◌∷◌, ◌++◌}
 use native.Mathlib.Omega.{arith}
 use native.Mathlib.Decide.{dec_lt}
-use lib.ListN.{length, get_or, take, drop, replicate, length-drop}
+use lib.ListN.{length, get_or, take, drop, length-drop}
 use lib.Seq.{get_or-drop}
 use borrow.Author.Tests.{eq-eqb, ne_eqb, le-leb, lt-leb}
 use Rattle.format.specs.Spec.{ElementDef}
 use Rattle.format.specs.Envelope as E
 use Rattle.format.specs.Job.{Job}
+use Rattle.column.specs.Cell.{same_bytes as by_cell, both}
 use Rattle.format.specs.Ask.{same_bytes}
 use Rattle.lent.specs.Fit.{stretch}
 use Rattle.spec.specs.declared.ids.Stretch.{Stretch}
@@ -19,9 +20,8 @@ use Rattle.spec.specs.declared.ids.VersionRule.{VersionRule}
 use Rattle.spec.specs.Answers.{stretch_of, Holds, HoldsText}
 use Rattle.spec.specs.Cursor.{ElementSays, first_of}
 use Rattle.spec.specs.VersionIs.{HoldsVersion, version_rule}
-use Rattle.spec.specs.Found.{same_at, same_lists, same_lengths, stretch_long, stretch_byte}
 use Rattle.std.specs.Prelude as Rust
-use Rattle.std.specs.Prelude.{Some, None, Option}
+use Rattle.std.specs.Prelude.{Some, None, Option, cond, eqb}
 use Rattle.std.specs.Option.{unwrap_or}
 use Rattle.segment.specs.Pen.{Plain}
 use Rattle.texts.specs.Reason.{Outcome}
@@ -237,15 +237,17 @@ tells_as e h = rw (← e) h
 
 -- ---- the same bytes
 
-module _ (b : List ℕ) (s t : Stretch) (h : s.start + s.len ≤ length b) (k : t.start + t.len ≤ length b) where
-  pub not_same : (s.len ≡ t.len → ⊥) → false ≡ same_bytes (stretch_of b s) (stretch_of b t)
-  not_same n = same_lengths (stretch_of b s) (stretch_of b t) (λ q. n (sym (stretch_long b s h) ∙ q ∙ stretch_long b t k))
-
-  pub same_by : (r : Bool) → s.len ≡ t.len → r ≡ same_at b s.start t.start s.len → r ≡ same_bytes (stretch_of b s) (stretch_of b t)
-  same_by r e f =
-      let m = stretch_long b s h in
-      let n = stretch_long b t k in
-      f ∙ ap (same_at b s.start t.start) (sym m) ∙ (same_lists b (stretch_of b s) (stretch_of b t) s.start t.start (m ∙ e ∙ sym n) (λ i o. stretch_byte b s h i (omega (arith, m))) (λ i o. stretch_byte b t k i (omega (arith, n))))
+-- the equality of bytes of a table's cells is that of the spec's names
+pub bytes_same : (v w : List ℕ) → by_cell v w ≡ same_bytes v w
+unfolding by_cell
+bytes_same [] [] = refl
+bytes_same [] (y ∷ w) = refl
+bytes_same (x ∷ v) [] = refl
+bytes_same (x ∷ v) (y ∷ w) = go (eqb x y) (bytes_same v w)
+  where
+    go : (t : Bool) → by_cell v w ≡ same_bytes v w → both t (by_cell v w) ≡ cond t (same_bytes v w) false
+    go true h = h
+    go false h = refl
 
 pub field_none : (e : E.Envelope) (d : ElementDef) (f : ℕ) → 9 ≤ f → (f ≡ 10 → ⊥) → (f ≡ 11 → ⊥) → fielded e d f ≡ None
 field_none e d f h k l = go (dec_lt 9 f)

@@ -15,7 +15,6 @@ use emit::{cells, envelope, signs};
 use nest::Job;
 use spec::envelope as caller;
 use spec::ids::{Element, Stretch, VersionRule};
-use spec::segments::same_at;
 use texts::render::Refused;
 use texts::{parse, render};
 
@@ -73,16 +72,7 @@ fn of_byte(field: Option<u8>, b: u8) -> Source
 fn is_white(b: usize) -> bool
     ensures { result ≡ is_white b }
 {
-    if b == 32 {
-        return true;
-    }
-    if b < 9 {
-        return false;
-    }
-    if 13 < b {
-        return false;
-    }
-    true
+    b == 32 || (9 <= b && b <= 13)
 }
 
 // A stretch of the job without the white space at its end.
@@ -163,17 +153,10 @@ fn field_source(job: Job, f: u8, x: Element) -> Option<Source>
 
 // Whether two stretches hold the same bytes.
 fn same(job: &[u8], a: Stretch, b: Stretch) -> bool
-    requires { (length job.now ≤ 65536) × (a.start + a.len ≤ length job.now) × (b.start + b.len ≤ length job.now) }
+    requires { (a.start + a.len ≤ length job.now) × (b.start + b.len ≤ length job.now) }
     ensures { result ≡ same_bytes (stretch_of job.now a) (stretch_of job.now b) }
 {
-    let m = a.len;
-    let n = b.len;
-    if m != n {
-        return false;
-    }
-    let p = a.start;
-    let q = b.start;
-    same_at(job, p, q, m)
+    column::same::same_bytes(job, a.start, a.len, b.start, b.len)
 }
 
 // The first code of an element.
@@ -189,16 +172,12 @@ fn spec_source(job: Job, id: Stretch, x: Element) -> Source
     ensures { (y : ℕ × ElementDef) → ElementSays job.entry.at.bytes.now x y
         → Tells job.entry.at.bytes.now (Some result) (Some (on (version_at (job_by job.entry) (stretch_of job.entry.at.bytes.now id) y.0) versioned (unsourced y.1))) }
 {
-    let Some(v) = spec::version::version(job.at) else {
-        return code_source(x);
-    };
-    if !same(job.at.bytes, v.segment, id) {
-        return code_source(x);
+    match spec::version::version(job.at) {
+        Some(v) if same(job.at.bytes, v.segment, id) && v.element == x.number => {
+            of_stretch(Some(12), v.first)
+        }
+        _ => code_source(x),
     }
-    if v.element == x.number {
-        return of_stretch(Some(12), v.first);
-    }
-    code_source(x)
 }
 
 // What an element of a trigger takes that is not the control number's.

@@ -15,6 +15,7 @@ ghost use Rattle.nest.specs.Job.{job_by};
 
 use crate::number::control_in;
 use crate::opener::{Frame, put_opener};
+use emit::closer::Closer;
 use emit::state::{Counts, From};
 use emit::{closer, signs, state};
 use nest::Job;
@@ -151,19 +152,15 @@ fn close_loop(
     let control = repeated(job, number, l, c.opener, opened);
     let n = counted(c.children, children, count);
     let sep = signs::separators_of(job.at);
-    closer::write_closer(
-        doc,
-        segments,
-        job.at.bytes,
-        s,
+    let closer = Closer {
         sep,
-        id.start,
-        id.len,
-        c.closer as usize,
+        id,
+        closer: c.closer as usize,
         control,
-        c.count as usize,
-        n,
-    )
+        count: c.count as usize,
+        counted: n,
+    };
+    closer::write_closer(doc, segments, job.at.bytes, s, closer)
 }
 
 // The closer of loop l: its count, and the control number of its instance.

@@ -29,7 +29,8 @@ use segment::{Pen, Separators, Value};
 use spec::elements;
 use spec::ids::{Element, Elements, Stretch};
 
-// A trigger: the separators, its identifier, that as a number, its depth, the element of its control number and that number's text.
+// A trigger: the separators, its identifier, that as a number, its depth, the element of its control number and that number's text. No ghost field
+// says that `id`, `tried` and `name` are the job's: it could speak of these fields alone, and the job is none of them.
 #[derive(Clone, Copy)]
 pub struct Frame {
     pub sep: Separators,
@@ -69,15 +70,10 @@ fn draw(doc: &mut [u8], job: &[u8], s: Separators, pen: Pen, stuck: bool, p: usi
 fn sticks(stuck: bool, p: usize) -> bool
     ensures { result ≡ pick stuck true (ltb p 1) }
 {
-    if stuck {
-        return true;
-    }
-    if p < 1 {
-        return true;
-    }
-    false
+    stuck || p < 1
 }
 
+// The trace entries of a text: one where it comes from a field.
 fn entries_of(field: Option<u8>) -> usize
     ensures { result ≡ on field (λ f. 1) 0 }
 {
@@ -182,7 +178,7 @@ fn value_of(job: &[u8], src: Source, x: Element) -> Value
     }
     let min = width_of(x.min);
     let max = width_of(x.max);
-    envelope::padded_value(job, v.bytes, v.count, v.start, v.len, x.numeric, min, max)
+    envelope::padded_value(job, v, x.numeric, min, max)
 }
 
 // An element that is left out.
@@ -303,7 +299,8 @@ fn elements_in(job: nest::Job, id: Stretch) -> Elements
     }
 }
 
-// What a trigger came to: the bytes of the document, the numbers of findings, the trace entries.
+// What a trigger came to: the bytes of the document, the numbers of findings, the trace entries. `row_segment::notes::Ended` has the same fields: a
+// type for both would stand in `emit` for `finish_segment`, and of its four callers the two that have no such struct would make one for the call.
 #[derive(Clone, Copy)]
 pub struct Put {
     pub bytes: usize,

@@ -15,12 +15,13 @@ fn count(counts: &mut [u64], answer: u32) {
     }
 }
 
-// A digit's number; 9, which is no answer's, for anything else.
+// A digit's number; what is none gives a number above those of answers. No Option: `judge` tells both answers as numbers in a line of its own.
 fn digit(c: u8) -> u32 {
     u32::from(c.checked_sub(b'0').unwrap_or(9))
 }
 
-// The answer to the first n bytes, which were edited at a place. Where there are fewer, 6 is told, which is none's.
+// The answer to the first n bytes, which were edited at a place. Where there are fewer, 6 is told, which is none's: the line and the counts take a
+// number.
 pub(crate) fn judge(
     rt: &impl Print,
     s: &[u8],

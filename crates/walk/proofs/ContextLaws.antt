@@ -1,10 +1,10 @@
 -- Contexts as code keeps them, one law for each way, and what each of them stands for.
-use Prim.Native.Nat.{ℕ, ◌+◌, ◌-◌, ◌<◌}
-use mathlib.Core.Path.{◌≡◌, refl, ap}
+use Prim.Native.Nat.{ℕ, ◌+◌, ◌-◌, ◌≤◌, ◌<◌}
+use mathlib.Core.Path.{◌≡◌, refl, sym, ap, ◌∙◌}
 use native.Mathlib.Numerals.{add-one}
-use lib.ListN.{length, get_or}
+use lib.ListN.{length, get_or, get_or-eq_default}
 use borrow.Author.Tests.{eq-eqb, ne_eqb}
-use Rattle.nest.specs.Found.{row_place}
+use Rattle.nest.specs.Found.{found_by, row_place}
 use Rattle.std.specs.Prelude.{Some, None}
 use Rattle.nest.proofs.FoundLaws.{place_none, place_some}
 use Rattle.walk.specs.declared.Context.{Context as Kept}
@@ -54,6 +54,13 @@ end_free c t n e = rw e
 pub stands_row : (c : Kept) (t : ℕ) → (context_by c).row t ≡ row_place (get_or c.rows t 0)
 unfolding context_by context
 stands_row c t = refl
+
+pub row_kept : (c : Kept) (t : ℕ) → row_by c t ≡ found_by ((context_by c).row t)
+unfolding row_by
+row_kept c t = ap found_by (sym (stands_row c t))
+
+pub row_past : (c : Kept) (t : ℕ) → length c.rows ≤ t → None ≡ found_by ((context_by c).row t)
+row_past c t h = ap found_by (sym (stands_row c t ∙ ap row_place (get_or-eq_default c.rows 0 {n = t} h)))
 
 pub stands_start : (c : Kept) (t : ℕ) → offset t (context_by c).run ≡ start_by c t
 unfolding context_by context start_by

@@ -20,3 +20,4 @@ pub mod Bounds
 pub mod EachKind
 pub mod ContextLaws
 pub mod NestedLaws
+pub mod OutlineLaws

@@ -2,12 +2,15 @@
 #![tactic(auto)]
 
 ghost use Rattle.std.specs.Prelude.{◌≡◌, ℕ, ◌+◌, ◌≤◌, ◌<◌, min};
+ghost use Rattle.nest.specs.Found.{found_by};
 ghost use Rattle.walk.specs.Census.{counted};
-ghost use Rattle.walk.specs.Contexts.{kept_outside, kept_row, kept_piece, row_by, start_by, end_by};
+ghost use Rattle.walk.specs.Contexts.{context_by, kept_outside, kept_row, kept_piece, row_by, start_by, end_by};
 
 mod nested;
+mod outline;
 
 pub use nested::Nest;
+pub use outline::{is_plain, parent_is};
 use spec::ids::{RowId, TableId};
 
 // A run of grouped rows: its table, and its bounds, counted from the start of the parent's list.
@@ -19,7 +22,8 @@ pub struct Run {
 }
 
 // The rows an instance sits in: for each table a row plus one, or 0; and inside an instance given by a run of grouped rows the run.
-// No Option for the rows: a context is passed by value to each loop below, and 16 of Option<RowId> are twice as large.
+// No Option for the rows: there is no heap, and a context stands by value in each level of the walk's calls, whose stack is bounded and stated
+// (docs/BENCHMARKS.md, "Stack"); 16 of Option<RowId> are twice as large at each level.
 #[derive(Clone, Copy)]
 pub struct Context {
     pub rows: [u32; 16],
@@ -30,25 +34,21 @@ pub struct Context {
 pub fn outside() -> Context
     ensures { result ≡ kept_outside }
 {
-    let rows: [u32; 16] = [0; 16];
     Context {
-        rows: rows,
+        rows: [0; 16],
         run: None,
     }
 }
 
-// Row r of table t is entered: no run bounds what is below it.
+// Row r of table t is entered: no run bounds what is below it. That t is below 16 is asked where the rows are indexed by it, and is no field of `TableId`: the job's
+// readers answer for any, as `row_of` does.
 pub fn in_row(c: Context, t: TableId, r: RowId) -> Context
     requires { (t.0 < 16) × (r.0 < 4096) }
     ensures { result ≡ kept_row c t.0 r.0 }
 {
-    let i = t.0 as usize;
     let mut rows = c.rows;
-    rows[i] = r.0 + 1;
-    Context {
-        rows: rows,
-        run: None,
-    }
+    rows[t.0 as usize] = r.0 + 1;
+    Context { rows, run: None }
 }
 
 // A run of table t is entered, at its first row.
@@ -56,15 +56,14 @@ pub fn in_piece(c: Context, t: TableId, head: RowId, start: usize, end: usize) -
     requires { (t.0 < 16) × (head.0 < 4096) }
     ensures { result ≡ kept_piece c t.0 head.0 start end }
 {
-    let i = t.0 as usize;
     let mut rows = c.rows;
-    rows[i] = head.0 + 1;
+    rows[t.0 as usize] = head.0 + 1;
     Context {
-        rows: rows,
+        rows,
         run: Some(Run {
             table: t,
-            start: start,
-            end: end,
+            start,
+            end,
         }),
     }
 }
@@ -74,13 +73,18 @@ pub fn row_in(c: Context, t: TableId) -> Option<RowId>
     requires { t.0 < 16 }
     ensures { result ≡ row_by c t.0 }
 {
-    let i = t.0 as usize;
-    let rows = c.rows;
-    let p = rows[i];
+    let p = c.rows[t.0 as usize];
     if p == 0 {
         return None;
     }
     Some(RowId(p - 1))
+}
+
+// The same of any table: none past 16 has a row.
+pub fn row_of(c: Context, t: TableId) -> Option<RowId>
+    ensures { result ≡ found_by ((context_by c).row t.0) }
+{
+    if t.0 < 16 { row_in(c, t) } else { None }
 }
 
 // Where the rows of table t start in the parent's list.

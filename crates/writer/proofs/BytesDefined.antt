@@ -20,9 +20,10 @@ use Rattle.format.specs.Ask.{found, same_bytes, segment_def, element_def, min_of
 use Rattle.format.specs.Refusal.{large, over_control, over_loop, over_element, over_segment, over_spec, over}
 use Rattle.nest.specs.Lists.{on, first, All}
 use Rattle.nest.proofs.Alls.{all_weaker}
+use Rattle.lossless.proofs.Words.{all_get, all_zip}
 use Rattle.writer.proofs.Lengths.{list_within, segments_in_lem}
 use Rattle.writer.proofs.BytesColumns.{text_long}
-use Rattle.writer.proofs.BytesLimits.{none_all, all_at, not_large}
+use Rattle.writer.proofs.BytesLimits.{none_all, not_large}
 use Rattle.writer.proofs.BytesSections.{spec_bytes}
 
 abbrev pub or_zero : Option ℕ → ℕ
@@ -96,8 +97,7 @@ codes_in n s h =
 -- ---- all of them
 
 both_all : {A : Type 0} (P Q : A → Type 0) (xs : List A) → All P xs → All Q xs → All (λ x. P x × Q x) xs
-both_all P Q [] h k = tt
-both_all P Q (x ∷ xs) h k = ((h.0, k.0), both_all P Q xs h.1 k.1)
+both_all P Q xs = all_zip P Q (λ x. P x × Q x) xs (λ x h k. (h, k))
 
 module _ (j : Job) (fits : over j ≡ false) where
   all_defined : All (λ (s : List ℕ × SegmentDef). All (Defined (spec_bytes j)) s.1) j.spec.segments
@@ -157,4 +157,4 @@ unfolding over over_spec loop_of
 control_small j h l =
     let s = none_of _ _ (none_of _ _ h).0 in
     let loops = (none_of _ _ (none_of _ _ s.1).1).0 in
-    all_at LoopControlled no_loop (λ c e. absurd (none-some c e)) j.spec.loops (all_weaker _ LoopControlled j.spec.loops loop_controlled (none_all over_loop j.spec.loops loops)) l
+    all_get LoopControlled j.spec.loops no_loop (all_weaker _ LoopControlled j.spec.loops loop_controlled (none_all over_loop j.spec.loops loops)) (λ c e. absurd (none-some c e)) l

@@ -23,10 +23,10 @@ use Rattle.texts.specs.Clock.{within_day, hours_minutes, hours_minutes_seconds, 
 use Rattle.segment.specs.Parts.{pick}
 use Rattle.nest.specs.Lists.{on, first}
 use Rattle.emit.specs.Puts.{nothing, put_text}
-use Rattle.emit.specs.Envelope.{Given, plainly, outcome, separator, trim_end, unless_last, is_white, repetition_given, field_at, field_given, Sourced, version_at, unsourced, versioned, fielded, source_at, is_numeric, padded_to, put_sourced, put_element}
+use Rattle.emit.specs.Envelope.{Given, plainly, trim_end, unless_last, is_white, repetition_given, field_at, field_given, Sourced, version_at, unsourced, versioned, fielded, source_at, is_numeric, padded_to, put_sourced, put_element}
+use Rattle.lossless.proofs.Openers.{given_all}
 use Rattle.writer.proofs.BytesColumns.{text_long}
 use Rattle.writer.proofs.BytesTexts.{date_short}
-use Rattle.writer.proofs.BytesLimits.{all_at}
 use Rattle.writer.proofs.BytesSections.{spec_bytes, or_nothing, option_text, version_within}
 use Rattle.writer.proofs.BytesSegments.{Bounded, nothing_bounded, text_bounded}
 use Rattle.writer.proofs.BytesDefined.{or_zero, code_of, Defined}
@@ -122,60 +122,22 @@ repetition_short U None None one h = omega arith
 repetition_short U None (Some b) one h = omega arith
 repetition_short U (Some c) r one h = h
 
-abbrev field_list : E.Envelope → ElementDef → List (Option Given)
-field_list e d =
-    Some (plainly e.sender_qualifier)
-    ∷ Some (plainly e.sender_id)
-    ∷ Some (plainly e.receiver_qualifier)
-    ∷ Some (plainly e.receiver_id)
-    ∷ Some (plainly (on e.application_sender (λ x. x) (trim_end e.sender_id)))
-    ∷ Some (plainly (on e.application_receiver (λ x. x) (trim_end e.receiver_id)))
-    ∷ Some (outcome (envelope_date (signed32 e.date) d.max))
-    ∷ Some (outcome (envelope_time (signed32 e.time) d.max))
-    ∷ Some (plainly e.usage_indicator)
-    ∷ None
-    ∷ repetition_given (first d.codes) e.repetition
-    ∷ Some (separator e.component)
-    ∷ []
-
 field_short : (U : ℕ) (e : E.Envelope) (d : ElementDef) (f : ℕ) → 8 ≤ U → length (envelope_c.enc e) ≤ U → length (code_of d) ≤ U → Short U (field_given e d f)
-unfolding field_given
 field_short U e d f eight h k =
     let m = fields_in e in
-    all_at (Short U) None (omega arith) (field_list e d) (
-      omega (arith, m),
-      (
-        omega (arith, m),
-        (
-          omega (arith, m),
-          (
-            omega (arith, m),
-            (
-              omega (arith, m, or_else e.application_sender e.sender_id),
-              (
-                omega (arith, m, or_else e.application_receiver e.receiver_id),
-                (
-                  omega (arith, envelope_date_lem (signed32 e.date) d.max),
-                  (
-                    omega (arith, envelope_time_lem (signed32 e.time) d.max),
-                    (
-                      omega (arith, m),
-                      (
-                        omega arith,
-                        (
-                          repetition_short U (first d.codes) e.repetition (omega arith) k,
-                          (omega arith, tt),
-                        ),
-                      ),
-                    ),
-                  ),
-                ),
-              ),
-            ),
-          ),
-        ),
-      ),
-    ) f
+    given_all (Short U) e d f
+    (omega arith)
+    (omega (arith, m))
+    (omega (arith, m))
+    (omega (arith, m))
+    (omega (arith, m))
+    (omega (arith, m, or_else e.application_sender e.sender_id))
+    (omega (arith, m, or_else e.application_receiver e.receiver_id))
+    (omega (arith, envelope_date_lem (signed32 e.date) d.max))
+    (omega (arith, envelope_time_lem (signed32 e.time) d.max))
+    (omega (arith, m))
+    (repetition_short U (first d.codes) e.repetition (omega arith) k)
+    (omega arith)
 
 fielded_short : (U : ℕ) (f : ℕ) (x : Option Given) → Short U x → ShortSource U (on x (λ g. Some (record { field = Some f; given = g })) None)
 fielded_short U f None h = omega arith

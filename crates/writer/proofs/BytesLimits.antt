@@ -1,5 +1,5 @@
 -- The numbers of places that a job which passed plans: 255 at most, and so is a repeat table's step.
-use Prim.Native.Nat.{ℕ, zero, suc, ◌≤◌}
+use Prim.Native.Nat.{ℕ, ◌≤◌}
 use mathlib.Core.Path.{◌≡◌, refl}
 use mathlib.Core.Bool.{Bool, true, false}
 use mathlib.Core.List.{List, [], ◌∷◌}
@@ -18,6 +18,7 @@ use Rattle.format.specs.Refusal.{large, over_step, over_table, over_element_plan
 use Rattle.segment.specs.Parts.{or_one}
 use Rattle.nest.specs.Lists.{on, All}
 use Rattle.nest.proofs.Alls.{all_weaker}
+use Rattle.lossless.proofs.Words.{all_get}
 
 pub none_all : {A : Type 0} (f : A → Bool) (xs : List A) → any_of f xs ≡ false → All (λ x. f x ≡ false) xs
 unfolding any_of
@@ -27,11 +28,6 @@ none_all {A} f (x ∷ xs) h = go (f x) refl h (none_all f xs)
     go : (t : Bool) → f x ≡ t → pick t true (any_of f xs) ≡ false → (any_of f xs ≡ false → All (λ x. f x ≡ false) xs) → All (λ x. f x ≡ false) (x ∷ xs)
     go true e h more = absurd (let z : ◌≡◌ {A = ℕ} 0 1 = cc in omega arith)
     go false e h more = (e, more h)
-
-pub all_at : {A : Type 0} (P : A → Type 0) (d : A) → P d → (xs : List A) → All P xs → (i : ℕ) → P (get_or xs i d)
-all_at P d z [] h i = z
-all_at P d z (x ∷ xs) h zero = h.0
-all_at P d z (x ∷ xs) h (suc i) = all_at P d z xs h.1 i
 
 pub not_large : (n : ℕ) → large n ≡ false → n ≤ 255
 unfolding large
@@ -68,7 +64,7 @@ pub planned_placed : (j : Job) → over j ≡ false → (l i : ℕ) → All Plac
 unfolding over planned_of plan_of
 planned_placed j h l i =
     let plans : All LoopPlaced j.plan = all_weaker _ LoopPlaced j.plan loop_placed (none_all over_loop_plan j.plan (none_of _ _ (none_of _ _ h).1).0) in
-    all_at SegmentPlaced no_segment_plan tt (get_or j.plan l no_loop_plan).segments (all_at LoopPlaced no_loop_plan tt j.plan plans l) i
+    all_get SegmentPlaced (get_or j.plan l no_loop_plan).segments no_segment_plan (all_get LoopPlaced j.plan no_loop_plan plans tt l) tt i
 
 Stepped : Table → Type 0
 Stepped t = on t.repeat (λ (r : Repeat). r.step) 0 ≤ 255
@@ -86,4 +82,4 @@ unfolding over over_spec step_of table_of Stepped
 step_small j h t =
     let s = none_of _ _ (none_of _ _ h).0 in
     let tables = (none_of _ _ (none_of _ _ (none_of _ _ (none_of _ _ s.1).1).1).1).0 in
-    all_at Stepped no_table (omega arith) j.spec.tables (all_weaker _ Stepped j.spec.tables table_stepped (none_all over_table j.spec.tables tables)) t
+    all_get Stepped j.spec.tables no_table (all_weaker _ Stepped j.spec.tables table_stepped (none_all over_table j.spec.tables tables)) (omega arith) t

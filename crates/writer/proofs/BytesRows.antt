@@ -2,7 +2,7 @@
 -- are no more than its cells.
 use Prim.Native.Nat.{ℕ, zero, suc, ◌+◌, ◌*◌, ◌-◌, ◌≤◌, ◌<◌, min}
 use mathlib.Core.Path.{◌≡◌, refl, sym, ap}
-use mathlib.Core.Bool.{Bool, true, false, cond, ◌&&◌, true≢false}
+use mathlib.Core.Bool.{Bool, true, false, cond, true≢false}
 use mathlib.Core.List.{List, [], ◌∷◌, foldr}
 use native.Mathlib.Omega.{arith}
 use native.Mathlib.Nat.{suc-mul, mul-le-mul_right}
@@ -21,6 +21,7 @@ use Rattle.nest.specs.Outline.{Outline, Kind, absent, envelope, implied, rows, i
 use Rattle.nest.specs.Nest.{Anchor, depth_of, anchor_at, insert, anchors, Claim, claim_on, claim_in, hook_on, settle, hook, hooked, first_row, repeat_rows}
 use Rattle.nest.specs.OfJob.{outline_of}
 use Rattle.nest.proofs.Alls.{all_append}
+use Rattle.walk.proofs.Tests.{both}
 use Rattle.writer.proofs.BytesSums.{sum_each_time}
 use Rattle.writer.proofs.BytesColumns.{rows_in, bytes_in, ints_in, reference_below, weigh, cell_weigh, cell_past}
 
@@ -87,10 +88,6 @@ module _ (o : Outline) where
 
 -- ---- the rows that a loop's instance takes
 
-both : (a b : Bool) → (a && b) ≡ true → a ≡ true
-both true b e = refl
-both false b e = absurd (true≢false (sym e))
-
 module _ (j : Job) (t : ℕ) where
   abbrev o : Outline
   o = outline_of j
@@ -120,7 +117,7 @@ module _ (j : Job) (t : ℕ) where
     where
       placed : (k : Claim) (y : Option ℕ) → r < limit k.loop → hooked (option_map (hook_on k) y) l p ≡ true → r < limit l
       placed k None h e = absurd (true≢false (sym e))
-      placed k (Some q) h e = let s : l ≡ k.loop = eqb-true l k.loop (both (eqb l k.loop) (eqb p q) e) in rw s h
+      placed k (Some q) h e = let s : l ≡ k.loop = eqb-true l k.loop (both (eqb l k.loop) (eqb p q) e).0 in rw s h
 
       go : (b : Bool) (x : Option Claim) → claim_in o t r (anchors o t) ≡ x → hooked (cond b (on x (settle o) None) None) l p ≡ true → r < limit l
       go false x q e = absurd (true≢false (sym e))

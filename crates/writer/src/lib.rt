@@ -24,12 +24,9 @@ ghost use Rattle.nest.specs.Job.{outline_by, job_by};
 use census::crowded;
 use emit::state::{Counts, State};
 use index::fill_index;
-use nest::Job;
-use nest::duplicates::all_duplicates;
-use nest::keys::all_keys;
 use nest::order::mark_rising;
-use nest::report::all_findings;
 use nest::rows::nest_rows;
+use nest::{Job, nest_findings};
 use refusal::Refusal;
 use run::run;
 use spec::Indexed;
@@ -76,15 +73,6 @@ impl From<Refusal> for Refused {
 }
 
 pub type Answer = Result<Totals, Refused>;
-
-// What nest finds: duplicate keys first, then row by row.
-fn nest_findings(nest: Nest, window: &mut [u64], start: usize) -> usize
-    ensures { Noted window.old start (words (nest_findings (outline_by nest.entry.job))) result window.new }
-{
-    let keys = all_keys(nest.job);
-    let next = all_duplicates(nest.job, keys, window, start);
-    all_findings(nest.job, nest.array, window, next)
-}
 
 // Where the count of findings' numbers starts: place 2^62 is the window's first.
 fn start_of(from: usize) -> usize
@@ -133,7 +121,7 @@ fn written<'x>(
         },
         array: nest,
     };
-    let n = nest_findings(nest, window, start);
+    let n = nest_findings(nest.job, nest.array, window, start);
     let s = first_state(control_number(nest.job.at), n);
     run(nest, document, segments, window, stops, s)
 }

@@ -26,8 +26,8 @@ entered-returns-then-height-eq0 t c = entered_deep _ _ _ _ _ c.requires.2 c.if-h
 
 pub entered-loop-m-preserved : goal.entered-loop-m-preserved
 entered-loop-m-preserved t c = elim c.if-leaf.branch [
-  | entered-then-leaf w ↦ rw (w.m-is, w.leaf-is) (entered_leaf _ _ _ _ _ _ _ _ _ c.loop-m.invariant _ c.next_instance.ensures _ c.in-Some.is _ c.one_more-with.ensures w.if-leaf.true)
-  | entered-else-leaf w ↦ rw (w.m-is, w.leaf-is) (entered_next _ _ _ _ _ _ _ _ _ c.loop-m.invariant _ c.next_instance.ensures _ c.in-Some.is _ _ _ _ w.context_in-inner.ensures c.one_more-with.ensures w.below-b.ensures)
+  | entered-then-leaf w ↦ rw (c.behind-cur.ensures, w.m-is, w.leaf-is) (entered_leaf _ _ _ _ _ _ _ _ _ c.loop-m.invariant _ c.next_instance.ensures _ c.in-Some.is _ c.one_more-with.ensures w.if-leaf.true)
+  | entered-else-leaf w ↦ rw (c.behind-cur.ensures, w.m-is, w.leaf-is) (entered_next _ _ _ _ _ _ _ _ _ c.loop-m.invariant _ c.next_instance.ensures _ c.in-Some.is _ _ _ _ w.context_in-inner.ensures c.one_more-with.ensures w.below-b.ensures)
 ]
 
 pub entered-returns-in_default : goal.entered-returns-in_default

@@ -1,22 +1,15 @@
-use Rattle.codec.specs.Strings.{less_at, less_ends, less_short, less_yes, less_no, less_more}
+use Rattle.codec.proofs.Less.{less_start, less_apart, less_next_byte, less_over}
 use native.Mathlib.Omega.{arith}
 use Rattle.codec.proofs.less_at.Goals as goal
 
-pub loop-m-init : goal.loop-m-init
-unfolding less_at
-loop-m-init c = (cc, omega arith, omega arith)
-
-pub returns-then-n-eq0 : goal.returns-then-n-eq0
-returns-then-n-eq0 c = less_short _ _ _ _ _ _ c.loop-m.invariant.0 (omega arith) c.loop-m-test.true
+pub loop-k-init : goal.loop-k-init
+loop-k-init c = less_start _ _ _ _ _ c.num-n.ensures.0 c.num-m.ensures.0
 
 pub returns-then-x-y : goal.returns-then-x-y
-returns-then-x-y c = less_yes _ _ _ _ _ _ _ _ c.loop-m.invariant.0 (omega arith) c.loop-m-test.true c.byte_at-x.ensures.0 c.byte_at-y.ensures.0 c.if-x-y.true
+returns-then-x-y c = less_apart _ _ _ _ _ _ _ c.loop-k.invariant _ _ (omega (arith, c.min-k-end.ensures)) c.byte_at-x.ensures.0 c.byte_at-y.ensures.0 c.if-x-y.true
 
-pub returns-then-x-y-2 : goal.returns-then-x-y-2
-returns-then-x-y-2 c = less_no _ _ _ _ _ _ _ _ c.loop-m.invariant.0 (omega arith) c.loop-m-test.true c.byte_at-x.ensures.0 c.byte_at-y.ensures.0 c.if-x-y.false c.if-x-y-2.true
-
-pub loop-m-preserved : goal.loop-m-preserved
-loop-m-preserved c = (less_more _ _ _ _ _ _ _ _ c.loop-m.invariant.0 (omega arith) c.loop-m-test.true c.byte_at-x.ensures.0 c.byte_at-y.ensures.0 c.if-x-y.false c.if-x-y-2.false, omega arith, omega arith)
+pub loop-k-preserved : goal.loop-k-preserved
+loop-k-preserved c = less_next_byte _ _ _ _ _ _ _ c.loop-k.invariant _ _ (omega (arith, c.min-k-end.ensures)) c.byte_at-x.ensures.0 c.byte_at-y.ensures.0 c.if-x-y.false
 
 pub returns : goal.returns
-returns c = less_ends _ _ _ _ _ _ c.loop-m.invariant.0 c.loop-m-test.false
+returns c = less_over _ _ _ _ _ _ _ c.loop-k.invariant (omega (arith, c.min-k-end.ensures)) (omega (arith, c.min-k-end.ensures))

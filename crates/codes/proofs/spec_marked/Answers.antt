@@ -1,10 +1,17 @@
 use Rattle.codec.specs.Maps.{is_bytes_map}
 use Rattle.format.specs.Fields.{is_spec}
 use Rattle.codes.specs.Codes.{marked_spec}
-use Rattle.codes.proofs.Laws.{joined}
+use Rattle.codes.proofs.Laws.{either_first, either_next}
 use Rattle.says.proofs.Walk.{says_at}
 use Rattle.codes.proofs.spec_marked.Goals as goal
 
-pub returns : goal.returns
+pub returns-then-segments_marked : goal.returns-then-segments_marked
 unfolding marked_spec
-returns c v i = let l = is_spec _ _ _ v i in joined _ _ _ _ _ c.either.ensures (says_at _ _ _ _ _ _ _ _ c.segments_marked-x.ensures (is_bytes_map _ _ _ _ _ l.segments).0 (cc)) (says_at _ _ _ _ _ _ _ _ c.opt_version_marked-y.ensures l.version (cc))
+returns-then-segments_marked c v i = let l = is_spec _ _ _ v i in
+    either_first _ _ _ (says_at _ _ _ _ _ _ _ _ c.segments_marked.ensures (is_bytes_map _ _ _ _ _ l.segments).0 (cc)) c.if-segments_marked.true
+
+pub returns-else-segments_marked : goal.returns-else-segments_marked
+unfolding marked_spec
+returns-else-segments_marked c v i = let l = is_spec _ _ _ v i in
+    either_next _ _ _ _ (says_at _ _ _ _ _ _ _ _ c.segments_marked.ensures (is_bytes_map _ _ _ _ _ l.segments).0 (cc)) c.if-segments_marked.false
+    (says_at _ _ _ _ _ _ _ _ c.opt_version_marked.ensures l.version (cc))

@@ -2,31 +2,31 @@ use native.Mathlib.Omega.{arith}
 use Rattle.due.proofs.Bridge.{child_small}
 use Rattle.due.proofs.Loops.{deep, at_own, below_own, elsewhere, below_here, below_next, below_end}
 use Rattle.due.proofs.+has_data.Goals as goal
-use Rattle.due.proofs.+has_data.Goals.{then-below+else-found, else-below}
+use Rattle.due.proofs.+has_data.Goals.{else-inside-via-then-inside+else-has_data, else-inside-via-else-inside}
 
 pub returns-then-height-eq0 : goal.returns-then-height-eq0
 returns-then-height-eq0 t c = deep _ _ _ _ _ c.if-height-eq0.true
 
-pub returns-then-own : goal.returns-then-own
-returns-then-own t c = at_own _ _ _ _ _ _ c.if-height-eq0.false c.own_data-own.ensures c.if-own.true
+pub returns-then-own_data : goal.returns-then-own_data
+returns-then-own_data t c = at_own _ _ _ _ _ _ c.if-height-eq0.false c.own_data.ensures c.if-own_data.true
 
 pub loop-k-init : goal.loop-k-init
-loop-k-init t c = below_own _ _ _ _ _ _ c.if-height-eq0.false c.own_data-own.ensures c.if-own.false
+loop-k-init t c = below_own _ _ _ _ _ _ c.if-height-eq0.false c.own_data.ensures c.if-own_data.false
 
-pub inside-below-requires : goal.inside-below-requires
-inside-below-requires t c = child_small _ c.args.job.ready.passed _ _ _ _ c.child_count-n.ensures c.loop-k-test.true c.child-c.ensures
+pub inside-requires : goal.inside-requires
+inside-requires t c = child_small _ c.args.job.ready.passed _ _ _ _ c.child_count-n.ensures c.loop-k-test.true c.child-c.ensures
 
-pub has_data-found-requires : goal.has_data-found-requires
-has_data-found-requires t c = (omega arith, child_small _ c.args.job.ready.passed _ _ _ _ c.child_count-n.ensures c.loop-k-test.true c.child-c.ensures)
+pub has_data-requires : goal.has_data-requires
+has_data-requires t c = (omega arith, child_small _ c.args.job.ready.passed _ _ _ _ c.child_count-n.ensures c.loop-k-test.true c.child-c.ensures)
 
-pub returns-then-found : goal.returns-then-found
-returns-then-found t c = below_here _ _ _ _ _ _ _ c.child_count-n.ensures c.loop-k.invariant _ _ c.loop-k-test.true c.child-c.ensures c.inside-below.ensures _ c.if-below.true c.has_data-found.ensures c.if-found.true
+pub returns-then-has_data : goal.returns-then-has_data
+returns-then-has_data t c = below_here _ _ _ _ _ _ _ c.child_count-n.ensures c.loop-k.invariant _ _ c.loop-k-test.true c.child-c.ensures c.inside.ensures _ c.if-inside.true c.has_data.ensures c.if-has_data.true
 
 pub loop-k-preserved : goal.loop-k-preserved
 loop-k-preserved t c =
-    elim c.if-below.branch [
-      | then-below+else-found w ↦ below_next _ _ _ _ _ _ _ c.child_count-n.ensures c.loop-k.invariant _ _ c.loop-k-test.true c.child-c.ensures c.inside-below.ensures _ w.if-below.true w.has_data-found.ensures w.if-found.false
-      | else-below w ↦ elsewhere _ _ _ _ _ _ _ c.child_count-n.ensures c.loop-k.invariant _ _ c.loop-k-test.true c.child-c.ensures c.inside-below.ensures w.if-below.false
+    elim c.else-inside.branch [
+      | else-inside-via-then-inside+else-has_data w ↦ below_next _ _ _ _ _ _ _ c.child_count-n.ensures c.loop-k.invariant _ _ c.loop-k-test.true c.child-c.ensures c.inside.ensures _ w.if-inside.true w.has_data.ensures w.if-has_data.false
+      | else-inside-via-else-inside w ↦ elsewhere _ _ _ _ _ _ _ c.child_count-n.ensures c.loop-k.invariant _ _ c.loop-k-test.true c.child-c.ensures c.inside.ensures w.if-inside.false
     ]
 
 pub returns : goal.returns

@@ -1,8 +1,5 @@
-use Rattle.std.proofs.Common.{◌≡◌, take, arith}
-use Rattle.exports.proofs.Laws.{front_copied}
+use Rattle.std.proofs.Math.Seq.{take-length}
 use Rattle.exports.proofs.copy_front.Goals as goal
 
 pub returns : goal.returns
-returns g c =
-    let e : c.copy_from_slice.new.self ≡ take c.min-n.result c.args.source.now = grind (arith, c.copy_from_slice.ensures) in
-    rw e (front_copied _ _ _ c.min-n.ensures)
+returns g c = rw (take-length c.args.source.now) at c.put_stretch.ensures.stored

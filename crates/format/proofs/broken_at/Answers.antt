@@ -1,5 +1,6 @@
 use mathlib.Core.Path.{refl}
 use Rattle.format.specs.Decoding.{broken_is, broken_short, broken_long}
+use Rattle.codec.proofs.Joined.{or_pick, pick_pick}
 use Rattle.format.proofs.broken_at.Goals as goal
 
 pub returns-then-b-lt24 : goal.returns-then-b-lt24
@@ -9,4 +10,4 @@ pub returns-then-b-gt65536 : goal.returns-then-b-gt65536
 returns-then-b-gt65536 c = broken_long _ c.if-b-lt24.false c.if-b-gt65536.true
 
 pub returns : goal.returns
-returns c = cc (broken_is _ _ _ _ _ _ _ _ c.if-b-lt24.false c.if-b-gt65536.false refl c.num-spec.ensures.0 c.num-plan.ensures.0 c.num-layout.ensures.0 c.num-envelope.ensures.0 c.num-data.ensures.0 c.num-whole.ensures.0)
+returns c = simp (or_pick, pick_pick) (cc (broken_is _ _ _ _ _ _ _ _ c.if-b-lt24.false c.if-b-gt65536.false refl c.num-spec.ensures.0 c.num-plan.ensures.0 c.num-layout.ensures.0 c.num-envelope.ensures.0 c.num-data.ensures.0 c.num-whole.ensures.0))

@@ -1,10 +1,8 @@
-use Rattle.std.proofs.Common.{drop, length-drop, sym, ◌∙◌, arith}
-use lib.Seq.{get_or-drop}
-use Rattle.lent.proofs.Laws.{sets_next}
+use Rattle.std.proofs.Common.{◌≡◌, take, drop, arith, ◌∙◌}
+use Rattle.lent.proofs.Laws.{part_put, length_stretch}
 use Rattle.lent.proofs.copy.Goals as goal
 
-pub loop-i-preserved : goal.loop-i-preserved
-loop-i-preserved g c =
-    let a = c.args in
-    let v = c.index-source-start in
-    sets_next v.result _ _ (drop a.start a.source.now) _ c.loop-i.invariant (rw length-drop (omega arith)) (v.is ∙ sym (get_or-drop a.start a.source.now c.loop-i.i v.result))
+pub returns-then-n-gt0 : goal.returns-then-n-gt0
+returns-then-n-gt0 g c =
+    let e : c.copy_from_slice.new.self ≡ take c.args.n (drop c.args.start c.args.source.now) = grind (arith, c.copy_from_slice.ensures) in
+    rw e (part_put _ _ _ _ (length_stretch c.args.source.now c.args.start c.args.n ∙ omega (arith, c.requires.1)) (omega (arith, c.requires.0)))

@@ -1,9 +1,9 @@
-use Rattle.std.proofs.Common.{replicate, sym, rules}
-use lib.ListN.{length-replicate, get_or-replicate}
-use Rattle.lent.proofs.Laws.{sets_turn}
+use Rattle.std.proofs.Common.{◌≡◌, replicate, arith}
+use lib.ListN.{length-replicate}
+use Rattle.lent.proofs.Laws.{part_put}
 use Rattle.lent.proofs.fill.Goals as goal
 
-pub loop-i-preserved : goal.loop-i-preserved
-loop-i-preserved c =
-    let a = c.args in
-    (search rules, sets_turn _ _ (replicate a.n a.b) _ c.loop-i.invariant.1 (rw length-replicate c.loop-i-test.true) (sym (get_or-replicate _ _ _ _ c.loop-i-test.true)))
+pub returns-then-n-gt0 : goal.returns-then-n-gt0
+returns-then-n-gt0 c =
+    let e : c.fill.new.self ≡ replicate c.args.n c.args.b = grind (arith, c.fill.ensures) in
+    rw e (part_put _ _ _ _ (length-replicate c.args.n c.args.b) (omega (arith, c.requires)))

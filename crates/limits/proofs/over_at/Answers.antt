@@ -17,9 +17,6 @@ invariant_of-plan_over c = record { within = omega (arith, sound_of _ c.requires
 pub invariant_of-layout_over : goal.invariant_of-layout_over
 invariant_of-layout_over c = record { within = omega (arith, sound_of _ c.requires.0) }
 
-pub invariant_of-data_over : goal.invariant_of-data_over
-invariant_of-data_over c = record { within = omega (arith, sound_of _ c.requires.0) }
-
 pub returns-in_err-parts : goal.returns-in_err-parts
 unfolding over
 returns-in_err-parts c =

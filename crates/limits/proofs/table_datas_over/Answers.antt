@@ -10,9 +10,6 @@ use Rattle.limits.proofs.table_datas_over.Goals as goal
 pub loop-i-init : goal.loop-i-init
 loop-i-init c = let z : c.count_at-n.result - 0 ≡ c.count_at-n.result = omega arith in (omega arith, rw z (sum_start _ _ _ _ _ c.count_at-n.ensures.0 c.le_at-p.ensures))
 
-pub overflow_add-rows : goal.overflow_add-rows
-overflow_add-rows c = omega (arith, c.loop-i.invariant.0, c.count_at-rows.ensures.1)
-
 pub returns-then-rows-gt4096 : goal.returns-then-rows-gt4096
 returns-then-rows-gt4096 c = sum_found _ _ _ _ _ _ _ c.loop-i.invariant.1 (omega arith) c.count_at-rows.ensures.0 c.if-rows-gt4096.true
 

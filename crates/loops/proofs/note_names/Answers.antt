@@ -11,9 +11,6 @@ loop-i-init c = let z : c.count_at-n.result - 0 ≡ c.count_at-n.result = omega 
 pub returns-then-names-k : goal.returns-then-names-k
 returns-then-names-k c = let i = c.loop-i.invariant in (i.0, (i.1.0, noting_full _ _ _ _ _ _ _ _ _ i.1.1 (omega (arith, c.if-names-k.true, i.0))))
 
-pub note_name-k-requires : goal.note_name-k-requires
-note_name-k-requires c = omega (arith, c.if-names-k.false, c.loop-i.invariant.0)
-
 pub loop-i-preserved : goal.loop-i-preserved
 loop-i-preserved c =
     let i = c.loop-i.invariant in

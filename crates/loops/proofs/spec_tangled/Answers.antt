@@ -4,6 +4,7 @@ use Rattle.format.specs.Fields.{is_spec}
 use Rattle.says.proofs.Walk.{both, only, says_at}
 use Rattle.loops.proofs.Forest.{children_tangle}
 use Rattle.loops.specs.Parts.{tangled_spec}
+use Rattle.codec.proofs.Joined.{or_pick, pick_pick}
 use Rattle.loops.proofs.spec_tangled.Goals as goal
 
 pub returns-then-loops_repeat : goal.returns-then-loops_repeat
@@ -11,4 +12,4 @@ returns-then-loops_repeat c v i = children_tangle v _ (c.loops_repeat.ensures _ 
 
 pub returns : goal.returns
 unfolding tangled_spec
-returns c v i = let l = is_spec _ _ _ v i in both _ _ _ _ _ c.either-2.ensures (c.disagreements-x.ensures _ l.loops _ l.loops) (both _ _ _ _ _ c.either.ensures (c.rings-y.ensures _ l.loops _ l.loops) (only _ _ (says_at _ _ _ _ _ _ _ _ (c.misroots-z.ensures _ (is_at _ _ _ _ _ _ c.requires l.roots)) l.loops refl)))
+returns c v i = let l = is_spec _ _ _ v i in simp (or_pick, pick_pick) (both _ _ _ _ _ refl (c.disagreements.ensures _ l.loops _ l.loops) (both _ _ _ _ _ refl (c.rings.ensures _ l.loops _ l.loops) (only _ _ (says_at _ _ _ _ _ _ _ _ (c.misroots.ensures _ (is_at _ _ _ _ _ _ c.requires l.roots)) l.loops refl))))

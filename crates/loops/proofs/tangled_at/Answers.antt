@@ -3,7 +3,7 @@ use native.Mathlib.Omega.{arith}
 use Rattle.format.specs.Decoding.{read_job, sound_of}
 use Rattle.says.proofs.Walk.{section_says}
 use Rattle.says.proofs.Walk.{count_length}
-use Rattle.loops.proofs.Forest.{order_says, order_out, roots_for, spec_loops, spec_roots_lem, tables_for, tangled_outside, tangled_order, tangled_rest, tangled_roots, tangled_spec_lem}
+use Rattle.loops.proofs.Forest.{order_says, order_out, roots_for, spec_loops, spec_roots_lem, tangled_outside, tangled_order, tangled_rest, tangled_roots, tangled_spec_lem}
 use Rattle.loops.proofs.tangled_at.Goals as goal
 
 pub invariant_of-spec : goal.invariant_of-spec
@@ -11,9 +11,6 @@ invariant_of-spec c = record { within = omega (arith, sound_of _ c.requires.0) }
 
 pub invariant_of-orders : goal.invariant_of-orders
 invariant_of-orders c = record { within = omega (arith, sound_of _ c.requires.0) }
-
-pub spec_outside-requires : goal.spec_outside-requires
-spec_outside-requires c = (roots_for _ _ _ _ c.start-plan.ensures c.requires.2, tables_for _ _ _ _ c.start-plan.ensures c.requires.3)
 
 pub returns-then-spec_outside : goal.returns-then-spec_outside
 returns-then-spec_outside c = let r = read_job _ c.requires.0 c.requires.1 in tangled_outside _ _ r _ (section_says _ _ _ _ _ _ _ _ _ c.spec_outside.ensures refl c.start-plan.ensures r.spec) c.if-spec_outside.true
@@ -32,9 +29,6 @@ returns-then-repeats_at c =
     tangled_roots _ _ r _ (section_says _ _ _ _ _ _ _ _ _ c.spec_outside.ensures refl c.start-plan.ensures r.spec) _
     (order_out _ _ r _ _ _ _ c.orders_outside.ensures c.start-layout.ensures c.start-envelope.ensures z) c.if-spec_outside.false c.if-orders_outside.false
     _ (spec_roots_lem _ _ _ _ _ _ c.repeats_at.ensures (roots_for _ _ _ _ c.start-plan.ensures c.requires.2) c.start-plan.ensures r.spec) c.if-repeats_at.true
-
-pub spec_tangled-requires : goal.spec_tangled-requires
-spec_tangled-requires c = roots_for _ _ _ _ c.start-plan.ensures c.requires.2
 
 pub returns-then-spec_tangled : goal.returns-then-spec_tangled
 returns-then-spec_tangled c =

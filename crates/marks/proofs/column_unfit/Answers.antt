@@ -1,5 +1,5 @@
 use native.Mathlib.Omega.{arith}
-use mathlib.Core.Path.{refl, sym, ◌∙◌}
+use mathlib.Core.Path.{refl}
 use Rattle.codec.specs.Ways.{case_some, case_none}
 use Rattle.format.specs.Fields.{is_column}
 use Rattle.format.specs.Refusal.{unfit_column}

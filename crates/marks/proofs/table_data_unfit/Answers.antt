@@ -1,11 +1,10 @@
-use mathlib.Core.Path.{sym, ◌∙◌}
+use mathlib.Core.Path.{◌∙◌}
 use Rattle.codec.specs.Skip.{skip_map, skip_pair}
-use Rattle.codec.specs.Limits.{any_nil}
 use Rattle.format.specs.Fields.{is_table_data_lem}
 use Rattle.format.specs.Data.{table_data_c}
 use Rattle.format.specs.Refusal.{unfit_table_data}
 use Rattle.says.proofs.Walk.{says_be}
-use Rattle.says.proofs.Pass.{is_found, is_clear, any_here, any_later, any_not, told_none, told_some, clears_at, clears_among, any_past, any_one}
+use Rattle.says.proofs.Pass.{is_found, any_here, any_later, told_none, told_some, clears_at, clears_among, any_past, any_one}
 use Rattle.marks.proofs.table_data_unfit.Goals as goal
 
 pub returns-then-opt_column_unfit : goal.returns-then-opt_column_unfit

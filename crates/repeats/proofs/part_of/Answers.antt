@@ -3,9 +3,6 @@ use native.Mathlib.Omega.{arith}
 use Rattle.repeats.proofs.RowLaws.{part_all, part_climbs, part_narrow}
 use Rattle.repeats.proofs.part_of.Goals as goal
 
-pub invariant_of-all : goal.invariant_of-all
-invariant_of-all c = record { within = omega (arith, c.table_of-w.ensures.1.among, c.args.nest.nested.room); few = omega (arith, c.table_of-w.ensures.1.within) }
-
 pub first_at-low-requires : goal.first_at-low-requires
 first_at-low-requires c = (omega arith, part_climbs c.args.nest.nested _ c.args.p.0 _ c.table_of-w.ensures.0 c.table_of-w.ensures.1 c.table_of-w.ensures.2 c.requires.1 (sym c.rises.ensures ∙ c.if-rises.true))
 

@@ -150,7 +150,7 @@ visits-loop-next-preserved t c =
     let a = c.loop-next.invariant.along in
     let fit = visits-fit t (goal.at.visits-loop-next-preserved t c).Start in
     let took = instance_took _ _ _ _ c.items-v.ensures c.close-closed.ensures (did_fit fit a.far.did) (c.enter_own.ensures c.loop-next.doc c.loop-next.segments) in
-    record { along = visits_next _ _ _ _ _ there _ _ _ came a took fit; going = (c.next_instance.ensures.given _ c.in-Some.is).still }
+    rw c.behind-cur.ensures (record { along = visits_next _ _ _ _ _ there _ _ _ came a took fit; going = (c.next_instance.ensures.given _ c.in-Some.is).still })
 
 pub visits-returns : goal.visits-returns
 visits-returns t c = visits_end _ _ _ _ _ c.instances-cur.ensures.0 c.if-height-eq0.false _ (c.next_instance.ensures.ended c.in_default.is) c.loop-next.invariant.along

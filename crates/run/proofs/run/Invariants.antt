@@ -1,4 +1,4 @@
-use Prim.Native.Nat.{◌-◌, ◌≤◌}
+use Prim.Native.Nat.{◌≤◌}
 use Rattle.nest.specs.Job.{job_by}
 use Rattle.run.proofs.Touring.{RootsTo}
 use Rattle.run.proofs.run.Given as goal

@@ -1,19 +1,12 @@
-use borrow.Author.Tests.{eq-eqb, ne_eqb}
+use Rattle.std.proofs.Common.{arith}
+use Rattle.std.proofs.lemmas.Bool.Decides.{nat_tests}
 use Rattle.segment.specs.Pen.{one_of}
 use Rattle.segment.proofs.one_of.Goals as goal
 
-pub returns-then-x-s : goal.returns-then-x-s
-unfolding one_of
-returns-then-x-s c = simp (eq-eqb _ _ c.if-x-s.true)
-
-pub returns-then-x-s-2 : goal.returns-then-x-s-2
-unfolding one_of
-returns-then-x-s-2 c = simp (ne_eqb _ _ c.if-x-s.false, eq-eqb _ _ c.if-x-s-2.true)
-
 pub returns-then-x-s-3 : goal.returns-then-x-s-3
 unfolding one_of
-returns-then-x-s-3 c = simp (ne_eqb _ _ c.if-x-s.false, ne_eqb _ _ c.if-x-s-2.false, eq-eqb _ _ c.if-x-s-3.true)
+returns-then-x-s-3 c = grind (arith, nat_tests)
 
-pub returns : goal.returns
+pub returns-else-x-s-3 : goal.returns-else-x-s-3
 unfolding one_of
-returns c = let a = c.args in rw (ne_eqb a.x a.s.0 c.if-x-s.false, ne_eqb a.x a.s.1 c.if-x-s-2.false, ne_eqb a.x a.s.2 c.if-x-s-3.false)
+returns-else-x-s-3 c = grind (arith, nat_tests)

@@ -6,9 +6,6 @@ use Rattle.lent.proofs.Laws.{stored_append}
 use Rattle.segment.proofs.put_back.Goals as goal
 use Rattle.segment.proofs.put_back.Goals.{Start}
 
-pub returns-then-v-eq0 : goal.returns-then-v-eq0
-returns-then-v-eq0 c = rw c.if-v-eq0.true c.put_run.ensures
-
 pub returns : goal.returns
 returns c =
     let a = c.args in

@@ -1,10 +1,7 @@
-use Rattle.segment.proofs.Components.{group_start, group_next, group_end}
+use Rattle.segment.proofs.Components.{group_next, group_end}
 use native.Mathlib.Omega.{arith}
 use Rattle.segment.proofs.put_components.Goals as goal
 use Rattle.segment.proofs.put_components.Goals.{else-loop-c-test, then-loop-c-test+else-c-last}
-
-pub loop-c-init : goal.loop-c-init
-loop-c-init g c = λ f h. group_start
 
 pub loop-c-preserved : goal.loop-c-preserved
 loop-c-preserved g c = λ f h. group_next c.loop-c-test.true (c.loop-c.invariant f h) (h _ _ c.value-v.ensures) c.component-t.ensures

@@ -1,17 +1,10 @@
-use Prim.Native.Nat.{ℕ, ◌≤◌}
-use mathlib.Core.Path.{ap}
+use Prim.Native.Nat.{◌≤◌}
 use native.Mathlib.Omega.{arith}
 use lib.ListN.{length, take, replicate}
 use Rattle.lent.specs.Fit.{cap}
 use Rattle.lent.proofs.Laws.{stored_append}
-use Rattle.segment.proofs.Texts.{stored_alone}
 use Rattle.segment.proofs.put_front.Goals as goal
 use Rattle.segment.proofs.put_front.Goals.{Start}
-
-pub returns-then-v-eq0 : goal.returns-then-v-eq0
-returns-then-v-eq0 c =
-    let a = c.args in
-    stored_alone (replicate a.v.zeros 48) (take a.v.count a.v.bytes) (ap (λ (n : ℕ). take n a.v.bytes) c.if-v-eq0.true) c.put_run-a.ensures
 
 pub returns : goal.returns
 returns c =

@@ -1,14 +1,13 @@
-use Prim.Native.Nat.{ℕ}
-use mathlib.Core.Path.{ap, ◌∙◌}
-use lib.ListN.{replicate}
+use mathlib.Core.Path.{refl, ◌∙◌}
+use mathlib.Core.List.{[]}
 use Rattle.segment.specs.Pen.{one_of}
 use Rattle.segment.proofs.Texts.{any_none, any_run}
 use Rattle.segment.proofs.run_holds.Goals as goal
 
-pub returns-then-n-eq0 : goal.returns-then-n-eq0
-returns-then-n-eq0 c =
-    let a = c.args in any_none (one_of a.s.0 a.s.1 a.s.2 a.s.3) (replicate a.n a.x) (ap (λ (n : ℕ). replicate n a.x) c.if-n-eq0.true)
+pub returns-then-n-ne0 : goal.returns-then-n-ne0
+returns-then-n-ne0 c =
+    let a = c.args in c.one_of.ensures ∙ any_run (one_of a.s.0 a.s.1 a.s.2 a.s.3) a.x a.n c.if-n-ne0.true
 
-pub returns : goal.returns
-returns c =
-    let a = c.args in c.one_of.ensures ∙ any_run (one_of a.s.0 a.s.1 a.s.2 a.s.3) a.x a.n c.if-n-eq0.false
+pub returns-else-n-ne0 : goal.returns-else-n-ne0
+returns-else-n-ne0 c =
+    let s = c.args.s in rw c.if-n-ne0.false (any_none (one_of s.0 s.1 s.2 s.3) [] refl)

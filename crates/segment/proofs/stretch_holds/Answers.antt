@@ -1,14 +1,11 @@
 use Prim.Native.Nat.{◌<◌}
-use mathlib.Core.Path.{sym, ◌∙◌, refl}
+use mathlib.Core.Path.{sym, ◌∙◌}
 use native.Mathlib.Omega.{arith}
 use lib.ListN.{length}
 use Rattle.lent.specs.Fit.{stretch}
 use Rattle.segment.specs.Pen.{one_of}
 use Rattle.segment.proofs.Texts.{any_turn, any_past}
 use Rattle.segment.proofs.stretch_holds.Goals as goal
-
-pub loop-i-init : goal.loop-i-init
-loop-i-init c = refl
 
 pub returns-then-one_of : goal.returns-then-one_of
 returns-then-one_of c =

@@ -7,6 +7,3 @@ use Rattle.writer.proofs.hang_rows.Goals as goal
 
 pub mark_rising-requires : goal.mark_rising-requires
 mark_rising-requires c = (array_stored _ _ c.args.job.ready c.requires c.nest_rows.ensures, omega (arith, c.requires, array_long _ _ c.args.job.ready c.requires c.nest_rows.ensures))
-
-pub returns : goal.returns
-returns c = both_stored c.args.nest.now _ _ (nest_array (outline_at c.args.job.at.bytes.now)) (rising_flags (outline_at c.args.job.at.bytes.now)) c.nest_rows.ensures c.mark_rising.ensures

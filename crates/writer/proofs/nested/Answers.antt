@@ -5,6 +5,3 @@ use Rattle.writer.proofs.nested.Goals as goal
 
 pub returns-then-many : goal.returns-then-many
 returns-then-many c = wrote_refused 5 _ (refused_6 _ (passed_refusal _ c.requires.ready.passed) (ltb-true _ _ (sym c.crowded-many.ensures ∙ c.if-many.true))) refl refl
-
-pub walked-requires : goal.walked-requires
-walked-requires c = (c.requires, ltb-false _ _ (sym c.crowded-many.ensures ∙ c.if-many.false))

@@ -5,7 +5,7 @@ use Rattle.codes.proofs.Reading.{code_there, code_not}
 use Rattle.codes.proofs.codes.value_marked.Goals as goal
 
 pub returns-then-eq : goal.returns-then-eq
-returns-then-eq c = code_there _ _ _ _ _ (case_is _ _ _ _ c.case.ensures _ _ c.eq.ensures c.if-eq.true) _ _ refl c.le_at-p.ensures c.text_marked.ensures
+returns-then-eq c = code_there _ _ _ _ _ (case_is _ _ _ _ c.case.ensures _ _ c.eq.ensures c.if-eq.true) _ _ refl c.le_at.ensures c.text_marked.ensures
 
-pub returns : goal.returns
-returns c = code_not _ _ _ _ _ refl (case_not _ _ _ _ c.case.ensures _ _ c.eq.ensures c.if-eq.false (omega arith))
+pub returns-else-eq : goal.returns-else-eq
+returns-else-eq c = rw c.if-eq.false (code_not _ _ _ _ _ refl (case_not _ _ _ _ c.case.ensures _ _ c.eq.ensures c.if-eq.false (omega arith)))

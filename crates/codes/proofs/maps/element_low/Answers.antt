@@ -3,11 +3,17 @@ use Rattle.codec.specs.Maps.{is_num_map}
 use Rattle.codec.specs.Field.{is_pair}
 use Rattle.format.specs.Fields.{is_element}
 use Rattle.codes.specs.Maps.{low_element}
-use Rattle.says.proofs.Walk.{both, only, says_at}
+use Rattle.codes.proofs.Laws.{found_first, found_next}
+use Rattle.says.proofs.Walk.{only, says_at}
 use Rattle.codes.proofs.maps.element_low.Goals as goal
 
-pub returns : goal.returns
+pub returns-then-low_at : goal.returns-then-low_at
 unfolding low_element
-returns c v i = let t = is_pair _ _ _ _ _ v i in let l = is_element _ _ _ _ t.1 in
-    both _ _ _ _ _ c.either.ensures (says_at _ _ _ _ _ _ _ _ c.low_at-x.ensures t.0 refl)
-    (only _ _ (says_at _ _ _ _ _ _ _ _ c.components_low-y.ensures (is_num_map _ _ _ _ _ l.components).0 (cc)))
+returns-then-low_at c v i = let t = is_pair _ _ _ _ _ v i in
+    found_first _ _ _ (says_at _ _ _ _ _ _ _ _ c.low_at.ensures t.0 refl) c.if-low_at.true
+
+pub returns-else-low_at : goal.returns-else-low_at
+unfolding low_element
+returns-else-low_at c v i = let t = is_pair _ _ _ _ _ v i in let l = is_element _ _ _ _ t.1 in
+    found_next _ _ _ (says_at _ _ _ _ _ _ _ _ c.low_at.ensures t.0 refl) c.if-low_at.false
+    (only _ _ (says_at _ _ _ _ _ _ _ _ c.components_low.ensures (is_num_map _ _ _ _ _ l.components).0 (cc)))

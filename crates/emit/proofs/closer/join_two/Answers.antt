@@ -12,4 +12,4 @@ use Rattle.emit.proofs.closer.join_two.Goals as goal
 use Rattle.emit.proofs.closer.join_two.Goals.{Start}
 
 pub returns : goal.returns
-returns c = let a = c.args in let h : length a.doc.now ≤ cap = omega (arith, (goal.at.returns c).Start) in run_stored a.s (stretch a.job.now a.start a.len) (part_at a.p None (value_text a.job.now a.v) ∷ part_at a.q None (value_text a.job.now a.w) ∷ []) h c.begin-pen.ensures (rw (last_of_two a.p a.q _ _ (value_text a.job.now a.v) (value_text a.job.now a.w) c.raised-first.ensures c.raised-last.ensures) at c.put_two.ensures)
+returns c = let a = c.args in let h : length a.doc.now ≤ cap = omega (arith, (goal.at.returns c).Start) in run_stored a.s (stretch a.job.now a.id.start a.id.len) (part_at a.p None (value_text a.job.now a.v) ∷ part_at a.q None (value_text a.job.now a.w) ∷ []) h c.begin-pen.ensures (rw (last_of_two a.p a.q _ _ (value_text a.job.now a.v) (value_text a.job.now a.w) c.raised-first.ensures c.raised-last.ensures) at c.put_two.ensures)

@@ -4,4 +4,4 @@ use Rattle.lent.specs.Fit.{stretch}
 use Rattle.emit.proofs.closer.write_closer.Goals as goal
 
 pub returns : goal.returns
-returns c = let a = c.args in let j = a.job.now in λ o k f p q e g h. did_closer o a.s (stretch j a.start a.len) k (value_text j a.control) a.counted f p q h (c.closer_entries-entries.ensures k (value_text j a.control) a.counted e g) (c.put_closer-at.ensures k e g) c.finish_segment.ensures
+returns c = let a = c.args.c in let j = c.args.job.now in λ o k f p q e g h. did_closer o a.sep (stretch j a.id.start a.id.len) k (value_text j a.control) a.counted f p q h (c.closer_entries-entries.ensures k (value_text j a.control) a.counted e g) (c.put_closer-at.ensures k e g) c.finish_segment.ensures

@@ -5,11 +5,11 @@ use Rattle.instances.proofs.kinds.from_run.Goals as goal
 pub returns-then-start-eq0 : goal.returns-then-start-eq0
 returns-then-start-eq0 c = from_first _ _ (sym c.start_in-start.ensures ∙ c.if-start-eq0.true)
 
-pub returns-then-own : goal.returns-then-own
-returns-then-own c = from_own _ _ _ c.own_parent-own.ensures c.if-own.true
+pub returns-then-parent_is : goal.returns-then-parent_is
+returns-then-parent_is c = from_own _ _ _ c.parent_is.ensures c.if-parent_is.true
 
 pub returns-in-Some : goal.returns-in-Some
-returns-in-Some c = c.moved.ensures ∙ from_head _ _ _ c.start_in-start.ensures c.if-start-eq0.false _ c.own_parent-own.ensures c.if-own.false _ c.row_of.ensures _ c.in-Some.is
+returns-in-Some c = c.moved.ensures ∙ from_head _ _ _ c.start_in-start.ensures c.if-start-eq0.false _ c.parent_is.ensures c.if-parent_is.false _ c.row_of.ensures _ c.in-Some.is
 
 pub returns-in-None : goal.returns-in-None
-returns-in-None c = from_nowhere _ _ _ c.start_in-start.ensures c.if-start-eq0.false _ c.own_parent-own.ensures c.if-own.false _ c.row_of.ensures c.in-None.is
+returns-in-None c = from_nowhere _ _ _ c.start_in-start.ensures c.if-start-eq0.false _ c.parent_is.ensures c.if-parent_is.false _ c.row_of.ensures c.in-None.is

@@ -9,5 +9,5 @@ returns-in_default c = inside_is _ false _ _ _ c.rowless.ensures (shown_none _ _
 pub returns-then-shown : goal.returns-then-shown
 returns-then-shown c = inside_is _ true _ _ _ c.rowless-then-shown.ensures (shown_row _ _ _ _ _ _ _ c.row_of.ensures c.in-Some.is (sym c.if-shown.true ∙ c.shown.ensures))
 
-pub returns : goal.returns
-returns c = inside_is _ false _ _ _ c.rowless-2.ensures (shown_row _ _ _ _ _ _ _ c.row_of.ensures c.in-Some.is (sym c.if-shown.false ∙ c.shown.ensures))
+pub returns-else-shown : goal.returns-else-shown
+returns-else-shown c = inside_is _ false _ _ _ c.rowless-else-shown.ensures (shown_row _ _ _ _ _ _ _ c.row_of.ensures c.in-Some.is (sym c.if-shown.false ∙ c.shown.ensures))

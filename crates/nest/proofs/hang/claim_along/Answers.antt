@@ -1,12 +1,8 @@
-use Rattle.nest.proofs.Claiming.{tried_none, tried_here, tried_next, tried_end}
+use Rattle.nest.proofs.Claiming.{tried_here, tried_next, tried_end}
 use Rattle.nest.proofs.Lining.{lined_end}
 use Rattle.nest.proofs.Ways.{refers, refers_not}
 use native.Mathlib.Omega.{arith}
-use mathlib.Core.Path.{refl}
 use Rattle.nest.proofs.hang.claim_along.Goals as goal
-
-pub loop-k-init : goal.loop-k-init
-loop-k-init c = tried_none _ _ _ _ refl
 
 pub returns-in-Some : goal.returns-in-Some
 returns-in-Some c = tried_here _ _ _ _ _ c.loop-k.invariant _ _ _ _ (c.requires.next _ c.loop-k-test.true) (refers _ _ _ _ _ c.reference.ensures _ c.in-Some.is)

@@ -1,10 +1,7 @@
-use Rattle.nest.proofs.Claiming.{loop_small, within_none, within_next, within_all}
+use Rattle.nest.proofs.Claiming.{loop_small, within_next, within_all}
 use native.Mathlib.Omega.{arith}
 use mathlib.Core.Path.{◌∙◌}
 use Rattle.nest.proofs.hang.deepest.Goals as goal
-
-pub loop-i-init : goal.loop-i-init
-loop-i-init c = (within_none _ _ _, omega arith)
 
 pub depth_at-requires : goal.depth_at-requires
 depth_at-requires c = loop_small _ c.args.job.ready.passed _ _ _ _ c.table_loop_count-n.ensures c.loop-i-test.true c.table_loop-l.ensures
@@ -14,5 +11,5 @@ loop-i-preserved c =
     let small = loop_small _ c.args.job.ready.passed _ _ _ _ c.table_loop_count-n.ensures c.loop-i-test.true c.table_loop-l.ensures in
     (within_next _ _ _ _ _ _ _ c.loop-i.invariant.0 c.table_loop-l.ensures (c.depth_at.ensures.value ∙ c.requires.of _ small) (omega (arith, c.max-d.ensures)) (omega (arith, c.max-d.ensures)), omega (arith, c.depth_at.ensures.small, c.max-d.ensures))
 
-pub returns : goal.returns
-returns c = record { of = within_all _ _ _ _ _ c.loop-i.invariant.0 c.table_loop_count-n.ensures c.loop-i-test.false; small = c.loop-i.invariant.1 }
+pub returns-clause-of : goal.returns-clause-of
+returns-clause-of c = within_all _ _ _ _ _ c.loop-i.invariant.0 c.table_loop_count-n.ensures c.loop-i-test.false

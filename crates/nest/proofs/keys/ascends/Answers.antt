@@ -1,12 +1,8 @@
 use Rattle.nest.proofs.Rising.{climbing_first, climbing_next, climbing_end}
-use mathlib.Core.Bool.{false≢true}
 use Rattle.nest.proofs.keys.ascends.Goals as goal
 
 pub loop-k-init : goal.loop-k-init
 loop-k-init c = climbing_first _ _ _ c.key-last.ensures
-
-pub returns-then-key-last : goal.returns-then-key-last
-returns-then-key-last c = λ z. absurd (false≢true z)
 
 pub loop-k-preserved : goal.loop-k-preserved
 loop-k-preserved c = climbing_next _ _ _ _ _ c.loop-k.invariant c.key-key.ensures c.if-key-last.false

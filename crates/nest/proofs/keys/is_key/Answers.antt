@@ -1,13 +1,12 @@
 use Rattle.nest.proofs.Rising.{key_there, key_other, key_past}
-use mathlib.Core.Bool.{false≢true}
-use mathlib.Core.Path.{sym}
+use borrow.Author.Tests.{eqb-true, eqb-false}
 use Rattle.nest.proofs.keys.is_key.Goals as goal
 
-pub returns-then-key-v : goal.returns-then-key-v
-returns-then-key-v c = record { there = λ z. key_there _ _ _ _ _ _ c.row_count-n.ensures c.if-k-n.true c.key-key.ensures c.if-key-v.true; not_there = λ z. absurd (false≢true (sym z)) }
+pub returns-then-k-row_count-clause-there : goal.returns-then-k-row_count-clause-there
+returns-then-k-row_count-clause-there c = λ z. key_there _ _ _ _ _ _ c.row_count.ensures c.if-k-row_count.true c.key.ensures (eqb-true _ _ z)
 
-pub returns-else-key-v : goal.returns-else-key-v
-returns-else-key-v c = record { there = λ z. absurd (false≢true z); not_there = λ z. key_other _ _ _ _ _ c.key-key.ensures c.if-key-v.false }
+pub returns-then-k-row_count-clause-not_there : goal.returns-then-k-row_count-clause-not_there
+returns-then-k-row_count-clause-not_there c = λ z. key_other _ _ _ _ _ c.key.ensures (eqb-false _ _ z)
 
-pub returns-else-k-n : goal.returns-else-k-n
-returns-else-k-n c = record { there = λ z. absurd (false≢true z); not_there = λ z. key_past _ _ _ _ _ c.row_count-n.ensures c.if-k-n.false }
+pub returns-else-k-row_count-clause-not_there : goal.returns-else-k-row_count-clause-not_there
+returns-else-k-row_count-clause-not_there c = λ z. key_past _ _ _ _ _ c.row_count.ensures c.if-k-row_count.false

@@ -1,8 +1,8 @@
 use Rattle.nest.proofs.Rising.{key_here}
 use Rattle.nest.proofs.keys.search_near.Goals as goal
 
-pub returns-then-same : goal.returns-then-same
-returns-then-same c = key_here _ _ _ _ c.requires (c.is_key-same.ensures.there c.if-same.true)
+pub returns-then-is_key : goal.returns-then-is_key
+returns-then-is_key c = key_here _ _ _ _ c.requires (c.is_key.ensures.there c.if-is_key.true)
 
-pub returns-then-next : goal.returns-then-next
-returns-then-next c = key_here _ _ _ _ c.requires (c.is_key-next.ensures.there c.if-next.true)
+pub returns-then-is_key-2 : goal.returns-then-is_key-2
+returns-then-is_key-2 c = key_here _ _ _ _ c.requires (c.is_key-2.ensures.there c.if-is_key-2.true)

@@ -1,18 +1,11 @@
-use Rattle.nest.proofs.Reports.{reported_none, reported_more, reported_all, reported_length}
+use Rattle.nest.proofs.Reports.{reported_as}
 use Rattle.nest.proofs.Bridge.{table_count_is}
-use native.Mathlib.Omega.{arith}
+use borrow.Author.Rules.{rules}
 use mathlib.Core.Path.{refl, sym, ◌∙◌}
+use Rattle.format.specs.Sections.{job_of}
+use Rattle.nest.specs.OfJob.{outline_of}
+use Rattle.nest.specs.NestFindings.{table_findings}
 use Rattle.nest.proofs.report.all_findings.Goals as goal
-use Rattle.nest.proofs.report.all_findings.Goals.{Start}
-
-pub loop-t-init : goal.loop-t-init
-loop-t-init c = reported_none _ _ _ _ _ c.more-next.ensures
-
-pub loop-t-preserved : goal.loop-t-preserved
-loop-t-preserved c = reported_more _ _ _ _ _ _ _ _ _ _ (omega (arith, (goal.at.loop-t-preserved c).Start)) (c.table_count-count.ensures ∙ sym (table_count_is _)) c.loop-t-test.true c.loop-t.invariant c.table_findings-next.ensures
-
-pub shape_of-findings : goal.shape_of-findings
-shape_of-findings c = reported_length _ _ _ _ _ _ _ c.loop-t.invariant
 
 pub returns : goal.returns
-returns c = reported_all _ _ _ _ _ _ _ _ _ (c.table_count-count.ensures ∙ sym (table_count_is _)) c.loop-t-test.false refl c.loop-t.invariant
+returns c = reported_as _ _ (c.table_count-count.ensures ∙ sym (table_count_is _)) refl (c.each_below.ensures (table_findings (outline_of (job_of c.args.job.at.bytes.now))) (λ d d' at k next h q. search rules))

@@ -1,11 +1,8 @@
 use mathlib.Core.Path.{sym, ◌∙◌}
 use native.Mathlib.Omega.{arith}
 use Prim.Native.Nat.{◌<◌, ◌+◌, ◌-◌, ◌/◌}
-use Rattle.nest.proofs.Seeking.{halving_all, halving_low, halving_high, halved}
+use Rattle.nest.proofs.Seeking.{halving_low, halving_high, halved}
 use Rattle.nest.proofs.seek.halve.Goals as goal
-
-pub loop-from-init : goal.loop-from-init
-loop-from-init g c = (omega arith, c.requires.order, omega arith, λ p h t. halving_all p _ _)
 
 pub loop-from-preserved-then-passes : goal.loop-from-preserved-then-passes
 loop-from-preserved-then-passes g c =

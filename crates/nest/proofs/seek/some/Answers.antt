@@ -1,5 +1,5 @@
 use mathlib.Core.Path.{sym, ◌∙◌}
-use Rattle.nest.proofs.Scan.{some_yes, some_no, some_end}
+use Rattle.nest.proofs.Scan.{some_yes, some_no}
 use Rattle.nest.proofs.seek.some.Goals as goal
 
 pub returns-then-passes : goal.returns-then-passes
@@ -7,6 +7,3 @@ returns-then-passes g c = λ p h. sym (c.loop-k.invariant p h ∙ some_yes p _ _
 
 pub loop-k-preserved : goal.loop-k-preserved
 loop-k-preserved g c = λ p h. c.loop-k.invariant p h ∙ some_no p _ _ c.loop-k-test.true (sym (h _ _ c.loop-k-test.true c.passes.ensures) ∙ c.if-passes.false)
-
-pub returns : goal.returns
-returns g c = λ p h. sym (c.loop-k.invariant p h ∙ some_end p _ _ c.loop-k-test.false)

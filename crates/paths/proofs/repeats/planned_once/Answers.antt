@@ -1,8 +1,10 @@
+use mathlib.Core.Path.{ap, ◌∙◌}
+use mathlib.Core.Bool.{not}
 use Rattle.paths.proofs.Answers.{once_rows, once_other}
 use Rattle.paths.proofs.repeats.planned_once.Goals as goal
 
-pub returns-then-rows : goal.returns-then-rows
-returns-then-rows c = once_rows _ _ _ _ _ c.kind-k.ensures c.has_rows-rows.ensures _ c.if-rows.true c.repeats_in-n.ensures
+pub returns-then-not-has_rows : goal.returns-then-not-has_rows
+returns-then-not-has_rows c = ap not c.if-not-has_rows.true ∙ once_other _ _ _ _ _ c.kind.ensures c.has_rows.ensures c.if-not-has_rows.true
 
-pub returns : goal.returns
-returns c = once_other _ _ _ _ _ c.kind-k.ensures c.has_rows-rows.ensures c.if-rows.false
+pub returns-else-not-has_rows : goal.returns-else-not-has_rows
+returns-else-not-has_rows c = once_rows _ _ _ _ _ c.kind.ensures c.has_rows.ensures _ c.if-not-has_rows.false c.repeats_in.ensures

@@ -11,6 +11,6 @@ pub returns-then-y-x-eq0 : goal.returns-then-y-x-eq0
 unfolding hits
 returns-then-y-x-eq0 c = sym (simp (ne_eqb _ _ c.if-step-eq0.false, eq-eqb _ _ c.if-y-x-eq0.true))
 
-pub returns : goal.returns
+pub returns-else-y-x-eq0 : goal.returns-else-y-x-eq0
 unfolding hits
-returns c = sym (simp (ne_eqb _ _ c.if-step-eq0.false, ne_eqb _ _ c.if-y-x-eq0.false))
+returns-else-y-x-eq0 c = sym (simp (ne_eqb _ _ c.if-step-eq0.false, ne_eqb _ _ c.if-y-x-eq0.false))

@@ -1,17 +1,21 @@
-use mathlib.Core.Path.{sym, ap, ◌∙◌}
+use mathlib.Core.Path.{ap, ◌∙◌}
 use mathlib.Core.Bool.{not}
 use Rattle.places.specs.Spots.{misplaced}
-use borrow.Author.Tests.{eq-eqb, ne_eqb}
+use Rattle.places.proofs.Ranking.{rank_eqb}
 use Rattle.places.proofs.spots.is_misplaced.Goals as goal
 
-pub returns-then-kind-eq1 : goal.returns-then-kind-eq1
+pub returns-in-Envelope : goal.returns-in-Envelope
 unfolding misplaced
-returns-then-kind-eq1 c = ap not c.in_front.ensures ∙ sym (simp (eq-eqb _ _ c.if-kind-eq1.true))
+returns-in-Envelope c = rw c.in-Envelope.is
 
-pub returns-then-kind-eq2 : goal.returns-then-kind-eq2
+pub returns-in-Row : goal.returns-in-Row
 unfolding misplaced
-returns-then-kind-eq2 c = c.both.ensures ∙ sym (simp (ne_eqb _ _ c.if-kind-eq1.false, eq-eqb _ _ c.if-kind-eq2.true))
+returns-in-Row c = rw c.in-Row.is (ap not c.in_front.ensures)
 
-pub returns : goal.returns
+pub returns-then-m : goal.returns-then-m
 unfolding misplaced
-returns c = sym (simp (ne_eqb _ _ c.if-kind-eq1.false, ne_eqb _ _ c.if-kind-eq2.false))
+returns-then-m c = rw (c.in-Repeat.is, c.if-m.true) (c.eq.ensures ∙ rank_eqb _ _)
+
+pub returns-else-m : goal.returns-else-m
+unfolding misplaced
+returns-else-m c = rw (c.in-Repeat.is, c.if-m.false)

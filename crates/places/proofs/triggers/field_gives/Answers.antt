@@ -1,16 +1,21 @@
-use mathlib.Core.Path.{sym, ◌∙◌}
-use borrow.Author.Tests.{eq-eqb, ne_eqb}
+use native.Mathlib.Omega.{arith}
+use mathlib.Core.Path.{sym}
+use borrow.Author.Tests.{ne_eqb}
 use Rattle.places.specs.Triggers.{field_gives}
 use Rattle.places.proofs.triggers.field_gives.Goals as goal
 
-pub returns-then-f-eq11 : goal.returns-then-f-eq11
+pub returns-in-11 : goal.returns-in-11
 unfolding field_gives
-returns-then-f-eq11 c = sym (simp (eq-eqb _ _ c.if-f-eq11.true))
+returns-in-11 c = rw c.in-11.is
 
-pub returns-then-f-eq10 : goal.returns-then-f-eq10
+pub returns-then-plain : goal.returns-then-plain
 unfolding field_gives
-returns-then-f-eq10 c = c.both.ensures ∙ sym (simp (ne_eqb _ _ c.if-f-eq11.false, eq-eqb _ _ c.if-f-eq10.true))
+returns-then-plain c = rw (c.in-10.is, c.if-plain.true)
 
-pub returns : goal.returns
+pub returns-else-plain : goal.returns-else-plain
 unfolding field_gives
-returns c = sym (simp (ne_eqb _ _ c.if-f-eq11.false, ne_eqb _ _ c.if-f-eq10.false))
+returns-else-plain c = rw (c.in-10.is, c.if-plain.false)
+
+pub returns-in_default : goal.returns-in_default
+unfolding field_gives
+returns-in_default c = sym (simp (ne_eqb c.args.f 11 (λ h. omega (arith, h)), ne_eqb c.args.f 10 (λ h. omega (arith, h))))

@@ -11,8 +11,8 @@ returns-then-eq c xs o v i = let l = is_segment_plan _ _ _ v i in
     trigger_yes _ _ _ _ (case_is _ _ _ _ c.case.ensures _ _ c.eq.ensures c.if-eq.true) _ xs v _ refl (is_at _ _ _ _ _ _ c.le_at-source.ensures l.source)
     (c.elements_wrong.ensures _ (is_at _ _ _ _ _ _ (cc) l.elements) xs o)
 
-pub returns : goal.returns
-returns c xs o v i =
+pub returns-else-eq : goal.returns-else-eq
+returns-else-eq c xs o v i =
     let l = is_segment_plan _ _ _ v i in
     let s = is_at _ _ _ _ _ _ c.le_at-source.ensures l.source in
-    trigger_no _ _ _ _ refl _ xs v (source_room _ _ _ _ s) (case_not _ _ _ _ c.case.ensures _ _ c.eq.ensures c.if-eq.false (omega arith)) s
+    rw c.if-eq.false (trigger_no _ _ _ _ refl _ xs v (source_room _ _ _ _ s) (case_not _ _ _ _ c.case.ensures _ _ c.eq.ensures c.if-eq.false (omega arith)) s)

@@ -1,8 +1,18 @@
-use Rattle.plan.proofs.Asking.{forced_lacks, forced_is}
+use borrow.Author.Tests.{le-ltb}
+use mathlib.Core.Path.{refl, ◌∙◌}
+use native.Mathlib.Omega.{arith}
+use Rattle.plan.proofs.Asking.{inner_none, inner_some, forced_lacks, forced_is}
 use Rattle.plan.proofs.layout.forced.Goals as goal
 
-pub returns-then-n-i : goal.returns-then-n-i
-returns-then-n-i c = forced_lacks _ _ c.requires.0 _ c.requires.1 _ _ c.inner_count-n.ensures c.if-n-i.true
+pub returns-in-None : goal.returns-in-None
+returns-in-None c = forced_lacks _ _ c.requires.0 _ c.requires.1 _ _ (inner_none _ _ _ _ _ _ refl refl (rw c.in-None.is at c.item_place.ensures)) (omega arith)
 
-pub returns : goal.returns
-returns c = forced_is _ _ c.requires.0 _ c.requires.1 _ _ _ _ c.inner_count-n.ensures c.if-n-i.false c.place-p.ensures.0 c.byte_at-mark.ensures.0
+pub returns-then-i-n : goal.returns-then-i-n
+returns-then-i-n c =
+    let i = rw c.in-Some.is at c.item_place.ensures in
+    forced_is _ _ c.requires.0 _ c.requires.1 _ _ _ _ (inner_some _ _ _ _ _ _ _ _ refl refl i.0 i.1 c.num-n.ensures.0) c.if-i-n.true i.1 c.byte_at-mark.ensures.0
+
+pub returns-else-i-n : goal.returns-else-i-n
+returns-else-i-n c =
+    let i = rw c.in-Some.is at c.item_place.ensures in
+    le-ltb _ _ c.if-i-n.false ∙ forced_lacks _ _ c.requires.0 _ c.requires.1 _ _ (inner_some _ _ _ _ _ _ _ _ refl refl i.0 i.1 c.num-n.ensures.0) c.if-i-n.false

@@ -1,6 +1,17 @@
 use mathlib.Core.Path.{refl}
-use Rattle.plan.proofs.Asking.{order_at}
+use native.Mathlib.Omega.{arith}
+use Rattle.plan.proofs.Asking.{inner_none, inner_some, order_count, order_at}
 use Rattle.plan.proofs.layout.order.Goals as goal
 
-pub returns : goal.returns
-returns c = order_at _ _ c.requires.0 _ c.requires.1 _ _ _ c.order_count-count.ensures c.place-p.ensures.0 c.place-p.ensures.1 refl refl
+pub returns-in-None : goal.returns-in-None
+returns-in-None c = record {
+  count = order_count _ _ c.requires.0 _ c.requires.1 _ (inner_none _ _ _ _ _ _ refl refl (rw c.in-None.is at c.item_place.ensures));
+  low = omega arith;
+  within = c.requires.0.layout_end;
+  item = λ k q. absurd (omega (arith, q));
+}
+
+pub returns-in-Some : goal.returns-in-Some
+returns-in-Some c =
+    let i = rw c.in-Some.is at c.item_place.ensures in
+    order_at _ _ c.requires.0 _ c.requires.1 _ _ _ (order_count _ _ c.requires.0 _ c.requires.1 _ (inner_some _ _ _ _ _ _ _ _ refl refl i.0 i.1 c.num.ensures.0)) i.1 i.2 refl refl

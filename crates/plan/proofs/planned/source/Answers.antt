@@ -1,4 +1,10 @@
+use Rattle.format.specs.Plan.{SegmentPlan}
+use Rattle.plan.proofs.Asking.{planned_lacks, source_is}
+use mathlib.Core.Path.{ap}
 use Rattle.plan.proofs.planned.source.Goals as goal
 
+pub returns-then-n-i : goal.returns-then-n-i
+returns-then-n-i c = ap (λ (s : SegmentPlan). s.source) (planned_lacks _ _ c.requires.0 _ _ _ c.planned_count-n.ensures c.if-n-i.true)
+
 pub returns : goal.returns
-returns c = c.segment.ensures.segment.source
+returns c = c.source_at.ensures _ _ (source_is _ _ c.requires.0 _ _ _ c.planned_count-n.ensures _ c.if-n-i.false c.requires.1 c.place-p.ensures.0)

@@ -7,4 +7,4 @@ use Prim.Native.Nat.{◌-◌, ◌≤◌}
 use Rattle.repeat_segment.proofs.last.highest_rows.Given as goal
 
 abbrev pub invariant-loop-k : goal.invariant-loop-k
-invariant-loop-k l = (l.from ≤ l.k) × (l.k ≤ l.to) × (l.best ≡ highest (number_by l.q) (parts_from l.job.at.bytes.now l.s l.rows l.from (l.k - l.from) (element_of l.job.at.bytes.now l.e ∷ [])))
+invariant-loop-k l = (l.from ≤ l.k) × (l.k ≤ l.to) × (l.best ≡ highest (number_by l.q) (parts_from l.chunk.job.at.bytes.now l.chunk.segment l.chunk.rows.now l.from (l.k - l.from) (element_of l.chunk.job.at.bytes.now l.e ∷ [])))

@@ -1,7 +1,7 @@
 use Rattle.repeat_segment.proofs.FirstLaws.{later_ranked}
-use Rattle.repeat_segment.specs.Places.{parts_of}
+use Rattle.repeat_segment.specs.Chunk.{parts_in}
 use native.Mathlib.Omega.{arith}
 use Rattle.repeat_segment.proofs.scan.component_value.Goals as goal
 
 pub returns : goal.returns
-returns c = let a = c.args in later_ranked (parts_of a.job.at.bytes.now a.s a.rows.now a.count) a.p a.c _ c.if-c-eq1.false (omega arith) c.ranked_value.ensures
+returns c = let a = c.args in later_ranked (parts_in a.chunk) a.p a.c _ c.if-c-eq1.false (omega arith) c.ranked_value.ensures

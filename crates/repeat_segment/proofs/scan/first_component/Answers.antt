@@ -1,10 +1,10 @@
 use Rattle.repeat_segment.proofs.FirstLaws.{found_is, found_not, first_plain, first_ranked}
-use Rattle.repeat_segment.specs.Places.{parts_of}
+use Rattle.repeat_segment.specs.Chunk.{parts_in}
 use mathlib.Core.Path.{◌∙◌}
 use Rattle.repeat_segment.proofs.scan.first_component.Goals as goal
 
 pub returns-then-f-count : goal.returns-then-f-count
-returns-then-f-count c = let a = c.args in let r = a.rows.now in c.found_value.ensures ∙ first_plain (parts_of a.job.at.bytes.now a.s r a.count) a.p (c.first_at-f.ensures r ∙ found_is a.job.at.bytes.now a.s r a.count a.p c.first_at-f.result c.if-f-count.true)
+returns-then-f-count c = let a = c.args in let r = a.chunk.rows.now in let e = c.count-count.ensures.0 in c.found_value.ensures ∙ first_plain (parts_in a.chunk) a.p ((rw e at c.first_at-f.ensures r) ∙ found_is a.chunk.job.at.bytes.now a.chunk.segment r _ a.p c.first_at-f.result (rw e at c.if-f-count.true))
 
 pub returns : goal.returns
-returns c = let a = c.args in let r = a.rows.now in first_ranked (parts_of a.job.at.bytes.now a.s r a.count) a.p (c.first_at-f.ensures r ∙ found_not a.job.at.bytes.now a.s r a.count a.p c.first_at-f.result c.if-f-count.false) c.ranked_value.ensures
+returns c = let a = c.args in let r = a.chunk.rows.now in let e = c.count-count.ensures.0 in first_ranked (parts_in a.chunk) a.p ((rw e at c.first_at-f.ensures r) ∙ found_not a.chunk.job.at.bytes.now a.chunk.segment r _ a.p c.first_at-f.result (rw e at c.if-f-count.false)) c.ranked_value.ensures

@@ -1,10 +1,7 @@
-use mathlib.Core.Path.{◌≡◌, refl, ◌∙◌}
+use mathlib.Core.Path.{◌≡◌, ◌∙◌}
 use native.Mathlib.Omega.{arith}
 use Rattle.segment.proofs.Placed.{found_here, found_next, found_end}
 use Rattle.segment.proofs.read.find.Goals as goal
-
-pub loop-i-init : goal.loop-i-init
-loop-i-init c = record { within = omega arith; nothing = refl }
 
 pub returns-then-document-i : goal.returns-then-document-i
 returns-then-document-i c = found_here _ _ _ _ c.loop-i.invariant.nothing c.loop-i-test.true c.if-document-i.true

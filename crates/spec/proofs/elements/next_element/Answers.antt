@@ -6,4 +6,4 @@ use mathlib.Core.Path.{refl}
 use Rattle.spec.proofs.elements.next_element.Goals as goal
 
 pub returns : goal.returns
-returns c = λ x xs h. entries_next _ _ _ c.spec_end.ensures x xs h _ refl (cc (skip_pair num_c element_c _ _ _))
+returns c = λ x xs h. entries_next _ _ _ c.spec_of-s.ensures.1 x xs h _ refl (cc (skip_pair num_c element_c _ _ _))

@@ -9,7 +9,7 @@ pub returns-then-n-k : goal.returns-then-n-k
 returns-then-n-k c = string_none _ _ _ _ c.num-n.ensures.0 c.if-n-k.true _ refl refl _ _ (loop_reads _ _ c.requires _ (λ (v : Loop). v.occurrences) 2 _ _ c.requires.occurrences c.loop_field-p.ensures.0)
 
 pub stretch_at-requires : goal.stretch_at-requires
-stretch_at-requires c = let w = string_is _ _ _ _ _ _ c.num-n.ensures.0 c.if-n-k.false (rw c.spec_end-e.ensures at c.string_at-q.ensures) _ (loop_reads _ _ c.requires _ (λ (v : Loop). v.occurrences) 2 _ _ c.requires.occurrences c.loop_field-p.ensures.0) in omega (arith, w.1, c.requires.short)
+stretch_at-requires c = let w = string_is _ _ _ _ _ _ c.num-n.ensures.0 c.if-n-k.false (rw (c.spec_of.ensures.0, c.spec_of.ensures.1) at c.string_at-q.ensures) _ (loop_reads _ _ c.requires _ (λ (v : Loop). v.occurrences) 2 _ _ c.requires.occurrences c.loop_field-p.ensures.0) in omega (arith, w.1, c.requires.short)
 
 pub returns : goal.returns
-returns c = c.stretch_at.ensures _ _ (string_is _ _ _ _ _ _ c.num-n.ensures.0 c.if-n-k.false (rw c.spec_end-e.ensures at c.string_at-q.ensures) _ (loop_reads _ _ c.requires _ (λ (v : Loop). v.occurrences) 2 _ _ c.requires.occurrences c.loop_field-p.ensures.0)).0
+returns c = c.stretch_at.ensures _ _ (string_is _ _ _ _ _ _ c.num-n.ensures.0 c.if-n-k.false (rw (c.spec_of.ensures.0, c.spec_of.ensures.1) at c.string_at-q.ensures) _ (loop_reads _ _ c.requires _ (λ (v : Loop). v.occurrences) 2 _ _ c.requires.occurrences c.loop_field-p.ensures.0)).0

@@ -1,9 +1,9 @@
+use Rattle.spec.specs.Answers.{HoldsText}
 use Rattle.spec.specs.Reads.{text_none, text_is}
-use mathlib.Core.Path.{sym, ◌∙◌}
+use Rattle.spec.proofs.Held.{held_some}
 use Rattle.spec.proofs.read.text_at.Goals as goal
 
-pub returns-then-t-eq0 : goal.returns-then-t-eq0
-returns-then-t-eq0 c = text_none _ _ (sym c.byte_at-t.ensures.0 ∙ c.if-t-eq0.true)
-
 pub returns : goal.returns
-returns c = text_is _ _ _ (λ q. c.if-t-eq0.false (c.byte_at-t.ensures.0 ∙ q)) c.stretch_at.ensures
+returns c e v h =
+    rw c.then_some.ensures (held_some c.flag_at.ensures (λ o. HoldsText c.args.b.now o v) c.stretch_at.result
+    (λ z. text_none _ _ z e v h) (λ z. text_is _ _ _ z c.stretch_at.ensures e v h))

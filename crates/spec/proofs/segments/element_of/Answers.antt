@@ -11,4 +11,4 @@ unfolding PlaceOf
 returns-in_err-at c = rw c.from_residual.ensures (element_nowhere _ _ _ (place_nowhere _ _ _ _ _ c.elements_of.ensures c.in_err-at.was))
 
 pub returns : goal.returns
-returns c = element_there _ _ _ _ _ _ _ _ c.spec_end.ensures (place_at _ _ _ _ _ c.elements_of.ensures _ c.in_ok-at.was) c.map_place.ensures
+returns c = element_there _ _ _ _ _ _ _ _ c.spec_of-s.ensures.1 (place_at _ _ _ _ _ c.elements_of.ensures _ c.in_ok-at.was) (rw c.spec_of-s.ensures.0 at c.map_place.ensures)

@@ -5,4 +5,4 @@ pub returns-in_err-at : goal.returns-in_err-at
 returns-in_err-at c = rw c.from_residual.ensures (min_nowhere _ _ _ (place_nowhere _ _ _ _ _ c.element_of.ensures c.in_err-at.was))
 
 pub returns : goal.returns
-returns c = min_there _ _ _ _ _ _ _ _ c.spec_end.ensures (place_at _ _ _ _ _ c.element_of.ensures _ c.in_ok-at.was) c.element_min.ensures
+returns c = min_there _ _ _ _ _ _ _ _ c.spec_of-s.ensures.1 (place_at _ _ _ _ _ c.element_of.ensures _ c.in_ok-at.was) (rw c.spec_of-s.ensures.0 at c.element_min.ensures)

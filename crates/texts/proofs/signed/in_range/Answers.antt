@@ -1,15 +1,13 @@
-use Rattle.texts.proofs.Ranges.{abs_is, below_zero_out, below_low, above_high, in_between}
+use Rattle.std.proofs.Common.{◌∙◌, ap}
+use Rattle.texts.specs.Floor.{ranged_of}
+use Rattle.texts.proofs.Ranges.{no_u32, u32_is, contained}
 use Rattle.texts.proofs.signed.in_range.Goals as goal
-use Rattle.texts.proofs.signed.in_range.Goals.{then-d-lt0-via-then-d-lt0, then-d-lt0-via-else-d-lt0+then-n-low, then-d-lt0-via-else-d-lt0+else-n-low+then-high-n}
 
-pub returns-then-d-lt0 : goal.returns-then-d-lt0
-returns-then-d-lt0 c =
-    let a = c.unsigned_abs-n in
-    elim c.then-d-lt0.branch [
-      | then-d-lt0-via-then-d-lt0 w ↦ below_zero_out _ _ _ c.ranges.d w.if-d-lt0.true
-      | then-d-lt0-via-else-d-lt0+then-n-low w ↦ below_low _ _ _ a.result c.ranges.d (abs_is _ _ a.ensures.value w.if-d-lt0.false) w.if-n-low.true
-      | then-d-lt0-via-else-d-lt0+else-n-low+then-high-n w ↦ above_high _ _ _ a.result c.ranges.d (abs_is _ _ a.ensures.value w.if-d-lt0.false) w.if-n-low.false w.if-high-n.true
-    ]
+pub returns-in_err-n : goal.returns-in_err-n
+returns-in_err-n c = c.from_residual.ensures ∙ no_u32 _ _ _ _ c.ranges.d c.try_from.ensures c.in_err-n.ensures.variant
 
 pub returns : goal.returns
-returns c = let a = c.unsigned_abs-n in in_between _ _ _ a.result c.ranges.d (abs_is _ _ a.ensures.value c.if-d-lt0.false) c.if-n-low.false c.if-high-n.false
+returns c =
+    let a = c.args in
+    let r = c.new.ensures in
+    c.then_some.ensures ∙ contained _ _ _ _ _ r.start r.end r.exhausted c.contains.ensures.value ∙ ap (ranged_of a.low a.high) (u32_is _ _ _ c.ranges.d c.try_from.ensures c.in_ok-n.ensures.value)

@@ -1,8 +1,8 @@
-use Rattle.trigger.proofs.Givens.{not_same, same_by}
+use mathlib.Core.Path.{◌∙◌}
+use Rattle.spec.specs.Answers.{stretch_of}
+use Rattle.trigger.proofs.Givens.{bytes_same}
 use Rattle.trigger.proofs.given.same.Goals as goal
 
-pub returns-then-m-n : goal.returns-then-m-n
-returns-then-m-n c = not_same _ _ _ c.requires.1 c.requires.2 c.if-m-n.true
-
 pub returns : goal.returns
-returns c = same_by _ _ _ c.requires.1 c.requires.2 _ c.if-m-n.false c.same_at.ensures
+unfolding stretch_of
+returns c = c.same_bytes.ensures ∙ bytes_same _ _

@@ -1,5 +1,0 @@
-use Rattle.codec.specs.Ways.{skip_opt}
-use Rattle.codec.proofs.section.Section.opt_num_at.Goals as goal
-
-pub returns : goal.returns
-returns c = cc (skip_opt _ _ _ _)

@@ -1,0 +1,7 @@
+use Rattle.format.specs.Spec.{repeat_c}
+use Rattle.codec.specs.Skip.{skip_map, skip_pair}
+use Rattle.format.proofs.spec.repeat_at.Goals as goal
+
+pub returns : goal.returns
+unfolding repeat_c
+returns c = simp (skip_map, skip_pair) (cc)
