@@ -3,16 +3,14 @@ use Prim.Native.Nat.{ℕ, zero, suc, ◌+◌, ◌-◌, ◌≤◌, ◌<◌, min}
 use mathlib.Core.Path.{◌≡◌, refl, sym, ap, ◌∙◌}
 use mathlib.Core.List.{List, [], ◌∷◌, ◌++◌, map, append_assoc}
 use native.Mathlib.Omega.{arith}
-use native.Mathlib.Nat.{zero-add, sub-zero, zero-sub, suc-sub-suc, min-eq_right, not-suc-le-zero}
-use lib.ListN.{length, get_or, take, drop, length-take, length-drop, length-map, take-append-drop, drop_of_length-le}
-use lib.Seq.{sets, length-sets, sets-eq, take_all, take-nil, drop-nil, take-take, take-add, drop-append-le}
-use mathlib.Core.Bool.{Bool, true, false}
-use lib.Dec.{leb}
-use borrow.Author.Tests.{leb-true, leb-false}
-use Rattle.std.proofs.lemmas.List.{take-map, drop-map}
+use native.Mathlib.Nat.{add-zero, sub-zero, zero-sub, suc-sub-suc, not-suc-le-zero}
+use lib.ListN.{length, get_or, set, take, drop, length-take, length-drop, length-map}
+use lib.Seq.{sets, length-sets, sets-eq, take-nil, take-take, drop-drop}
+use Rattle.std.proofs.lemmas.List.{take-map, drop-map, take_min, drop_min, drop-take}
+use Rattle.std.proofs.lemmas.Grind.{common_steps}
 use Rattle.finding.specs.declared.Finding.{Finding}
 use Rattle.finding.specs.Findings.{findings_in}
-use Rattle.finding.proofs.Sets.{sets_append, sets_fits}
+use Rattle.lent.proofs.Laws.{drop_take, sets_fits}
 use Rattle.finding.proofs.Records.{records_in, no_records}
 use Rattle.format.specs.Sections.{job_of}
 use Rattle.nest.specs.Finding as N
@@ -29,11 +27,14 @@ use Rattle.baktuven.specs.Windows.{blank, records_of, behind}
 
 -- ---- lists
 
-drop_take : {A : Type 0} (m n : ℕ) (xs : List A) → drop m (take n xs) ≡ take (n - m) (drop m xs)
-drop_take zero n xs = rw (sub-zero n) refl
-drop_take (suc m) zero xs = rw (zero-sub (suc m)) (drop-nil (suc m))
-drop_take (suc m) (suc n) [] = sym (take-nil (suc n - suc m))
-drop_take (suc m) (suc n) (x ∷ xs) = rw (suc-sub-suc n m) (drop_take m n xs)
+drop_all : {A : Type 0} (m n : ℕ) (xs : List A) → n ≤ m → drop m (take n xs) ≡ []
+drop_all m n xs h = grind (arith, common_steps)
+
+-- a list stored in two parts
+in_parts : (f : List Finding) (p m : ℕ) (xs : List Finding) → sets (sets f p (take m xs)) (p + m) (drop m xs) ≡ sets f p xs
+in_parts f p zero xs = rw add-zero
+in_parts f p (suc m) [] = refl
+in_parts f p (suc m) (x ∷ xs) = let e : p + suc m ≡ suc p + m = omega arith in rw e (in_parts (set f p x) (suc p) m xs)
 
 -- ---- one window
 
@@ -55,7 +56,7 @@ window_at (suc k) room w xs from zero h q = no_records w 0
 window_at (suc k) room w xs from (suc n) h q = let z : suc n ≤ 0 = omega arith in absurd (not-suc-le-zero z)
 
 -- the window from number `from` on holds the records from there on
-pub window_records : (b : List ℕ) (from n : ℕ) → n ≤ 64 → from + n ≤ length (records_of b) → findings_in (window_from b from blank) 0 n ≡ take n (drop from (records_of b))
+window_records : (b : List ℕ) (from n : ℕ) → n ≤ 64 → from + n ≤ length (records_of b) → findings_in (window_from b from blank) 0 n ≡ take n (drop from (records_of b))
 unfolding window_from records_of
 window_records b from n h q = window_at (refusal b) 64 blank (result_of (job_of b)).findings from n h q
 
@@ -65,64 +66,41 @@ found_at : (k : ℕ) (xs : List N.Finding) (a c d : ℕ) → get_or (unless_refu
 found_at zero xs a c d = sym (length-map xs finding_of)
 found_at (suc k) xs a c d = refl
 
-pub found_all : (b : List ℕ) → get_or (values_for b) 2 0 ≡ length (records_of b)
+found_all : (b : List ℕ) → get_or (values_for b) 2 0 ≡ length (records_of b)
 unfolding values_for records_of
 found_all b = found_at (refusal b) (result_of (job_of b)).findings _ _ _
 
 -- ---- the windows behind the first
 
--- the part of a list from a place on, up to a later place, and n more
-behind_more : (xs : List Finding) (from n : ℕ) → 64 ≤ from → from + n ≤ length xs → behind 64 from xs ++ take n (drop from xs) ≡ behind 64 (from + n) xs
-behind_more xs from n h q =
-    let t = length-take from xs in
-    rw (take-add from n xs) (sym (drop-append-le 64 (take from xs) (take n (drop from xs)) (omega (arith, t))))
-
-pub none_behind : (xs : List Finding) (end : ℕ) → end ≤ 64 → behind 64 end xs ≡ []
-none_behind xs end h = drop_of_length-le (take end xs) {i = 64} (let t = length-take end xs in omega (arith, t))
+-- the part of a list from place p on, up to a later place, and n more
+next_part : (f xs : List Finding) (p m n : ℕ) → sets (sets f p (behind p (p + m) xs)) (p + m) (take n (drop (p + m) xs)) ≡ sets f p (behind p (p + m + n) xs)
+next_part f xs p m n =
+    let t = take-take (p + m) (p + m + n) xs (omega arith) in
+    let e = in_parts f p m (behind p (p + m + n) xs) in
+    grind (arith, drop-take, drop-drop, t, e)
 
 -- one window more is stored
-pub next_window : (f xs : List Finding) (from n : ℕ) → 64 ≤ from → from + n ≤ length xs
-    → sets (sets f 64 (behind 64 from xs)) from (take n (drop from xs)) ≡ sets f 64 (behind 64 (from + n) xs)
-next_window f xs from n h q =
-    let t = length-take from xs in
-    let l = length-drop 64 (take from xs) in
-    let e : from ≡ 64 + length (behind 64 from xs) = omega (arith, t, l) in
-    ap (λ (p : ℕ). sets (sets f 64 (behind 64 from xs)) p (take n (drop from xs))) e ∙ sets_append f 64 (behind 64 from xs) (take n (drop from xs)) ∙ rw (behind_more xs from n h q) refl
+next_window : (f xs : List Finding) (from n : ℕ) → 64 ≤ from → sets (sets f 64 (behind 64 from xs)) from (take n (drop from xs)) ≡ sets f 64 (behind 64 (from + n) xs)
+next_window f xs from n h = let e : 64 + (from - 64) ≡ from = omega arith in rw e at (next_part f xs 64 (from - 64) n)
 
 -- ---- the whole list
 
 all_behind : (f xs : List Finding) (end : ℕ) → end ≡ min (length xs) (length f) → sets f 64 (behind 64 end xs) ≡ sets f 64 (drop 64 xs)
-all_behind f xs end e = rw (drop_take 64 end xs) (go (leb (length xs) (length f)) refl)
-  where
-    go : (t : Bool) → leb (length xs) (length f) ≡ t → sets f 64 (take (end - 64) (drop 64 xs)) ≡ sets f 64 (drop 64 xs)
-    go true h = let q = leb-true (length xs) (length f) h in let d = length-drop 64 xs in rw (take_all (end - 64) (drop 64 xs) (omega (arith, q, d))) refl
-    go false h = let q = leb-false (length xs) (length f) h in sets_fits f 64 (drop 64 xs) (end - 64) (omega (arith, q))
+all_behind f xs end e =
+    let q : end ≡ min (length f) (length xs) = omega arith in
+    rw (q, take_min (length f) xs, drop_take 64 (length f) xs) (sets_fits f 64 (drop 64 xs) (length f - 64) (omega arith))
 
 all_stored : (f xs : List Finding) (n : ℕ) → n ≡ min (length xs) 64 → sets (sets f 0 (take n xs)) 64 (drop 64 xs) ≡ sets f 0 xs
-all_stored f xs n e = go (leb (length xs) 64) refl
-  where
-    go : (t : Bool) → leb (length xs) 64 ≡ t → sets (sets f 0 (take n xs)) 64 (drop 64 xs) ≡ sets f 0 xs
-    go true h = let q = leb-true (length xs) 64 h in rw (take_all n xs (omega (arith, q)), drop_of_length-le xs q) refl
-    go false h =
-        let q = leb-false (length xs) 64 h in
-        let n₆₄ : n ≡ 64 = omega (arith, q) in
-        let l = length-take 64 xs in
-        let p : 64 ≡ 0 + length (take 64 xs) = omega (arith, q, l) in
-        ap (λ (k : ℕ). sets (sets f 0 (take k xs)) 64 (drop 64 xs)) n₆₄ ∙ ap (λ (k : ℕ). sets (sets f 0 (take 64 xs)) k (drop 64 xs)) p ∙ sets_append f 0 (take 64 xs) (drop 64 xs) ∙ rw (take-append-drop 64 xs) refl
+all_stored f xs n e = let q : n ≡ min 64 (length xs) = omega arith in rw (q, take_min 64 xs) (in_parts f 0 64 xs)
 
-sets_front : (f xs : List Finding) → sets f 0 xs ≡ take (length f) xs ++ drop (length xs) f
+sets_front : (f xs : List Finding) → sets f 0 xs ≡ in_places xs f
 sets_front f xs =
     let l = length-take (length f) xs in
-    sym (sets_fits f 0 xs (length f) (omega arith)) ∙ sets-eq (take (length f) xs) f 0 (omega (arith, l)) ∙ ap (λ (r : List Finding). take (length f) xs ++ r) (rw (zero-add (length (take (length f) xs)), l) (go (leb (length xs) (length f)) refl))
-  where
-    go : (t : Bool) → leb (length xs) (length f) ≡ t → drop (min (length f) (length xs)) f ≡ drop (length xs) f
-    go true h = rw (min-eq_right (leb-true (length xs) (length f) h)) refl
-    go false h =
-        let q = leb-false (length xs) (length f) h in
-        drop_of_length-le f {i = min (length f) (length xs)} (omega (arith, q)) ∙ sym (drop_of_length-le f {i = length xs} (omega (arith, q)))
+    let m : 0 + length (take (length f) xs) ≡ min (length xs) (length f) = omega (arith, l) in
+    rw (← sets_fits f 0 xs (length f) (omega arith), sets-eq (take (length f) xs) f 0 (omega (arith, l)), m, drop_min)
 
-pub whole : (f xs : List Finding) (n end : ℕ) → n ≡ min (length xs) 64 → end ≡ min (length xs) (length f) → sets (sets f 0 (take n xs)) 64 (behind 64 end xs) ≡ in_places xs f
-whole f xs n end e e' = let f₁ = sets f 0 (take n xs) in all_behind f₁ xs end (rw length-sets e') ∙ all_stored f xs n e ∙ sets_front f xs
+whole : (f xs : List Finding) (n end : ℕ) → n ≡ min (length xs) 64 → end ≡ min (length xs) (length f) → sets (sets f 0 (take n xs)) 64 (behind 64 end xs) ≡ in_places xs f
+whole f xs n end e e' = rw (all_behind (sets f 0 (take n xs)) xs end (rw length-sets e'), all_stored f xs n e, sets_front f xs)
 
 -- ---- by the refusal
 
@@ -138,37 +116,32 @@ in_places_lem b f = in_places_at (refusal b) _ f
 
 -- nothing yet
 pub none_stored : (ys xs : List Finding) (end : ℕ) → ys ≡ sets ys 64 (behind 64 (min 64 end) xs)
-none_stored ys xs end = rw (none_behind xs (min 64 end) (omega arith)) refl
+none_stored ys xs end = rw (drop_all 64 (min 64 end) xs (omega arith))
 
 -- one turn
 pub turn_stored : (b ws : List ℕ) (ys zs zs' : List Finding) (from end r : ℕ) → 64 ≤ from → from < end → end ≤ length (records_of b)
     → ws ≡ window_from b from blank → r ≡ min (end - from) 64 → zs' ≡ sets zs from (findings_in ws 0 r) → zs ≡ sets ys 64 (behind 64 (min from end) (records_of b))
     → zs' ≡ sets ys 64 (behind 64 (min (from + 64) end) (records_of b))
 turn_stored b ws ys zs zs' from end r h small q e₁ e₂ e₃ e₄ =
-    let xs : List Finding = records_of b in
     let reached : min from end ≡ from = omega arith in
     let next : min (from + 64) end ≡ from + r = omega arith in
-    e₃ ∙ ap (λ (l : List ℕ). sets zs from (findings_in l 0 r)) e₁ ∙ ap (λ (l : List Finding). sets zs from l) (window_records b from r (omega arith) (omega arith))
-    ∙ ap (λ (l : List Finding). sets l from (take r (drop from xs))) (e₄ ∙ ap (λ (k : ℕ). sets ys 64 (behind 64 k xs)) reached)
-    ∙ next_window ys xs from r h (omega arith) ∙ ap (λ (k : ℕ). sets ys 64 (behind 64 k xs)) (sym next)
+    rw (e₃, e₁, window_records b from r (omega arith) (omega arith), next, e₄, reached) (next_window ys (records_of b) from r h)
 
 -- all of them
 pub last_stored : (ys zs xs : List Finding) (from end : ℕ) → end ≤ from → zs ≡ sets ys 64 (behind 64 (min from end) xs) → zs ≡ sets ys 64 (behind 64 end xs)
-last_stored ys zs xs from end h e = let m : min from end ≡ end = omega arith in e ∙ ap (λ (k : ℕ). sets ys 64 (behind 64 k xs)) m
+last_stored ys zs xs from end h e = let m : min from end ≡ end = omega arith in rw m at e
 
 -- the first window, and the windows behind it
 pub all_in_places : (b ws : List ℕ) (ys zs us : List Finding) (n r end : ℕ) → n ≡ length (records_of b) → ws ≡ window_from b 0 blank → r ≡ min n 64 → end ≡ min n (length ys)
     → zs ≡ sets ys 0 (findings_in ws 0 r) → us ≡ sets zs 64 (behind 64 end (records_of b)) → us ≡ in_places (records_of b) ys
 all_in_places b ws ys zs us n r end e₁ e₂ e₃ e₄ e₅ e₆ =
-    let xs : List Finding = records_of b in
-    let first : zs ≡ sets ys 0 (take r xs) = e₅ ∙ ap (λ (l : List ℕ). sets ys 0 (findings_in l 0 r)) e₂ ∙ ap (sets ys 0) (window_records b 0 r (omega arith) (omega arith)) in
-    e₆ ∙ ap (λ (l : List Finding). sets l 64 (behind 64 end xs)) first ∙ whole ys xs r end (omega arith) (omega arith)
+    rw (e₆, e₅, e₂, window_records b 0 r (omega arith) (omega arith)) (whole ys (records_of b) r end (omega arith) (omega arith))
 
 -- ---- what is promised
 
 -- the count that the answer tells is that of the records
 pub found_of : (b : List ℕ) (a : Answered) (n : ℕ) → values_of a ≡ values_for b → n ≡ get_or (values_of a) 2 0 → n ≡ length (records_of b)
-found_of b a n e e' = e' ∙ ap (λ (l : List ℕ). get_or l 2 0) e ∙ found_all b
+found_of b a n e e' = rw (e', e) (found_all b)
 
 -- with the findings in their places the promise is whole
 pub wrote : (b d d' g g' w w' p p' : List ℕ) (f f' : List Finding) (a : Answered) → WroteFrom b d d' g g' w w' p p' 0 (length f) a → f' ≡ in_places (records_of b) f → Wrote b d d' g g' f f' p p' a

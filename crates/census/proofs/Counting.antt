@@ -15,7 +15,7 @@ use Rattle.spec.specs.declared.ids.LoopId.{LoopId}
 use Rattle.nest.specs.Lists.{sum}
 use Rattle.nest.specs.Outline.{Outline, segment, item_loops, order_of}
 use Rattle.nest.specs.OfJob.{outline_of, item_in}
-use Rattle.nest.proofs.Bridge.{order_length, order_item, loop_count_is}
+use Rattle.nest.proofs.Bridge.{order_length, order_item, loop_count_is, roots_is}
 use Rattle.nest.proofs.Scan.{drop_next, sum_at, sum_past}
 use Rattle.walk.specs.declared.Context.{Context as Kept}
 use Rattle.walk.specs.Instances.{Context, outside, instances}
@@ -154,10 +154,6 @@ pub record Rooted (j : Job) (i n : ℕ) : Type 0 where
 pub rooted : (j : Job) → Rooted j 0 0
 unfolding roots_from
 rooted j = let q : census (outline_of j) ≡ roots_from (outline_of j) 0 = census_roots (outline_of j) in record { rest = omega (arith, q); few = omega arith }
-
-roots_is : (j : Job) → (outline_of j).roots ≡ j.spec.roots
-unfolding outline_of
-roots_is j = refl
 
 pub outside_is : (c : Kept) → c ≡ kept_outside → context_by c ≡ outside
 outside_is c e = ap context_by e ∙ stands_outside

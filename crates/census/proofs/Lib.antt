@@ -1,4 +1,3 @@
-pub mod Small
 pub mod Counting
 pub mod Bounding
 pub mod Widths

@@ -1,33 +1,34 @@
 -- How many instances of a loop a context has at most.
 use Prim.Native.Nat.{ℕ, zero, suc, ◌+◌, ◌-◌, ◌*◌, ◌≤◌, ◌<◌, max}
-use mathlib.Core.Path.{◌≡◌, refl, sym, ap, ◌∙◌}
+use mathlib.Core.Path.{◌≡◌, sym, ap, ◌∙◌}
 use mathlib.Core.Bool.{Bool, true, false, cond, not}
 use mathlib.Core.List.{List, [], ◌∷◌}
 use native.Mathlib.Omega.{arith}
 use native.Mathlib.Decide.{dec_lt, ℕ_discrete}
 use Rattle.std.specs.Prelude.{Option, None, Some}
-use lib.ListN.{length, drop, get_or, length-take, length-drop, length-map, length-append}
-use lib.Dec.{eqb}
+use lib.ListN.{length, get_or, length-map, length-append}
 use Rattle.format.specs.Sections.{job_of}
 use Rattle.format.specs.Ask as A
 use Rattle.format.specs.Data.{no_table_data}
 use Rattle.tables.specs.Parts as T
-use Rattle.nest.specs.Lists.{keep, from, up_to, on, is, part, some_of, is_empty_list}
+use Rattle.nest.specs.Lists.{keep, up_to, on, is, some_of, is_empty_list}
 use Rattle.nest.specs.Outline.{Outline, absent, envelope, implied, rows, inside, groups, kind_of, loop_of, table_parent, row_count, plain}
 use Rattle.nest.specs.Nest.{held, referred}
 use Rattle.nest.specs.Found.{nest_at, held_at}
 use Rattle.nest.specs.Rising.{Climbs, rises}
 use Rattle.nest.specs.Ready.{outline_at}
-use Rattle.nest.proofs.Bridge.{rows_is, table_parent_is}
+use Rattle.nest.proofs.Bridge.{rows_is, table_parent_by}
 use Rattle.nest.proofs.FoundLaws.{held_yes, held_no}
 use Rattle.nest.proofs.Hanging.{plain_not}
 use Rattle.nest.proofs.Placing.{rows_few, rows_room}
 use Rattle.nest.proofs.NestLaws.{rows_before, held_all}
-use Rattle.nest.proofs.Scan.{keep_more, keep_same, keep_length, keep_alike, keep_all, keep_none}
+use Rattle.nest.proofs.Scan.{keep_more, keep_same, keep_alike, keep_none}
 use Rattle.nest.proofs.Stored.{row_there, before_is}
-use Rattle.walk.specs.Instances.{Context, Run, held_in, cut_to, rows_in, pieces, pieces_of, in_row, in_piece, shown, by_kind, instances}
+use Rattle.walk.specs.Instances.{Context, held_in, rows_in, pieces_of, in_row, in_piece, shown, by_kind, instances}
 use Rattle.walk.specs.Nested.{Nested}
 use Rattle.walk.proofs.NestedLaws.{lent_held, lent_climbs}
+use Rattle.walk.proofs.Pieces.{pieces_no_more}
+use Rattle.walk.proofs.RowLaws.{rows_held, rows_in_few}
 use Rattle.census.specs.Bounds.{held_before, Fan, Width}
 
 -- ---- the longest run
@@ -98,34 +99,6 @@ module _ (n : List ℕ) (base many k last run best : ℕ) (s : Longest n base ma
 
 -- ---- the rows of a table in a context
 
-cut_few : (t : ℕ) (run : Option Run) (xs : List ℕ) → length (cut_to t run xs) ≤ length xs
-cut_few t None xs = omega arith
-cut_few t (Some p) xs = go (eqb p.table t)
-  where
-    go : (x : Bool) → length (cond x (part p.start p.end xs) xs) ≤ length xs
-    go true = omega (arith, length-take (p.end - p.start) (drop p.start xs), length-drop p.start xs)
-    go false = omega arith
-
-rows_held : (o : Outline) (t w : ℕ) (c : Context) → (plain o t ≡ true → length (held_in o t c.row) ≤ w) → length (rows_in o t c) ≤ w
-unfolding rows_in
-rows_held o t w c h = go (plain o t) h
-  where
-    go : (x : Bool) → (x ≡ true → length (held_in o t c.row) ≤ w) → length (cond x (cut_to t c.run (held_in o t c.row)) []) ≤ w
-    go true f = omega (arith, f refl, cut_few t c.run (held_in o t c.row))
-    go false f = omega arith
-
-pub rows_all : (o : Outline) (t : ℕ) (c : Context) → length (rows_in o t c) ≤ row_count o t
-unfolding held_in held
-rows_all o t c = rows_held o t (row_count o t) c (λ f. go (table_parent o t))
-  where
-    in_row_lem : (u : ℕ) (x : Option ℕ) → length (on x (held o t u) []) ≤ row_count o t
-    in_row_lem u None = omega arith
-    in_row_lem u (Some p) = keep_length (λ r. is (referred o t r u) p) 0 (row_count o t)
-
-    go : (x : Option ℕ) → length (on x (λ u. on (c.row u) (held o t u) []) (from 0 (row_count o t))) ≤ row_count o t
-    go None = omega (arith, ap length (keep_all (row_count o t) 0), keep_length (λ r. true) 0 (row_count o t))
-    go (Some u) = in_row_lem u (c.row u)
-
 pub rows_hung : {b idx n : List ℕ} → Nested b idx n → (t u w : ℕ) → table_parent (outline_at b) t ≡ Some u → ((p : ℕ) → held_before n (rows_before (outline_at b) t) (row_count (outline_at b) t) p ≤ w)
     → (c : Context) → length (rows_in (outline_at b) t c) ≤ w
 unfolding held_in held_before
@@ -148,7 +121,7 @@ module _ {b idx n : List ℕ} (N : Nested b idx n) (t count : ℕ) (e : count �
   rows_small = omega (arith, rows_count, rows_few (job_of b) t N.ready.tables.few_rows)
 
   pub fan_all : Fan (outline_at b) t count
-  fan_all = record { few = rows_small; most = λ c. omega (arith, rows_count, rows_all (outline_at b) t c) }
+  fan_all = record { few = rows_small; most = λ c. omega (arith, rows_count, rows_in_few (outline_at b) t c) }
 
   module _ (base : ℕ) (q : base ≡ T.rows_before (job_of b).tables t) where
     base_is : base ≡ rows_before (outline_at b) t
@@ -163,24 +136,10 @@ module _ {b idx n : List ℕ} (N : Nested b idx n) (t count : ℕ) (e : count �
 
     pub fan_hung : (x : Option ℕ) (u w : ℕ) → x ≡ (A.table_of (job_of b) t).parent → x ≡ Some u → (w ≤ count) × ((p : ℕ) → held_before n base count p ≤ w) → Fan (outline_at b) t w
     fan_hung x u w a f g =
-        let parent : table_parent (outline_at b) t ≡ Some u = table_parent_is (job_of b) t ∙ sym a ∙ f in
+        let parent = table_parent_by (job_of b) t x a (Some u) f in
         record { few = omega (arith, g.0, rows_small); most = rows_hung N t u w parent (λ p. rw (← base_is, ← rows_count) (g.1 p)) }
 
 -- ---- the instances of a loop
-
-pieces_few : (same : ℕ → ℕ → Bool) (xs : List ℕ) (head start end : ℕ) → length (pieces same head start end xs) ≤ suc (length xs)
-unfolding pieces
-pieces_few same [] head start end = omega arith
-pieces_few same (r ∷ more) head start end = go (same head r) (pieces_few same more head start (suc end)) (pieces_few same more r end (suc end))
-  where
-    go : (x : Bool) → length (pieces same head start (suc end) more) ≤ suc (length more) → length (pieces same r end (suc end) more) ≤ suc (length more)
-        → length (cond x (pieces same head start (suc end) more) (record { head = head; start = start; end = end } ∷ pieces same r end (suc end) more)) ≤ suc (suc (length more))
-    go true f g = omega arith
-    go false f g = omega arith
-
-pieces_no_more : (same : ℕ → ℕ → Bool) (xs : List ℕ) → length (pieces_of same xs) ≤ length xs
-pieces_no_more same [] = omega arith
-pieces_no_more same (r ∷ more) = pieces_few same more r 0 1
 
 module _ (o : Outline) (l : ℕ) where
   by_height : (w : ℕ) → ((below : ℕ → Context → List Context) (c : Context) → length (by_kind below o l c (kind_of o l)) ≤ w) → (h : ℕ) (c : Context) → length (instances o h l c) ≤ w

@@ -17,6 +17,10 @@ abbrev pub pick {ℓ} : {A : Type ℓ} → Bool → A → A → A
 pick true x y = x
 pick false x y = y
 
+pub pick_same {ℓ} : {A : Type ℓ} (t : Bool) (x : A) → pick t x x ≡ x
+pick_same true x = refl
+pick_same false x = refl
+
 -- l stands in b from the place at
 abbrev pub Here : List ℕ → ℕ → List ℕ → Type 0
 Here b at [] = Unit {0}

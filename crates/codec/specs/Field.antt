@@ -4,7 +4,7 @@ use Rattle.std.proofs.Math.Path.{◌≡◌}
 use Rattle.std.specs.Prelude.{refl, List, [], ◌∷◌, ◌⊎◌, Bool, true, false, length, get_or, leb, None, Some}
 use Rattle.std.proofs.Common.{sym, ap, subst, ◌∙◌, inl, inr, arith, add-zero, mul-zero, mul-suc, mul_comm, leb-true, leb-false}
 use Rattle.codec.specs.Codec.{Got, got, bad, bind, pick, Codec, Cases, le, le_c, unit_c, dep_c, ◌⊗◌, map_c, when_c, enum_c, ◌⊕◌, end_c, list_c, items_read}
-use Rattle.codec.specs.Skip.{after, skip, skip_case, steps, count_at, Is, value_le, skip_le, skip_short, skip_past}
+use Rattle.codec.specs.Skip.{after, skip, skip_case, steps, count_at, Is, value_le, skip_le, skip_short, steps_end}
 use Rattle.codec.specs.Forms.{opt_c}
 
 -- a value stands within the end
@@ -150,10 +150,6 @@ steps_le w b e (suc i) at h = go (leb (at + w) e) refl (steps_le w b e i (at + w
     m : w * suc i ≡ w * i + w
     m = mul-suc w i
 
-    at_end : (n : ℕ) → steps (le_c w) b e n (e + 1) ≡ e + 1
-    at_end zero = refl
-    at_end (suc n) = rw (skip_past (le_c w) b e (e + 1) (omega arith)) (at_end n)
-
     go : (t : Bool) → leb (at + w) e ≡ t → (steps (le_c w) b e i (at + w) ≤ e → steps (le_c w) b e i (at + w) ≡ at + w + w * i) → steps (le_c w) b e i (skip (le_c w) b at e) ≡ at + w * suc i
     go true q ih =
         let r : skip (le_c w) b at e ≡ at + w = skip_le w b at e (leb-true _ _ q) in
@@ -162,7 +158,7 @@ steps_le w b e (suc i) at h = go (leb (at + w) e) refl (steps_le w b e i (at + w
     go false q ih =
         let r : skip (le_c w) b at e ≡ e + 1 = skip_short w b at e (leb-false _ _ q) in
         let h' : steps (le_c w) b e i (e + 1) ≤ e = rw r at h in
-        absurd (omega (arith, at_end i))
+        absurd (omega (arith, steps_end (le_c w) b e i))
 
 -- the items of a list of numbers
 pub le_item : (w : ℕ) (b : List ℕ) (e at : ℕ) (vs : List ℕ) (i : ℕ) → Is (list_c (le_c w)) b e at vs → i < length vs → get_or vs i 0 ≡ le w b (at + 4 + w * i)

@@ -24,6 +24,10 @@ pub any_cons : (t : Bool) (ts : List Bool) → any (t ∷ ts) ≡ pick t true (a
 unfolding any
 any_cons t ts = refl
 
+pub alone : (t : Bool) → t ≡ pick t true false
+alone true = refl
+alone false = refl
+
 pub any_nil : any [] ≡ false
 unfolding any
 any_nil = refl

@@ -6,7 +6,7 @@ use Rattle.std.proofs.Common.{◌∙◌, lt-ltb, le-ltb}
 use Rattle.std.proofs.Math.Bool.{true, false}
 use native.Mathlib.Omega.{arith}
 use Rattle.std.proofs.Math.Numerals.{sub-one}
-use Rattle.codec.specs.Codec.{Got, got, bad, bind, pick, Codec, le_c, ◌⊗◌, when_c, list_c, items_read}
+use Rattle.codec.specs.Codec.{Got, got, bad, bind, pick, pick_same, Codec, le_c, ◌⊗◌, when_c, list_c, items_read}
 use Rattle.codec.specs.Skip.{skip, after, count_at, value_or, skip_past, Is}
 use Rattle.codec.specs.Field.{is_pair, is_when}
 use Rattle.codec.specs.Forms.{num_c, bytes_c}
@@ -71,18 +71,14 @@ module _ {E : Type 0} (C : Codec E) (b : List ℕ) (e : ℕ) where
       third x xs m false true = refl
       third x xs m false false = refl
 
-      fourth : (t : Bool) → e + 1 ≡ pick t (e + 1) (e + 1)
-      fourth true = refl
-      fourth false = refl
-
       second : (x : ℕ × E) (g : Got (List (ℕ × E))) → after e (Tested low (bind g (λ xs m. got (x ∷ xs) m))) ≡ pick (ltb x.0 low) (e + 1) (after e (Tested (x.0 + 1) g))
       second x (got xs m) = third x xs m (ltb x.0 low) (rises_from (x.0 + 1) xs)
-      second x bad = fourth (ltb x.0 low)
+      second x bad = sym (pick_same (ltb x.0 low) (e + 1))
 
       first : (g : Got (ℕ × E)) → (num_c ⊗ C).read b at e ≡ g → ((low at : ℕ) → after e (Tested low (items_read (num_c ⊗ C) n b at e)) ≡ risen C b e n low at)
           → after e (Tested low (bind g (λ x p. bind (items_read (num_c ⊗ C) n b p e) (λ xs m. got (x ∷ xs) m)))) ≡ pick (ltb (count_at b at e) low) (e + 1) (risen C b e n (count_at b at e + 1) (after e g))
       first (got x p) q ih = second x (items_read (num_c ⊗ C) n b p e) ∙ rw (key_is at p x q, ih (x.0 + 1) p)
-      first bad q ih = rw (risen_end n (count_at b at e + 1)) (fourth (ltb (count_at b at e) low))
+      first bad q ih = rw (risen_end n (count_at b at e + 1)) (sym (pick_same (ltb (count_at b at e) low) (e + 1)))
 
   pub skip_num_map : (at : ℕ) → skip (num_map_c C) b at e ≡ risen C b e (count_at b at e) 0 (skip (le_c 4) b at e)
   unfolding skip count_at num_map_c when_c list_c risen
@@ -108,11 +104,7 @@ module _ {E : Type 0} (C : Codec E) (b : List ℕ) (e : ℕ) where
   map_fallen a n low p k i h j l = sym (i ∙ risen_next n low p h ∙ rw (← j) (simp (lt-ltb _ _ l)))
 
   pub map_broken : (a n low p : ℕ) → a ≡ risen C b e n low p → 0 < n → e < p → e + 1 ≡ a
-  map_broken a n low p i h k = sym (i ∙ risen_next n low p h ∙ rw (skip_past (num_c ⊗ C) b e p k, risen_end (n - 1) (count_at b p e + 1)) (go (ltb (count_at b p e) low)))
-    where
-      go : (t : Bool) → pick t (e + 1) (e + 1) ≡ e + 1
-      go true = refl
-      go false = refl
+  map_broken a n low p i h k = sym (i ∙ risen_next n low p h ∙ rw (skip_past (num_c ⊗ C) b e p k, risen_end (n - 1) (count_at b p e + 1)) (pick_same (ltb (count_at b p e) low) (e + 1)))
 
   pub map_done : (a n low p : ℕ) → a ≡ risen C b e n low p → n ≤ 0 → p ≡ a
   unfolding risen

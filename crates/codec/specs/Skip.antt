@@ -41,6 +41,17 @@ module _ {A : Type 0} (C : Codec A) (b : List ℕ) (e : ℕ) where
   steps_past (suc zero) at q h = skip_past at h
   steps_past (suc (suc n)) at q h = rw (skip_past at h) (steps_past (suc n) (e + 1) (omega arith) (omega arith))
 
+  pub steps_end : (n : ℕ) → steps C b e n (e + 1) ≡ e + 1
+  unfolding steps
+  steps_end zero = refl
+  steps_end (suc n) = rw (skip_past (e + 1) (omega arith)) (steps_end n)
+
+  -- the last step
+  pub steps_last : (n at : ℕ) → steps C b e (n + 1) at ≡ skip C b (steps C b e n at) e
+  unfolding steps
+  steps_last zero at = refl
+  steps_last (suc n) at = let q : suc n + 1 ≡ suc (n + 1) = omega arith in rw q (steps_last n (skip C b at e))
+
   pub steps_next : (n at : ℕ) → 0 < n → steps C b e n at ≡ steps C b e (n - 1) (skip C b at e)
   unfolding steps
   steps_next zero at h = absurd (omega arith)
@@ -57,11 +68,7 @@ module _ {A : Type 0} (C : Codec A) (b : List ℕ) (e : ℕ) where
 
       go : (g : Got A) → ((p : ℕ) → after e (items_read C n b p e) ≡ steps C b e n p) → after e (bind g (λ x p. bind (items_read C n b p e) (λ xs m. got (x ∷ xs) m))) ≡ steps C b e n (after e g)
       go (got x p) ih = more x (items_read C n b p e) ∙ ih p
-      go bad ih = sym (at_end n)
-        where
-          at_end : (n : ℕ) → steps C b e n (e + 1) ≡ e + 1
-          at_end zero = refl
-          at_end (suc n) = rw (skip_past (e + 1) (omega arith)) (at_end n)
+      go bad ih = sym (steps_end n)
 
   -- a list ends where its items do
   pub skip_list : (at : ℕ) → skip (list_c C) b at e ≡ steps C b e (count_at b at e) (skip (le_c 4) b at e)

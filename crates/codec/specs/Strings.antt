@@ -7,7 +7,7 @@ use Rattle.std.specs.Prelude.{Some, None}
 use Rattle.std.proofs.Math.Bool.{true, false}
 use native.Mathlib.Omega.{arith}
 use Rattle.std.proofs.Math.Numerals.{sub-one}
-use Rattle.codec.specs.Codec.{Got, got, bad, bind, pick, Codec, le, le_c, ◌⊗◌, when_c, list_c, items_read}
+use Rattle.codec.specs.Codec.{Got, got, bad, bind, pick, pick_same, Codec, le, le_c, ◌⊗◌, when_c, list_c, items_read}
 use Rattle.codec.specs.Skip.{skip, after, count_at, value_or, skip_past, Is}
 use Rattle.codec.specs.Field.{is_pair, is_list, le_item}
 use Rattle.codec.specs.Forms.{byte_c, bytes_c}
@@ -138,13 +138,9 @@ module _ {E : Type 0} (C : Codec E) (b : List ℕ) (e : ℕ) where
       third x xs m true false = refl
       third x xs m false u = refl
 
-      fourth : (t : Bool) → e + 1 ≡ pick t (e + 1) (e + 1)
-      fourth true = refl
-      fourth false = refl
-
       second : (x : List ℕ × E) (g : Got (List (List ℕ × E))) → after e (Tested s (bind g (λ xs m. got (x ∷ xs) m))) ≡ pick (above s x.0) (after e (Tested (Some x.0) g)) (e + 1)
       second x (got xs m) = third x xs m (above s x.0) (rises_after (Some x.0) xs)
-      second x bad = fourth (above s x.0)
+      second x bad = sym (pick_same (above s x.0) (e + 1))
 
       first : (g : Got (List ℕ × E)) → (bytes_c ⊗ C).read b at e ≡ g
           → ((j : List ℕ) (p : ℕ) → (q : ℕ) × (◌≡◌ {A = Option ℕ} (Some at) (Some q)) × Is bytes_c b e q j → after e (Tested (Some j) (items_read (bytes_c ⊗ C) n b p e)) ≡ sorted C b e n (Some at) p)
@@ -152,7 +148,7 @@ module _ {E : Type 0} (C : Codec E) (b : List ℕ) (e : ℕ) where
       first (got x p) q ih =
           let k : Is bytes_c b e at x.0 = entry_key at p x q in
           second x (items_read (bytes_c ⊗ C) n b p e) ∙ rw (ok_is s last at x.0 h k, ih x.0 p (at, refl, k))
-      first bad q ih = rw (sorted_end n (Some at)) (fourth (ok_at b last at))
+      first bad q ih = rw (sorted_end n (Some at)) (sym (pick_same (ok_at b last at) (e + 1)))
 
   pub skip_bytes_map : (at : ℕ) → skip (bytes_map_c C) b at e ≡ sorted C b e (count_at b at e) None (skip (le_c 4) b at e)
   unfolding skip count_at bytes_map_c when_c list_c sorted Prior
@@ -178,11 +174,7 @@ module _ {E : Type 0} (C : Codec E) (b : List ℕ) (e : ℕ) where
   sorted_fallen a n last p i h k = sym (i ∙ sorted_next n last p h ∙ rw k)
 
   pub sorted_broken : (a n : ℕ) (last : Option ℕ) (p : ℕ) → a ≡ sorted C b e n last p → 0 < n → e < p → e + 1 ≡ a
-  sorted_broken a n last p i h k = sym (i ∙ sorted_next n last p h ∙ rw (skip_past (bytes_c ⊗ C) b e p k, sorted_end (n - 1) (Some p)) (go (ok_at b last p)))
-    where
-      go : (t : Bool) → pick t (e + 1) (e + 1) ≡ e + 1
-      go true = refl
-      go false = refl
+  sorted_broken a n last p i h k = sym (i ∙ sorted_next n last p h ∙ rw (skip_past (bytes_c ⊗ C) b e p k, sorted_end (n - 1) (Some p)) (pick_same (ok_at b last p) (e + 1)))
 
   pub sorted_done : (a n : ℕ) (last : Option ℕ) (p : ℕ) → a ≡ sorted C b e n last p → n ≤ 0 → p ≡ a
   unfolding sorted

@@ -1,15 +1,16 @@
 -- The definitions that contracts of the smallest readers cite, and the ways that the code takes.
 use Rattle.std.specs.Prelude.{ℕ, zero, suc, ◌+◌, ◌*◌, ◌^◌, ◌≤◌, ◌<◌, ◌≡◌, List, Bool, ltb, eqb, Option, None, Some}
 use Rattle.std.specs.Option.{option_eq}
+use Rattle.std.proofs.lemmas.Option.{none-some, same_Some}
 use Rattle.std.proofs.Math.Path.{refl}
-use Rattle.std.proofs.Common.{sym, ap, ◌∙◌, eqb-true, zero-mul, suc-mul, add-zero, mul-le-mul_left}
+use Rattle.std.proofs.Common.{sym, ◌∙◌, eqb-true, zero-mul, suc-mul, add-zero, mul-le-mul_left}
 use Rattle.std.proofs.Math.Bool.{true, false, true≢false}
 use native.Mathlib.Omega.{arith}
 use Rattle.std.proofs.Math.ListN.{get_or}
 use Rattle.std.proofs.Math.Dec.{leb, leb-suc-suc}
 use borrow.Author.Tests.{le-leb, lt-leb, leb-true, leb-false, eq-eqb, ne_eqb, lt-ltb, le-ltb}
 use Rattle.codec.specs.Codec.{Codec, Cases, units_c, pick, le_c, le, unit_c, enum_c, ◌⊕◌, end_c, list_c}
-use Rattle.codec.specs.Skip.{skip, steps, skip_le, skip_short, skip_past, skip_list, skip_map, skip_enum, skip_no_case, skip_unit, skip_case_0, skip_case_suc, skip_case_end, skip_case, count_at, tag_at, case_of, case_end, value_le, value_short}
+use Rattle.codec.specs.Skip.{skip, steps, skip_le, skip_short, steps_end, skip_list, skip_map, skip_enum, skip_no_case, skip_unit, skip_case_0, skip_case_suc, skip_case_end, skip_case, count_at, tag_at, case_of, case_end, value_le, value_short}
 use Rattle.codec.specs.Forms.{flag_c, opt_c}
 
 -- the end of an option, where its value ends at p if it has one
@@ -62,27 +63,11 @@ steps_short w b e (suc n) p h q = go (leb (p + w) e) refl (steps_short w b e n (
     m : suc n * w ≡ n * w + w
     m = suc-mul n w
 
-    at_end : (n : ℕ) → steps (le_c w) b e n (e + 1) ≡ e + 1
-    at_end zero = refl
-    at_end (suc n) = rw (skip_past (le_c w) b e (e + 1) (omega arith)) (at_end n)
-
     go : (t : Bool) → leb (p + w) e ≡ t → (p + w ≤ e → e < p + w + n * w → steps (le_c w) b e n (p + w) ≡ e + 1) → steps (le_c w) b e n (skip (le_c w) b p e) ≡ e + 1
     go true r ih =
         let s : p + w ≤ e = leb-true _ _ r in
         rw (skip_le w b p e s) (ih s (omega (arith, m)))
-    go false r ih = rw (skip_short w b p e (leb-false _ _ r)) (at_end n)
-
-byte_or : Option ℕ → ℕ
-byte_or (Some x) = x
-byte_or None = 0
-
-how_many : Option ℕ → ℕ
-how_many (Some x) = 1
-how_many None = 0
-
-some_not : (x : ℕ) → Some x ≡ None → ⊥
-unfolding how_many
-some_not x h = let z : 1 ≡ 0 = ap how_many h in absurd (omega (arith, z))
+    go false r ih = rw (skip_short w b p e (leb-false _ _ r)) (steps_end (le_c w) b e n)
 
 module _ (b : List ℕ) (at e : ℕ) where
   pub tag_case : (t : ℕ) → tag_at b at e ≡ t → t < 256 → at < e
@@ -92,6 +77,17 @@ module _ (b : List ℕ) (at e : ℕ) where
       go : (t : Bool) → leb (at + 1) e ≡ t → pick t (get_or b at 0) 256 < 256 → at < e
       go true q k = let r : at + 1 ≤ e = leb-true (at + 1) e q in omega arith
       go false q k = absurd (omega arith)
+
+  -- t is the mark of the case
+  module _ (t : ℕ) (h : t ≡ tag_at b at e) where
+    pub tag_read : (k : ℕ) → t ≡ k → k < 256 → get_or b at 0 ≡ k
+    tag_read k i l = sym (tag_in b at e (tag_case k (sym h ∙ i) l)) ∙ sym h ∙ i
+
+    pub tag_past : (k : ℕ) → t ≡ k → k < 256 → (p : ℕ) → p ≡ skip (le_c 1) b at e → p ≡ at + 1
+    tag_past k i l p j = let m : at < e = tag_case k (sym h ∙ i) l in j ∙ skip_le 1 b at e (omega arith)
+
+    pub tag_within : at + 1 ≤ e → get_or b at 0 ≡ t
+    tag_within l = sym (h ∙ tag_in b at e (omega arith))
 
   -- the byte of a case as an option: r is what was read
   pub case_here : at < e → case_of b at e ≡ Some (get_or b at 0)
@@ -117,11 +113,11 @@ module _ (b : List ℕ) (at e : ℕ) where
             g l (h ∙ case_gone l)
 
     pub case_some : (t : ℕ) → r ≡ Some t → t ≡ tag_at b at e
-    unfolding byte_or tag_at
-    case_some t i = by_end (λ l j. ap byte_or (sym i ∙ j)) (λ l j. absurd (some_not _ (sym i ∙ j)))
+    unfolding tag_at
+    case_some t i = by_end (λ l j. same_Some _ _ (sym i ∙ j)) (λ l j. absurd (none-some _ (sym j ∙ i)))
 
     pub case_none : r ≡ None → 256 ≡ tag_at b at e
-    case_none i = by_end (λ l j. absurd (some_not _ (sym j ∙ i))) (λ l j. sym (tag_out b at e l))
+    case_none i = by_end (λ l j. absurd (none-some _ (sym i ∙ j))) (λ l j. sym (tag_out b at e l))
 
     -- whether it is t
     module _ (u : Bool) (t : ℕ) (k : u ≡ option_eq eqb r (Some t)) where

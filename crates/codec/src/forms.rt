@@ -1,7 +1,7 @@
 // The forms of a job's bytes, each by a type of its own: what stands at a place, and where it ends.
 ghost use Rattle.std.specs.Prelude.{◌≡◌, ℕ, List, Bool, Option};
 ghost use Rattle.codec.specs.Codec.{Codec, le_c, list_c, ◌⊗◌};
-ghost use Rattle.codec.specs.Forms.{bytes_c, flag_c, opt_c};
+ghost use Rattle.codec.specs.Forms.{flag_c, opt_c};
 ghost use Rattle.codec.specs.Maps.{bytes_map_c, num_map_c};
 ghost use Rattle.codec.specs.Within.{ends};
 

@@ -1,15 +1,13 @@
-// Reading by place: each reader answers the place behind what it reads, or one past the end where it is bad.
-// No Option: the definitions go by such a number (`skip`), and it is past every end, so that the readings behind it need no case for it.
+// Reading by place: most readers answer the place behind what they read, or one past the end where it is bad.
+// No Option for such a place: the definitions go by the same number (`skip`), and it is past every end, so that readings behind it need no case for it.
 #![tactic(auto)]
 
 pub mod forms;
 mod section;
 
-ghost use Rattle.std.specs.Prelude.{◌≡◌, ℕ, ◌+◌, ◌≤◌, ◌<◌, ◌^◌, get_or, length, set, map, true, IfSome, Option};
-ghost use Rattle.codec.specs.Codec.{le, le_c, list_c, pick};
-ghost use Rattle.codec.specs.Skip.{skip, count_at, case_of, case_end};
-ghost use Rattle.codec.specs.Forms.{num_c, bytes_c, opt_c};
-ghost use Rattle.codec.specs.Ways.{opt_end};
+ghost use Rattle.std.specs.Prelude.{◌≡◌, ◌+◌, ◌≤◌, ◌<◌, get_or, length, set, map, true, IfSome, Option};
+ghost use Rattle.codec.specs.Codec.{le, le_c};
+ghost use Rattle.codec.specs.Skip.{skip};
 ghost use Rattle.codec.specs.Strings.{less_at, ok_at};
 ghost use Rattle.codec.specs.Rows.{stored, small};
 
@@ -48,7 +46,8 @@ pub(crate) fn num_in(b: &[u8], at: usize) -> usize
     u32::from_le_bytes([b[at], b[at + 1], b[at + 2], b[at + 3]]) as usize
 }
 
-// The number in four bytes, those past the last being 0. No `from_le_bytes`, as in `num_in`: it takes bytes, and `byte_at` gives numbers.
+// The number in four bytes, those past the last being 0. By a sum: `from_le_bytes`, as in `num_in`, is no plainer, since each of the four that
+// `byte_at` gives is a usize, and would have to be made a byte again.
 fn num_past(b: &[u8], at: usize) -> usize
     requires { at < 1152921504606846976 }
     ensures { (result ≡ le 4 b.now at) × (result < 4294967296) }

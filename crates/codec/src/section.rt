@@ -1,12 +1,12 @@
-// A stretch of a job's bytes, and its readers: each answers the place behind what it reads, or one past the end.
-// No Option: the definitions go by such a number (`skip`), and it is past every end, so that the readings behind it need no case for it.
+// A stretch of a job's bytes, and its readers: most answer the place behind what they read, or one past the end.
+// No Option for such a place: the definitions go by the same number (`skip`), and it is past every end, so that readings behind it need no case for it.
 ghost use Rattle.std.specs.Prelude.{◌≤◌, length};
 
 use crate::Form;
 use crate::forms::{Bytes, Le, Opt};
 
-// The bytes up to `end`, which is within them. Made by its literal, and no `Section::of`: of a section that a function hands out a proof knows two
-// equations, by which it has to rewrite. `spec::read::section` is worth that: its end is read where it is made.
+// The bytes up to `end`, which is within them. Made by its literal: a `Section::of` is no plainer, since of what it hands out a proof knows two
+// equations, and has to rewrite by both. `spec::read::section`, which finds the end too, is such a maker all the same.
 #[derive(Clone, Copy)]
 pub struct Section<'a> {
     pub bytes: &'a [u8],

@@ -1,15 +1,14 @@
 -- What stands at a place, read there: the mark of a case, and values of the plan.
-use Prim.Native.Nat.{ℕ, ◌+◌, ◌<◌, ◌≤◌}
+use Prim.Native.Nat.{ℕ}
 use mathlib.Core.Path.{◌≡◌, refl, sym, ◌∙◌}
 use mathlib.Core.List.{List}
 use mathlib.Core.Bool.{Bool, false}
 use native.Mathlib.Omega.{arith}
-use lib.ListN.{get_or}
 use Rattle.codec.specs.Codec.{le_c}
 use Rattle.codec.specs.Forms.{bytes_c}
-use Rattle.codec.specs.Skip.{skip, tag_at, skip_le}
+use Rattle.codec.specs.Skip.{skip, tag_at}
 use Rattle.codec.specs.Field.{is_in}
-use Rattle.codec.specs.Ways.{tag_in, tag_case}
+use Rattle.codec.specs.Ways.{tag_read, tag_past, tag_within}
 use Rattle.format.specs.Plan.{from_column, from_group, from_code, value_c}
 use Rattle.format.specs.Fields.{value_tag, is_from_code}
 use Rattle.says.specs.Says.{Says}
@@ -17,23 +16,13 @@ use Rattle.codes.specs.declared.codes.Marks.{Marks}
 use Rattle.codes.specs.Codes.{marked, marked_value}
 
 -- t is the mark of the case at a place
-module _ (b : List ℕ) (e at t : ℕ) (h : t ≡ tag_at b at e) where
-  pub there : (k : ℕ) → t ≡ k → k < 256 → get_or b at 0 ≡ k
-  there k i l = sym (tag_in b at e (tag_case b at e k (sym h ∙ i) l)) ∙ sym h ∙ i
-
-  pub behind : (k : ℕ) → t ≡ k → k < 256 → (p : ℕ) → p ≡ skip (le_c 1) b at e → p ≡ at + 1
-  behind k i l p j = let m : at < e = tag_case b at e k (sym h ∙ i) l in j ∙ skip_le 1 b at e (omega arith)
-
-  pub within : at + 1 ≤ e → get_or b at 0 ≡ t
-  within l = sym (h ∙ tag_in b at e (omega arith))
-
 module _ (b : List ℕ) (e at t : ℕ) (m : Marks) (h : t ≡ tag_at b at e) where
   pub code_there : (p : ℕ) (r : Bool) → t ≡ 2 → p ≡ skip (le_c 1) b at e → Says bytes_c b e p (marked m) r → Says value_c b e at (marked_value m) r
-  code_there p r i j s (from_column x) u = absurd (omega (arith, value_tag b e at (from_column x) u, there b e at t h 2 i (omega arith)))
-  code_there p r i j s (from_group x) u = absurd (omega (arith, value_tag b e at (from_group x) u, there b e at t h 2 i (omega arith)))
-  code_there p r i j s (from_code x) u = s x (rw (behind b e at t h 2 i (omega arith) p j) (is_from_code b e at x u))
+  code_there p r i j s (from_column x) u = absurd (omega (arith, value_tag b e at (from_column x) u, tag_read b at e t h 2 i (omega arith)))
+  code_there p r i j s (from_group x) u = absurd (omega (arith, value_tag b e at (from_group x) u, tag_read b at e t h 2 i (omega arith)))
+  code_there p r i j s (from_code x) u = s x (rw (tag_past b at e t h 2 i (omega arith) p j) (is_from_code b e at x u))
 
   pub code_not : (t ≡ 2 → ⊥) → Says value_c b e at (marked_value m) false
   code_not i (from_column x) u = refl
   code_not i (from_group x) u = refl
-  code_not i (from_code x) u = absurd (i (sym (within b e at t h (is_in bytes_c b e _ _ (is_from_code b e at x u))) ∙ value_tag b e at (from_code x) u))
+  code_not i (from_code x) u = absurd (i (sym (tag_within b at e t h (is_in bytes_c b e _ _ (is_from_code b e at x u))) ∙ value_tag b e at (from_code x) u))

@@ -1,6 +1,5 @@
 // Separators in codes. Each function tells whether whatever stands at a place has one.
 ghost use Rattle.codec.specs.Codec.{◌⊗◌, list_c};
-ghost use Rattle.std.specs.Prelude.{length, ◌≤◌};
 ghost use Rattle.codec.specs.Forms.{byte_c, bytes_c, num_c, opt_c};
 ghost use Rattle.codec.specs.Limits.{any_of};
 ghost use Rattle.format.specs.Words.{if_some};
@@ -14,6 +13,7 @@ use codec::{Form, Section};
 use format::{Component, Element, ElementPlan, Instances, LoopPlan, SegmentPlan, Source, Version};
 
 // The separators of elements, components and segments.
+// A section and marks go through all tests below, and the place changes at each: a struct of the two would save a parameter, and be no plainer.
 #[derive(Clone, Copy)]
 pub struct Marks {
     pub element: usize,

@@ -1,6 +1,5 @@
 // Places in the spec's maps. Each function tells whether whatever stands at a place has one below 1.
 ghost use Rattle.codec.specs.Codec.{◌⊗◌, list_c};
-ghost use Rattle.std.specs.Prelude.{length, ◌≤◌};
 ghost use Rattle.codec.specs.Forms.{bytes_c, num_c};
 ghost use Rattle.codec.specs.Limits.{any_of};
 ghost use Rattle.format.specs.Spec.{component_c, element_c, segment_c};

@@ -1,6 +1,5 @@
 // Control rules. Each function tells whether whatever stands at a place is wrong.
 ghost use Rattle.codec.specs.Codec.{list_c};
-ghost use Rattle.std.specs.Prelude.{length, ◌≤◌};
 ghost use Rattle.codec.specs.Forms.{num_c, opt_c};
 ghost use Rattle.codec.specs.Limits.{any_of};
 ghost use Rattle.format.specs.Words.{if_some};

@@ -2,19 +2,18 @@
 use Prim.Native.Nat.{ℕ, zero, suc, ◌+◌, ◌*◌, ◌-◌, ◌≤◌, ◌<◌}
 use mathlib.Core.Path.{◌≡◌, refl, sym, ap, ◌∙◌}
 use mathlib.Core.List.{List}
-use mathlib.Core.Bool.{Bool, true, false}
 use native.Mathlib.Omega.{arith}
-use native.Mathlib.Nat.{add-zero, zero-add, mul_assoc}
 use Rattle.std.specs.Prelude.{None, Some}
 use lib.ListN.{length, get_or, take, drop, length-drop}
 use lib.Dec.{leb}
 use lib.Seq.{ext_get_or, get_or-take, get_or-drop, length-take-le}
 use borrow.Author.Tests.{lt-ltb, le-ltb, le-leb, lt-leb}
-use Rattle.codec.specs.Codec.{Codec, ◌⊗◌, le, le_c, list_c, cap, pick}
+use Rattle.codec.specs.Codec.{Codec, ◌⊗◌, le, le_c, list_c, pick_same}
 use Rattle.codec.specs.Skip.{skip, Is}
 use Rattle.codec.specs.Field.{is_pair, is_list, is_le, item_of, room_of}
 use Rattle.codec.specs.Forms.{num_c, byte_c, wide_c, bytes_c}
 use Rattle.codec.specs.Answers.{skip_les, byte_item}
+use Rattle.codec.specs.Ways.{le_sixteen}
 use Rattle.column.specs.Cell.{Cell, held, between, bytes_of}
 use Rattle.column.specs.Answers.{Reads}
 use Rattle.column.specs.declared.Cell.TheVariants.{None as NoAnswer, Bytes, Wide}
@@ -47,24 +46,7 @@ module _ (f : ℕ → Cell) (w : ℕ) (b : List ℕ) (at row n : ℕ) (i : n ≡
       let k : x ≡ get_or xs row 0 = item w b at row x j e xs is q in
       sym (simp (lt-ltb _ _ q) (rw k))
 
--- ---- numbers of 128 bits
-le_split : (j k : ℕ) (b : List ℕ) (at : ℕ) → le (j + k) b at ≡ le j b at + cap j * le k b (at + j)
-unfolding le
-le_split zero k b at = rw (zero-add, add-zero) (omega arith)
-le_split (suc j) k b at =
-    let s : suc j + k ≡ suc (j + k) = omega arith in
-    let p : at + suc j ≡ at + 1 + j = omega arith in
-    let m : 256 * cap j * le k b (at + 1 + j) ≡ 256 * (cap j * le k b (at + 1 + j)) = mul_assoc 256 (cap j) (le k b (at + 1 + j)) in
-    rw (s, p, m, le_split j k b (at + 1)) (omega arith)
-
-pub le_sixteen : (b : List ℕ) (at : ℕ) → le 16 b at ≡ le 8 b at + 18446744073709551616 * le 8 b (at + 8)
-le_sixteen b at = le_split 8 8 b at
-
 -- ---- bytes by their offsets
-pick_same : {A : Type 0} (t : Bool) (x : A) → pick t x x ≡ x
-pick_same true x = refl
-pick_same false x = refl
-
 module _ (at n from to : ℕ) where
   pub to_negative : 2147483648 ≤ to → (b : List ℕ) (e : ℕ) (bytes : List ℕ) → n ≡ le 4 b at → e ≤ length b → Is bytes_c b e at bytes → Reads b NoAnswer (between bytes from to)
   unfolding between

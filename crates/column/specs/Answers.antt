@@ -1,5 +1,5 @@
 -- What the readers' answers stand for.
-use Rattle.std.specs.Prelude.{ℕ, ◌+◌, ◌*◌, ◌≤◌, ◌≡◌, List, Bool, true, false, length, take, drop, Option, None, Some}
+use Rattle.std.specs.Prelude.{ℕ, ◌+◌, ◌*◌, ◌≤◌, ◌≡◌, List, Bool, length, take, drop, Option, None, Some}
 use Rattle.codec.specs.Skip.{Is}
 use Rattle.codec.specs.Forms.{opt_c}
 use Rattle.format.specs.Data.{Column, column_c}

@@ -1,5 +1,5 @@
 // Whether two cells are equal.
-ghost use Rattle.std.specs.Prelude.{◌≡◌, List, ℕ, ◌+◌, ◌*◌, ◌≤◌, ◌<◌, length, take, drop, leb, Option, None, Some};
+ghost use Rattle.std.specs.Prelude.{◌≡◌, ◌+◌, ◌*◌, ◌≤◌, ◌<◌, length, take, drop, leb, None, Some};
 ghost use Rattle.column.specs.Cell.{Cell as CellOf, same_bytes, same_answer};
 ghost use Rattle.column.specs.Answers.{Compares};
 

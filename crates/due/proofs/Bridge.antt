@@ -35,10 +35,6 @@ module _ (j : Job) where
   unfolding outline_of
   forced_is l i = refl
 
-  pub capacity_is : (t : ℕ) → (outline_of j).capacity t ≡ A.capacity_of j t
-  unfolding outline_of
-  capacity_is t = refl
-
   -- a loop that is not there is not required
   pub required_is : (l : ℕ) → l < length j.spec.loops → (loop_of (outline_of j) l).required ≡ is_required (A.loop_of j l).usage
   unfolding outline_of loop_of A.loop_of

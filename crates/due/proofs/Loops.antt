@@ -20,7 +20,7 @@ use Rattle.plan.specs.declared.answers.Source.TheVariants.{Row}
 use Rattle.nest.specs.Lists.{is}
 use Rattle.nest.specs.Outline.{Planned, inside_table, source_table, loop_of, kind_of, segment_of, planned, has_occurrence}
 use Rattle.nest.specs.OfJob.{outline_of, kind_in, source_in}
-use Rattle.nest.proofs.Bridge.{kind_is, planned_is, segment_is, children_is, occurrences_is, loop_count_is, data-count-is}
+use Rattle.nest.proofs.Bridge.{kind_is, planned_is, segment_is, source_is, children_is, occurrences_is, loop_count_is, data-count-is}
 use Rattle.walk.specs.Instances.{own_data, has_data, shown}
 use Rattle.walk.specs.Tour.{due_row, is_opener}
 use Rattle.walk.proofs.DataLaws.{data_in, data_from, data-deep, data-own, data-below, data-found, data-next, data-end, shown_required, shown_data}
@@ -38,9 +38,6 @@ row_of s u t e = rw e
 pub inside_is : (j : Job) (l t : ℕ) (k : P.Instances) (x : Bool) → x ≡ is (inside_table (kind_in k)) t → k ≡ (A.plan_of j l).instances → x ≡ is (inside_table (kind_of (outline_of j) l)) t
 inside_is j l t k x h e = h ∙ ap (λ v. is (inside_table (kind_in v)) t) e ∙ ap (λ v. is (inside_table v) t) (sym (kind_is j l))
 
-source_is : (j : Job) (l i : ℕ) (s : P.Source) → s ≡ (A.planned_of j l i).source → source_in s ≡ (segment_of (outline_of j) l i).source
-source_is j l i s e = ap source_in e ∙ ap (λ (v : Planned). v.source) (sym (segment_is j l i))
-
 -- ---- a segment that a row of its own table fills
 
 abbrev pub fills : Job → ℕ → ℕ → ℕ → ℕ → Bool
@@ -48,7 +45,7 @@ fills j l t r i = is (source_table (segment_of (outline_of j) l i).source) t && 
 
 module _ (j : Job) (l i t r : ℕ) (s : P.Source) (m : Bool) (e : s ≡ (A.planned_of j l i).source) (h : m ≡ is (source_table (source_in s)) t) where
   mine : m ≡ is (source_table (segment_of (outline_of j) l i).source) t
-  mine = h ∙ ap (λ v. is (source_table v) t) (source_is j l i s e)
+  mine = rw (source_is j l i, ← e) h
 
   pub fills_by : (x : Bool) → m ≡ true → x ≡ (outline_of j).filled l i t r → x ≡ fills j l t r i
   fills_by x y d = rw (← mine, y) d
@@ -142,4 +139,4 @@ module _ (j : Job) (l i n : ℕ) (c : n ≡ length (A.plan_of j l).segments) whe
   opener_past h = sym (rw (le-ltb i (planned (outline_of j) l) (omega (arith, c, h, planned_is j l))))
 
   pub opener_is : (s : P.Source) (x : Bool) → i < n → s ≡ (A.planned_of j l i).source → x ≡ is_opener (source_in s) → x ≡ ltb i (planned (outline_of j) l) && is_opener (segment_of (outline_of j) l i).source
-  opener_is s x h e d = d ∙ ap is_opener (source_is j l i s e) ∙ sym (rw (lt-ltb i (planned (outline_of j) l) (omega (arith, c, h, planned_is j l))))
+  opener_is s x h e d = d ∙ ap is_opener (ap source_in e ∙ sym (source_is j l i)) ∙ sym (rw (lt-ltb i (planned (outline_of j) l) (omega (arith, c, h, planned_is j l))))

@@ -2,7 +2,7 @@
 use Prim.Native.Nat.{ℕ, ◌+◌, ◌≤◌, ◌<◌}
 use mathlib.Core.Path.{◌≡◌, refl, sym, ap, ◌∙◌}
 use mathlib.Core.Bool.{Bool, true, false, not, ◌&&◌, ◌||◌}
-use mathlib.Core.List.{List, [], ◌∷◌, ◌++◌}
+use mathlib.Core.List.{List, [], ◌∷◌}
 use native.Mathlib.Omega.{arith}
 use lib.ListN.{length, get_or, drop}
 use Rattle.format.specs.Plan as P
@@ -17,7 +17,7 @@ use Rattle.plan.specs.Elements.{Elements, ElementStep}
 use Rattle.plan.specs.declared.answers.ElementPlan.{ElementPlan}
 use Rattle.nest.specs.Lists.{each, some_of}
 use Rattle.nest.specs.OfJob.{outline_of, group_table, repeat_table, same_in, same_chunk_in, filled_in, column_in, columns_in}
-use Rattle.nest.proofs.Scan.{some_at, some_not_at, some_past}
+use Rattle.nest.proofs.Scan.{some_at, some_not_at, some_past, some_append}
 use Rattle.std.specs.Prelude.{unwrap_or, Option, Some}
 use Rattle.due.specs.Cells.{has_value, differ, groups_in, repeats_in}
 use Rattle.due.proofs.Bridge.{filled_is, group_is, chunk_is}
@@ -32,14 +32,6 @@ pub apart : (b : List ℕ) (r s : Read) (x y : Cell) (z : Bool) → Reads b r (S
 apart b r s x y z h i e = ap not (e (Some x) (Some y) h i ∙ answers_cells x y)
 
 -- ---- a search over lists put together
-
-some_append : {A : Type 0} (q : A → Bool) (xs ys : List A) → some_of q (xs ++ ys) ≡ some_of q xs || some_of q ys
-some_append q [] ys = refl
-some_append q (x ∷ xs) ys = go (q x) (some_append q xs ys)
-  where
-    go : (b : Bool) → some_of q (xs ++ ys) ≡ some_of q xs || some_of q ys → b || some_of q (xs ++ ys) ≡ (b || some_of q xs) || some_of q ys
-    go true e = refl
-    go false e = e
 
 some_each : {A B : Type 0} (q : B → Bool) (f : A → List B) (xs : List A) → some_of q (each f xs) ≡ some_of (λ x. some_of q (f x)) xs
 some_each q f [] = refl

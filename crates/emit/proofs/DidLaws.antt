@@ -6,8 +6,8 @@ use native.Mathlib.Omega.{arith}
 use Rattle.std.specs.Prelude.{None}
 use lib.ListN.{length, get_or, set}
 use lib.Seq.{set-get_or}
-use Rattle.lent.specs.Fit.{cap, more, Stored}
-use Rattle.lent.proofs.Laws.{stored_append, stored_length, stored_small}
+use Rattle.lent.specs.Fit.{cap, Stored}
+use Rattle.lent.proofs.Laws.{unmoved, stored_append, stored_length, stored_small}
 use Rattle.walk.specs.Tour.{Stop}
 use Rattle.emit.specs.declared.state.Counts.{Counts}
 use Rattle.emit.specs.declared.state.State.{State}
@@ -46,18 +46,15 @@ did_then {r = r} a next h x y =
       stops = stored_stops a.stops (next a.state).stops h.stops x.stops z.stops;
     }
 
-unmoved : (n : ℕ) → n ≤ cap → n ≡ more n 0
-unmoved n h = omega arith
-
 -- nothing
 pub did_nothing : (s : State) {d g f p : List ℕ} → Small s → Did (quiet (state_of s)) s s d d g g f f p p
 unfolding traced_words stop_words
 did_nothing s h = record {
   state = refl;
-  document = record { counted = unmoved s.counts.bytes h.bytes; stored = refl };
-  segments = record { counted = unmoved s.counts.segments h.segments; stored = refl };
-  findings = none_stored (unmoved s.counts.findings h.findings);
-  stops = record { counted = unmoved s.counts.stops h.stops; stored = refl };
+  document = unmoved h.bytes refl;
+  segments = unmoved h.segments refl;
+  findings = none_stored (omega (arith, h.findings));
+  stops = unmoved h.stops refl;
 }
 
 -- the lists keep their lengths, and the counts stay within the cap

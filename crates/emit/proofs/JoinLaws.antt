@@ -1,7 +1,7 @@
 -- Segments of plain texts as code joins them.
 use Prim.Native.Nat.{ℕ, ◌+◌, ◌≤◌, ◌<◌, max}
 use mathlib.Core.Path.{◌≡◌, refl, sym}
-use mathlib.Core.Bool.{Bool, true, false}
+use mathlib.Core.Bool.{Bool, true, false, true≢false}
 use mathlib.Core.List.{List, [], ◌∷◌}
 use native.Mathlib.Omega.{arith}
 use Rattle.std.specs.Prelude.{None}
@@ -13,7 +13,6 @@ use Rattle.segment.specs.declared.Pen.{Pen}
 use Rattle.segment.specs.Parts.{pick, is_empty, highest, last_element, last_component, here, after, component_text, joined}
 use Rattle.segment.specs.Pen.{placed, finished, closing, Penned}
 use Rattle.segment.specs.Calls.{Group, next, finish, Row, group, close, stays}
-use Rattle.segment.proofs.Rows.{never}
 use Rattle.format.specs.Spec.{Control}
 use Rattle.texts.specs.Number.{count_text}
 use Rattle.emit.specs.Puts.{part_at}
@@ -22,16 +21,16 @@ use Rattle.emit.specs.Envelope.{closer_put}
 -- ---- one element
 
 one_of_lem : (a b : Bool) → pick b a false ≡ false → max (pick a 0 1) (max (pick b 0 1) 0) ≡ 1
-one_of_lem true true e = absurd (never e)
+one_of_lem true true e = absurd (true≢false e)
 one_of_lem true false e = refl
 one_of_lem false true e = refl
 one_of_lem false false e = refl
 
 none_of : (a b : Bool) → pick b a false ≡ true → max (pick a 0 1) (max (pick b 0 1) 0) ≡ 0
 none_of true true e = refl
-none_of true false e = absurd (never (sym e))
-none_of false true e = absurd (never (sym e))
-none_of false false e = absurd (never (sym e))
+none_of true false e = absurd (true≢false (sym e))
+none_of false true e = absurd (true≢false (sym e))
+none_of false false e = absurd (true≢false (sym e))
 
 module _ {s : Separators} {pen r : Pen} {p : ℕ} {d d₁ : List ℕ} where
   pub plain_empty : (text : List ℕ) → is_empty text ≡ true → Penned (finished s pen p 0) pen.at r d d₁

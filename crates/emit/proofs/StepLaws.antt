@@ -1,12 +1,13 @@
 -- What a finished segment and a stop come to.
-use Prim.Native.Nat.{ℕ, ◌≤◌}
+use Prim.Native.Nat.{ℕ}
 use mathlib.Core.Path.{◌≡◌, refl}
 use mathlib.Core.List.{List, [], ◌∷◌}
 use native.Mathlib.Omega.{arith}
 use Rattle.std.specs.Prelude.{None}
 use Rattle.format.specs.Spec.{Control}
 use Rattle.format.specs.Job.{Job}
-use Rattle.lent.specs.Fit.{cap, more, Stored, Noted}
+use Rattle.lent.specs.Fit.{Stored, Noted}
+use Rattle.lent.proofs.Laws.{unmoved}
 use Rattle.segment.specs.declared.Separators.{Separators}
 use Rattle.segment.specs.Parts.{Part, joined}
 use Rattle.nest.specs.Finding.{Finding}
@@ -21,9 +22,6 @@ use Rattle.emit.specs.Did.{Mark, mark_of, state_of, stop_words, traced_words, ro
 use Rattle.emit.proofs.FindingLaws.{none_stored}
 use Rattle.emit.proofs.StateLaws.{mark_in, mark_over}
 use Rattle.emit.proofs.JoinLaws.{closer_quiet}
-
-unmoved : {m n : ℕ} {d : List ℕ} → m ≤ cap → n ≡ m → Stored d m [] n d
-unmoved h e = record { counted = omega arith; stored = refl }
 
 -- the bytes of a segment, its findings, its trace
 pub did_segment : {s n : Counts} {d d' g g' f f' p : List ℕ} {b k : ℕ} (j : Job) (id : List ℕ) (parts : List Part) (fs : List Finding) (entries : ℕ) (from : From) → Within s
@@ -57,7 +55,4 @@ pub did_closer : {s n : Counts} {d d' g g' : List ℕ} {b entries : ℕ} (j : Jo
     → Stored d s.bytes (joined sep id (closer_put k control count).parts) b d' → Finished Envelope entries b s.findings s n g g'
     → DidCounts (segment_out j id (closer_put k control count).parts (closer_put k control count).findings (closer_put k control count).entries None) s n d d' g g' f f p p
 did_closer {s = s} j sep id k control count f p q h e x z high counter =
-    rw (closer_quiet k control count, ← e) (did_segment j id (closer_put k control count).parts [] _ Envelope h (rw q x) (none_stored (still s.findings h.findings)) z high counter)
-  where
-    still : (m : ℕ) → m ≤ cap → m ≡ more m 0
-    still m h = omega arith
+    rw (closer_quiet k control count, ← e) (did_segment j id (closer_put k control count).parts [] _ Envelope h (rw q x) (none_stored (omega (arith, h.findings))) z high counter)

@@ -1,6 +1,6 @@
 -- Texts of cells as code makes them.
 use Prim.Native.Nat.{ℕ, ◌+◌, ◌-◌, ◌*◌, ◌^◌, ◌≤◌}
-use mathlib.Core.Path.{◌≡◌, refl, ap, ◌∙◌}
+use mathlib.Core.Path.{◌≡◌, refl, sym, ap, ◌∙◌}
 use mathlib.Core.Bool.{Bool}
 use mathlib.Core.List.{List, [], ◌++◌, append_assoc, append-nil}
 use native.Mathlib.Nat.{mul_comm}
@@ -20,6 +20,7 @@ use Rattle.std.specs.Result.{result_err, result_unwrap_or}
 use Rattle.texts.specs.declared.Text.{Text}
 use Rattle.texts.specs.declared.render.Refused.{Refused}
 use Rattle.texts.specs.Held.{held}
+use Rattle.texts.proofs.Texts.{len_is, held_take}
 use Rattle.texts.specs.Reason.{Width as Room, Outcome, text_of, why_of, why_in, Says}
 use Rattle.texts.specs.Number.{count_text}
 use Rattle.texts.specs.Pad.{padded, zero_padded, control_text}
@@ -59,23 +60,18 @@ back f e = to_z-of_z f ∙ e
 -- ---- the envelope
 
 pub held_text : (t : Text) (x : List ℕ) → t ≡ held x → take t.len t.bytes ≡ x
-unfolding held
-held_text t x h = rw h (take-append_seam x (replicate (48 - length x) 0))
+held_text t x h = rw h (held_take x)
 
 -- a text of its own is written as a stretch of its bytes
 pub text_part : {r : Pen} {d d₁ : List ℕ} (s : Separators) (pen : Pen) (p c : ℕ) (t : Text) (x own : List ℕ) → t ≡ held x → own ≡ take t.len t.bytes → Penned (placed s pen p c (take (length own) own)) pen.at r d d₁
     → Penned (placed s pen p c x) pen.at r d d₁
 text_part s pen p c t x own h e w = rw (take-length, e, held_text t x h) at w
 
-held_length : (t : Text) (x : List ℕ) → t ≡ held x → length x ≡ t.len
-unfolding held
-held_length t x h = rw h
-
 pub control_text_lem : (job : List ℕ) (t : Text) (number zeros : ℕ) (min : Room) → t ≡ held (count_text number)
     → ((text : List ℕ) → length text ≡ t.len → replicate zeros 48 ++ text ≡ zero_padded min text)
     → value_text job (record { zeros = zeros; bytes = t.bytes; count = t.len; start = 0; len = 0; spaces = 0 }) ≡ control_text number min
 unfolding value_text control_text
-control_text_lem job t number zeros min h p = rw (append-nil (take t.len t.bytes), held_text t (count_text number) h) (p (count_text number) (held_length t (count_text number) h))
+control_text_lem job t number zeros min h p = rw (append-nil (take t.len t.bytes), held_text t (count_text number) h) (p (count_text number) (sym (len_is t (count_text number) h)))
 
 pub padded_text : (job : List ℕ) (v : Value) (numeric : Bool) (min : Room) (max : Room) {own held : ℕ} → own ≡ length (take v.count v.bytes) → held ≡ length (stretch job v.start v.len)
     → ((text : List ℕ) → length text ≡ own + held → replicate v.zeros 48 ++ (text ++ replicate v.spaces 32) ≡ padded numeric min max text)

@@ -1,5 +1,5 @@
 // The text of a cell.
-ghost use Rattle.std.specs.Prelude.{◌≡◌, true, false, List, [], ℕ, ◌+◌, ◌*◌, ◌≤◌, length};
+ghost use Rattle.std.specs.Prelude.{◌≡◌, true, List, ℕ, ◌+◌, ◌*◌, ◌≤◌, length};
 ghost use Rattle.format.specs.Ask.{max_of};
 ghost use Rattle.lent.specs.Fit.{stretch};
 ghost use Rattle.column.specs.Cell.{or_null};

@@ -56,8 +56,8 @@ pub fn padded_value(
     }
 }
 
-// ISA, GS and ST, one row for each depth: element positions, each with the number of its field; zeros behind them. Rows of one length, since there
-// is no heap; and so the spec's `table` has them, which the contracts cite.
+// ISA, GS and ST, one row for each depth: element positions, each with the number of its field; zeros behind them. Document 01 names the form, a
+// constant table of three rows; `table` in specs/, which the contracts cite, has the same rows.
 const LAYOUT: [[u8; 18]; 3] = [
     [5, 0, 6, 1, 7, 2, 8, 3, 9, 6, 10, 7, 11, 10, 15, 8, 16, 11],
     [2, 4, 3, 5, 4, 6, 5, 7, 0, 0, 0, 0, 0, 0, 0, 0, 0, 0],

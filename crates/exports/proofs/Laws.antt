@@ -1,16 +1,15 @@
 -- How long nest's array is, and the two ways of `baktuven_nest`.
-use Prim.Native.Nat.{ℕ, ◌+◌, ◌*◌, ◌≤◌, min}
-use mathlib.Core.Path.{◌≡◌, refl, sym, ap, ◌∙◌}
-use mathlib.Core.List.{List, ◌++◌}
-use mathlib.Core.Bool.{Bool, true, false}
+use Prim.Native.Nat.{ℕ, ◌+◌, ◌*◌, ◌≤◌}
+use mathlib.Core.Path.{◌≡◌, refl, ◌∙◌}
+use mathlib.Core.List.{List}
+use mathlib.Core.Bool.{false}
 use native.Mathlib.Omega.{arith}
-use lib.ListN.{length, take, drop, length-take}
-use lib.Dec.{eqb, leb}
-use lib.Seq.{sets, sets-eq, take_at, take_all}
-use borrow.Author.Tests.{ne_eqb, leb-true, leb-false}
+use lib.ListN.{length, take, drop}
+use lib.Dec.{eqb}
+use lib.Seq.{sets, sets-eq, take_at}
+use borrow.Author.Tests.{ne_eqb}
 use Rattle.format.specs.Job.{Job}
 use Rattle.format.specs.Refusal.{refusal_of, rows_of_all}
-use Rattle.finding.proofs.Sets.{sets_fits}
 use Rattle.tables.specs.Parts as T
 use Rattle.nest.specs.Nest.{nest_array}
 use Rattle.nest.specs.OfJob.{outline_of}

@@ -1,3 +1,2 @@
--- For the crates above: storing as far as it fits, records of a list of numbers.
-pub mod Sets
+-- For the crates above: records of a list of numbers.
 pub mod Records

@@ -31,6 +31,7 @@ fn word_at(words: &[u64], i: usize, j: u8) -> u64
 }
 
 // Record i of a list of numbers.
+#[tactic(auto, unfolding(crate::specs::Findings::finding_at))]
 pub fn finding_at(words: &[u64], i: usize) -> Finding
     ensures { result ≡ finding_at words.now i }
 {
@@ -59,6 +60,7 @@ pub fn append(findings: &mut [Finding], at: usize, f: Finding)
 }
 
 // Records i, i + 1, .., `left` of them, from place `at` on, as far as they fit.
+#[tactic(auto, unfolding(crate::specs::Findings::findings_in), using(crate::proofs::Records::one_more))]
 pub fn append_all(findings: &mut [Finding], words: &[u64], at: usize, i: usize, left: usize)
     requires { (at + left < 9223372036854775808) × (i + left < 9223372036854775808) }
     ensures { findings.new ≡ sets findings.old at (findings_in words.now i left) }

@@ -6,7 +6,7 @@ use Rattle.std.proofs.Math.Bool.{true, false}
 use Rattle.codec.specs.Codec.{Got, got, bad, Codec, pick, le, enc_le, Here}
 use Rattle.codec.specs.Skip.{skip, Is}
 use Rattle.codec.specs.Whole.{used_up, used_up_lem}
-use Rattle.codec.specs.Limits.{any, none_of}
+use Rattle.codec.specs.Limits.{any, alone, none_of}
 use Rattle.format.specs.Spec.{spec_c}
 use Rattle.format.specs.Plan.{plan_c}
 use Rattle.format.specs.Layout.{layout_c}
@@ -164,10 +164,6 @@ sound_of b h =
     }
 
 -- ---- what the code computes: the numbers of the trailer, then where each section ends
-alone : (t : Bool) → t ≡ pick t true false
-alone true = refl
-alone false = refl
-
 pub broken_is : (b : List ℕ) (t s p l e d w : ℕ) → 24 ≤ length b → length b ≤ 65536 → t ≡ trailer b → s ≡ le 4 b t → p ≡ le 4 b (t + 4) → l ≡ le 4 b (t + 8) → e ≡ le 4 b (t + 12) → d ≡ le 4 b (t + 16) → w ≡ le 4 b (t + 20)
     → pick (not (eqb s 0)) true (pick (ltb l p) true (pick (ltb e l) true (pick (ltb d e) true (pick (ltb t d) true (not (eqb w (length b))))))) ≡ broken b
 unfolding broken any

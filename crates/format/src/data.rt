@@ -39,7 +39,7 @@ impl Form for Column {
 
 pub struct TableData;
 
-// As the envelope, whoever keeps places of these fields goes through them in such lines: a hook for each field would be no plainer.
+// Written out, as the envelope: whoever keeps the places of these fields needs such lines too, and a hook for each field would be no plainer.
 impl Form for TableData {
     ghost Value = { ATableData };
 

@@ -24,7 +24,7 @@ impl Form for Control {
 
 pub struct Loop;
 
-// As the envelope, whoever keeps places of a loop's fields goes through them in such lines: a hook for each field would be no plainer.
+// Written out, as the envelope: whoever keeps the places of a loop's fields needs such lines too, and a hook for each field would be no plainer.
 impl Form for Loop {
     ghost Value = { ALoop };
 
@@ -117,7 +117,7 @@ impl Form for Repeat {
 
 pub struct Table;
 
-// And so of a table.
+// Written out, as the envelope: whoever keeps the places of a table's fields needs such lines too, and a hook for each field would be no plainer.
 impl Form for Table {
     ghost Value = { ATable };
 

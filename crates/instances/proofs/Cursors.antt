@@ -26,7 +26,7 @@ use Rattle.instances.specs.declared.Next.{Next}
 use Rattle.std.specs.Prelude.{Option, Some, None}
 use Rattle.instances.specs.declared.rows.RowAhead.{RowAhead}
 use Rattle.instances.specs.declared.pieces.RunEnd.{RunEnd}
-use Rattle.instances.proofs.Options.{of_some, not_none, not_some}
+use Rattle.instances.proofs.Options.{of_some, not_none}
 use Rattle.instances.specs.Cursor.{passes, start_of, left, pieces_at, runs, coming_by, coming, Inside, Going, moved, rowless, Here, RunEnds, context_of, context_in, behind, Given, Came}
 use Rattle.instances.proofs.Runs.{left_moved}
 
@@ -106,7 +106,7 @@ module _ (cur : Cursor) (r : Next) where
 -- ---- the next instance
 
 over : (o : Outline) (n : List ℕ) (cur : Cursor) → coming o n cur ≡ [] → Came o n cur None
-over o n cur e = record { ended = λ z. e; given = λ a z. absurd (not_some a z) }
+over o n cur e = record { ended = λ z. e; given = λ a z. absurd (none-some a z) }
 
 one : (o : Outline) (n : List ℕ) (cur : Cursor) (r : Next) → Given o n cur r → Came o n cur (Some r)
 one o n cur r g = record { ended = λ z. absurd (not_none r z); given = of_some (Given o n cur) r g }

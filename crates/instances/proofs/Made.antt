@@ -1,13 +1,11 @@
 -- The cursors that are made: what each has to give.
-use Prim.Native.Nat.{ℕ, zero, suc, ◌+◌, ◌-◌, ◌≤◌, ◌<◌, max}
+use Prim.Native.Nat.{ℕ, suc, ◌+◌, ◌-◌, ◌≤◌, ◌<◌, max}
 use mathlib.Core.Path.{◌≡◌, refl, sym, ap, ap₂, ◌∙◌, subst}
 use mathlib.Core.Bool.{Bool, true, false}
 use mathlib.Core.List.{List, [], ◌∷◌, map}
-use native.Mathlib.Numerals.{add-one}
 use native.Mathlib.Omega.{arith}
-use native.Mathlib.Decide.{dec_lt}
 use Rattle.std.proofs.lemmas.Option.{same_Some, none-some}
-use lib.ListN.{length, take, drop}
+use lib.ListN.{take, drop}
 use lib.Seq.{take-nil, drop-nil}
 use Rattle.format.specs.Job.{Job}
 use Rattle.format.specs.Sections.{job_of}
@@ -27,11 +25,11 @@ use Rattle.nest.specs.Outline.{Outline, absent, envelope, rows, inside, groups, 
 use Rattle.nest.specs.Nest.{referred}
 use Rattle.nest.specs.OfJob.{outline_of, kind_in}
 use Rattle.nest.specs.Ready.{outline_at}
-use Rattle.nest.proofs.Bridge.{rows_is, table_count_is, table_parent_is, kind_is}
+use Rattle.nest.proofs.Bridge.{rows_is, table_count_is, table_parent_by, kind_is}
 use Rattle.nest.proofs.Reports.{found_row, found_none}
-use Rattle.nest.proofs.Placing.{rows_few, rows_room, before_all, table_length, table_next}
-use Rattle.nest.proofs.NestLaws.{rows_before, before_none, before_next}
-use Rattle.nest.proofs.Sizes.{rows_past}
+use Rattle.nest.proofs.Placing.{rows_few, rows_room}
+use Rattle.nest.proofs.NestLaws.{rows_before}
+use Rattle.nest.proofs.Stored.{row_there, before_is}
 use Rattle.nest.proofs.Hanging.{plain_in, plain_not}
 use Rattle.nest.proofs.Scan.{window, keep_alike, keep_none}
 use Rattle.walk.specs.declared.Context.{Context as Kept}
@@ -59,33 +57,19 @@ row_small j c u f p h s e q = let x = s.there u p.0 (found_row (c.row u) f p e q
 -- ---- what the rows of a table hang on
 
 module _ (j : Job) (t : ℕ) (c : Context) (x : Option ℕ) (e : x ≡ (A.table_of j t).parent) where
-  parent_at : (u : ℕ) → x ≡ Some u → table_parent (outline_of j) t ≡ Some u
-  parent_at u q = table_parent_is j t ∙ sym e ∙ q
-
   pub above_top : x ≡ None → Some 0 ≡ above_in (outline_of j) t c
   unfolding above_in
-  above_top q = let p : table_parent (outline_of j) t ≡ None = table_parent_is j t ∙ sym e ∙ q in rw p
+  above_top q = rw (table_parent_by j t x e None q)
 
   pub above_row : (u : ℕ) (f : Option RowId) (p : RowId) → x ≡ Some u → f ≡ found_by (c.row u) → f ≡ Some p → Some (p.0 + 1) ≡ above_in (outline_of j) t c
   unfolding above_in
-  above_row u f p q h z = rw (parent_at u q) (rw (found_row (c.row u) f p h z))
+  above_row u f p q h z = rw (table_parent_by j t x e (Some u) q) (rw (found_row (c.row u) f p h z))
 
   pub above_lost : (u : ℕ) (f : Option RowId) → x ≡ Some u → f ≡ found_by (c.row u) → f ≡ None → None ≡ above_in (outline_of j) t c
   unfolding above_in
-  above_lost u f q h z = rw (parent_at u q) (rw (found_none (c.row u) f h z))
+  above_lost u f q h z = rw (table_parent_by j t x e (Some u) q) (rw (found_none (c.row u) f h z))
 
 -- ---- the rows of a plain table in a context
-
-base_is : (j : Job) (t : ℕ) → T.rows_before j.tables t ≡ rows_before (outline_of j) t
-base_is j zero = before_all j.tables ∙ sym (before_none (outline_of j))
-base_is j (suc t) =
-    let a = table_next j t in
-    let b = table_length j t in
-    let c = before_next (outline_of j) t in
-    let d = rows_is j t in
-    let i = base_is j t in
-    let e : T.rows_before j.tables (t + 1) ≡ rows_before (outline_of j) (t + 1) = omega (arith, a, b, c, d, i) in
-    rw (← add-one) e
 
 pub rows_made : (j : Job) (kind : Left) (l : LoopId) (t : TableId) (c : Kept) (base count above : ℕ) → base ≡ T.rows_before j.tables t.0 → count ≡ (A.data_of j t.0).rows
     → rows_from kind l t c base count above ≡ rows_from kind l t c (T.rows_before j.tables t.0) (row_count (outline_of j) t.0) above
@@ -94,13 +78,6 @@ rows_made j kind l t c base count above e q = ap₂ (λ x y. rows_from kind l t 
 held_is : (o : Outline) (t : ℕ) (row : ℕ → Option ℕ) (r u p : ℕ) → table_parent o t ≡ Some u → row u ≡ Some p → held_by o t row r ≡ is (referred o t r u) p
 unfolding held_by
 held_is o t row r u p e q = rw e (rw q)
-
-in_data : (o : Outline) (t r : ℕ) → r < row_count o t → t < length o.row_counts
-in_data o t r h = go (dec_lt t (length o.row_counts))
-  where
-    go : Dec (t < length o.row_counts) → t < length o.row_counts
-    go (yes q) = q
-    go (no q) = absurd (omega (arith, rows_past o t (omega arith), h))
 
 held_never : (o : Outline) (t : ℕ) (c : Context) (r : ℕ) → None ≡ above_in o t c → held_by o t c.row r ≡ false
 unfolding above_in
@@ -139,8 +116,8 @@ module _ {b idx n : List ℕ} (N : Nested b idx n) (kind : Left) (l : LoopId) (t
             let a : above ≡ p + 1 = same_Some above (p + 1) (rw z at (rw q at e)) in
             let less : above - 1 ≡ p = omega (arith, a) in
             passes_held n _ above r (λ y. absurd (omega (arith, a, y)))
-            ∙ ap₂ (λ x y. held_at n x y r) (base_is (job_of b) t.0) less
-            ∙ lent_held N t.0 r u p (in_data o t.0 r h) h (plain_not o t.0 f) q
+            ∙ ap₂ (λ x y. held_at n x y r) (before_is (job_of b) t.0) less
+            ∙ lent_held N t.0 r u p (row_there o t.0 r h) h (plain_not o t.0 f) q
             ∙ sym (held_is o t.0 (context_by c).row r u p q z)
 
         up : (x : Option ℕ) → table_parent o t.0 ≡ x → passes n (T.rows_before (job_of b).tables t.0) above r ≡ held_by o t.0 (context_by c).row r

@@ -7,6 +7,3 @@ of_some P a x b e = let q : a ≡ b = cc in subst P q x
 
 pub not_none : {A : Type 0} (a : A) → ◌≡◌ {A = Option A} (Some a) None → ⊥
 not_none a e = cc
-
-pub not_some : {A : Type 0} (a : A) → ◌≡◌ {A = Option A} None (Some a) → ⊥
-not_some a e = cc

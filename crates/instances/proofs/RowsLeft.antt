@@ -12,8 +12,9 @@ use Rattle.nest.specs.Lists.{keep, up_to}
 use Rattle.nest.proofs.Scan.{keep_more, keep_same, window_no, window_skip, window_yes, window_past, window_end}
 use Rattle.walk.specs.Contexts.{start_by}
 use Rattle.instances.specs.declared.Cursor.{Cursor}
+use Rattle.std.proofs.lemmas.Option.{none-some}
 use Rattle.std.specs.Prelude.{Some, None}
-use Rattle.instances.proofs.Options.{of_some, not_none, not_some}
+use Rattle.instances.proofs.Options.{of_some, not_none}
 use Rattle.instances.specs.Cursor.{passes, start_of, end_of, left_at, left, Inside, Here, Ahead}
 
 -- ---- whether a row hangs where it is asked to
@@ -83,7 +84,7 @@ module _ (n : List ℕ) (cur : Cursor) (seen k : ℕ) (s : Looking n cur seen k)
       }
 
   none_ahead : left n cur ≡ [] → Ahead n cur None
-  none_ahead e = record { over = λ z. e; row = λ a z. absurd (not_some a z) }
+  none_ahead e = record { over = λ z. e; row = λ a z. absurd (none-some a z) }
 
   pub ahead_past : (end : ℕ) → end ≡ end_of cur → end ≤ seen → Ahead n cur None
   unfolding left_at

@@ -1,5 +1,5 @@
 // The runs of rows that a cursor has left: a run goes on while its rows are in the group of its first.
-ghost use Rattle.std.specs.Prelude.{◌≡◌, ◌+◌, ◌<◌};
+ghost use Rattle.std.specs.Prelude.{◌≡◌, ◌<◌};
 ghost use Rattle.instances.specs.declared.Left.TheVariants.{Runs};
 ghost use Rattle.instances.specs.Cursor.{Inside, Came, Going, RunEnds};
 ghost use Rattle.nest.specs.Job.{outline_by};

@@ -9,6 +9,8 @@ use native.Mathlib.Nat.{le_of_lt, min-eq_left, min-eq_right, add-zero, not-suc-l
 use lib.ListN.{length, get_or, set, take, drop, replicate, length-append, length-set, length-take, length-drop, length-replicate, drop_of_length-le}
 use borrow.Rule.Slice.PartMut.{put_mid, Post-is}
 use lib.Seq.{sets, sets-eq, set_out, length-sets, take-set-le, drop-set-lt, take_all, take-suc, take-take, take-nil, take-append-add, drop-nil}
+use Rattle.std.proofs.lemmas.List.{drop_min}
+use Rattle.std.proofs.Math.Nat.{min_comm}
 use lib.Dec.{leb}
 use borrow.Author.Tests.{leb-true, leb-false}
 use Rattle.lent.specs.Fit.{cap, more, stretch, placed, StoredAt, Stored}
@@ -105,6 +107,9 @@ placed_append k d at xs bs =
 pub stored_none : {k : ℕ} (d : List ℕ) (at : ℕ) → StoredAt k d at [] (more at 0) d
 stored_none {k} d at = record { counted = refl; stored = sym (placed_is k d at [] ∙ rw (drop-nil {A = ℕ} (k - at))) }
 
+pub unmoved : {k : ℕ} {d : List ℕ} {at n : ℕ} → at ≤ cap → n ≡ at → StoredAt k d at [] n d
+unmoved {k} {d} {at} h e = record { counted = omega arith; stored = (stored_none {k = k} d at).stored }
+
 -- a, and then b behind it
 pub stored_append : {k : ℕ} {d d₁ d₂ : List ℕ} {at p q : ℕ} (a b : List ℕ) → length d ≤ cap - k → StoredAt k d at a p d₁ → StoredAt k d₁ p b q d₂ → StoredAt k d at (a ++ b) q d₂
 stored_append {k} {d} {d₁} {d₂} {at} {p} {q} a b h s t = record {
@@ -162,18 +167,11 @@ stored_fit d at ys len {n} {k} en ek es eq = record {
   stored = es ∙ fits_take d at ys len k (rw (← en) ek);
 }
 
-drop_take : (m n : ℕ) (l : List ℕ) → drop m (take n l) ≡ take (n - m) (drop m l)
+pub drop_take : {A : Type 0} (m n : ℕ) (l : List A) → drop m (take n l) ≡ take (n - m) (drop m l)
 drop_take zero n l = rw (sub-zero n)
 drop_take (suc m) zero l = rw (zero-sub (suc m))
 drop_take (suc m) (suc n) [] = sym (take-nil (suc n - suc m))
 drop_take (suc m) (suc n) (x ∷ l) = let e : suc n - suc m ≡ n - m = omega arith in rw e (drop_take m n l)
-
-drop_min : (l : List ℕ) (m : ℕ) → drop (min (length l) m) l ≡ drop m l
-drop_min l m = go (leb (length l) m) refl
-  where
-    go : (t : Bool) → leb (length l) m ≡ t → drop (min (length l) m) l ≡ drop m l
-    go true e = let q : length l ≤ m = leb-true _ _ e in rw (min-eq_left q, drop_of_length-le l q, drop_of_length-le l (le_refl (length l)))
-    go false e = let q : m < length l = leb-false _ _ e in rw (min-eq_right (le_of_lt q))
 
 pub sized : (ys : List ℕ) (count n : ℕ) → n ≡ min count (10 - 0) → length ys ≡ 10 → n ≡ length (take count ys)
 sized ys count n e l = let q : length (take count ys) ≡ min count (length ys) = length-take count ys in omega arith
@@ -184,7 +182,7 @@ pub noted_fit : (p : ℕ) (d : List ℕ) (at : ℕ) (ys : List ℕ) (len : ℕ) 
     → StoredAt p d at (take len ys) q d'
 noted_fit p d at ys len {n} {before} {start} en eb es ed eq =
     let b : before ≡ min (length (take len ys)) (p - at) = rw (← en) eb in
-    let r : drop (p - at) (take len ys) ≡ stretch ys before (len - before) = sym (drop_min (take len ys) (p - at)) ∙ rw (← b) (drop_take before len ys) in
+    let r : drop (p - at) (take len ys) ≡ stretch ys before (len - before) = sym (drop_min (p - at) (take len ys)) ∙ rw (min_comm (p - at) (length (take len ys)), ← b) (drop_take before len ys) in
     record {
       counted = rw (← en) eq;
       stored = ed ∙ rw (← r, es) (sym (placed_is p d at (take len ys)));

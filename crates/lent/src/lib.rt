@@ -1,4 +1,5 @@
-// Storing into a lent list: everything is counted, and stored as far as it fits.
+// Storing into a lent list: everything is counted, and stored as far as it fits. A slice with a place, no `Vec`: there is no heap, the caller lends the
+// room, and what finds none is still counted.
 #![tactic(auto)]
 
 ghost use Rattle.std.specs.Prelude.{◌≡◌, [], ◌∷◌, ◌+◌, ◌-◌, ◌≤◌, ◌<◌, min, length, take, drop, replicate};

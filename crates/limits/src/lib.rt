@@ -1,7 +1,7 @@
 // 3: a limit is passed. Each function tells whether whatever stands at a place passes one.
 #![tactic(auto)]
 
-ghost use Rattle.std.specs.Prelude.{◌≡◌, length, ◌≤◌, ℕ, Option, Some, None, false};
+ghost use Rattle.std.specs.Prelude.{◌≡◌, ℕ, Option, Some, None, false};
 ghost use Rattle.codec.specs.Codec.{◌⊗◌, list_c, pick};
 ghost use Rattle.codec.specs.Forms.{bytes_c, num_c, opt_c};
 ghost use Rattle.codec.specs.Limits.{any_of};

@@ -13,7 +13,7 @@ ghost use Rattle.format.specs.Fields.{loop_children, spec_roots, spec_tables};
 ghost use Rattle.format.specs.Refusal.{disagrees, loops_in, misordered, misrooted, not_child, not_parent, ringed, tangled};
 ghost use Rattle.format.specs.Sections.{broken, job_of, plan_start, spoilt};
 ghost use Rattle.says.specs.Says.{Says, SaysBefore};
-ghost use Rattle.tree.specs.Parts.{on_loop, Placed, Noted};
+ghost use Rattle.tree.specs.Parts.{on_loop, Noted};
 ghost use Rattle.loops.specs.Parts.{repeats_in, again_in, misplaced, misplaced_in, repeats_below, tangled_spec};
 
 use codec::forms::{Items, Le};
@@ -203,8 +203,9 @@ fn note_names(s: Section, at: usize, names: &mut [usize]) -> usize
     k
 }
 
-// The same from the first 33 loops that it names, as `tree::repeats_at`. One function for both is no plainer: a closure would tell what an item
-// names, an Option, and be handed on to the note and, within two closures more, to the search.
+// Whether an order names a loop twice: first among the first 33 loops that it names, and by `order_searched` where there are more, as
+// `tree::repeats_at` does of a list. One function for both is no plainer: a closure would tell what an item names, an Option, and be handed on to the
+// note and, within two closures more, to the search.
 fn order_repeats(s: Section, at: usize) -> bool
     ensures { Says (list_c item_c) s.entry.bytes.now s.entry.end at repeats_in result }
 {

@@ -16,6 +16,7 @@ use Rattle.segment.specs.Parts.{Part, pick, rank, sorted}
 use Rattle.segment.specs.Places.{Match}
 use Rattle.segment.specs.ReadParts.{Due, is_at, text_of, PlainAt, ComposedAt, RisesFrom, Free, ReadAs}
 use Rattle.segment.proofs.Sorted.{sorted_all, sorted_text}
+use Rattle.segment.proofs.Rows.{rank_same}
 use Rattle.nest.specs.Lists.{All}
 use Rattle.nest.proofs.Alls.{all_weaker}
 use Rattle.emit.specs.Fold.{separators_of}
@@ -39,12 +40,6 @@ abbrev pub OwnText : List Part → List Part → Type 0
 OwnText xs = All (λ y. text_of xs y.element y.component ≡ y.text)
 
 -- ---- each part's text is the one planned for its place
-
-rank_same : (a b : Option ℕ) → rank a ≡ rank b → a ≡ b
-rank_same None None e = refl
-rank_same None (Some c) e = absurd (omega arith)
-rank_same (Some c) None e = absurd (omega arith)
-rank_same (Some c) (Some d) e = let z : c ≡ d = omega arith in ap {B = Option ℕ} Some z
 
 not_at : (x y : Part) → NotAt x y → is_at y.element y.component x ≡ false
 not_at x y n = go (eqb x.element y.element) refl (eqb (rank x.component) (rank y.component)) refl

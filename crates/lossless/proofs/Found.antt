@@ -31,7 +31,8 @@ use Rattle.lossless.specs.Due.{DueSegment, row_cell, row_cells, text_of_cell, ch
 use Rattle.lossless.specs.Separators.{holds_separator, segment_holds, separator_held, is_delimiter, delimiter_found}
 use Rattle.lossless.specs.NothingLost.{walked_out}
 use Rattle.std.proofs.Math.Bool.{or-false}
-use Rattle.lossless.proofs.Words.{some_append, none_each}
+use Rattle.nest.proofs.Scan.{some_append}
+use Rattle.lossless.proofs.Words.{none_each}
 use Rattle.lossless.proofs.Bytes.{step_counters_lem}
 use Rattle.lossless.proofs.Tours.{Closed, tour_so}
 

@@ -22,6 +22,7 @@ use Rattle.segment.proofs.FromParts as Parts
 use Rattle.segment.proofs.OneReading.{one_reading}
 use Rattle.nest.specs.Lists.{All, some_of, on}
 use Rattle.nest.specs.OfJob.{outline_of}
+use Rattle.nest.proofs.Bridge.{capacity_is}
 use Rattle.nest.proofs.Alls.{all_append, all_weaker}
 use Rattle.walk.specs.Tour.{Step, enters, stop, opener, row_segment, closer}
 use Rattle.emit.proofs.Plain.{Textual}
@@ -114,10 +115,6 @@ module _ (b : List ℕ) (p : Passed b) (C : CompletePlan (job_of b)) where
       subst (All (Fine (separators_of j))) (sym (ap dues_of (due_append j xs ys s) ∙ dues_append (steps_due j xs s.counter) (steps_due j ys t.counter)))
       (all_append _ (dues_of (steps_due j xs s.counter)) (dues_of (steps_due j ys t.counter)) (f s k.0) (g t k.1))
 
-  capacity_is : (t : ℕ) → (outline_of j).capacity t ≡ capacity_of j t
-  unfolding outline_of
-  capacity_is t = refl
-
   closed : Closed (outline_of j) Done
   unfolding steps_due step_due
   closed = record {
@@ -127,7 +124,7 @@ module _ (b : List ℕ) (p : Passed b) (C : CompletePlan (job_of b)) where
     stopped = λ l t r. one_done (stop l t r) (λ cs h. tt);
     opens = λ l. one_done (opener l) (opener_done l);
     row = λ l i t r h e q. one_done (row_segment l i t r) (λ cs. row_done l i t r (of_row_lem j l i t e) (id_clear j p.fit l i q));
-    filled = λ l i t rs h e q k s. subst AllFine (sym (chunk_steps_lem j l i t rs s)) (chunk_done l i t rs (of_repeat_lem j l i t e) (rw (← capacity_is t) k) (id_clear j p.fit l i q));
+    filled = λ l i t rs h e q k s. subst AllFine (sym (chunk_steps_lem j l i t rs s)) (chunk_done l i t rs (of_repeat_lem j l i t e) (rw (← capacity_is j t) k) (id_clear j p.fit l i q));
     closes = λ l o n m. one_done (closer l o n m) (closer_done l o n m);
   }
 

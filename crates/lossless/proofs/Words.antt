@@ -4,13 +4,9 @@ use mathlib.Core.Path.{◌≡◌, refl, sym, ap, ◌∙◌}
 use mathlib.Core.Logic.{◌⊎◌, inl, inr}
 use mathlib.Core.Bool.{Bool, true, false, ◌||◌, false≢true}
 use mathlib.Core.List.{List, [], ◌∷◌, ◌++◌}
-use Rattle.std.proofs.Math.Bool.{or_assoc}
 use lib.ListN.{get_or}
 use Rattle.nest.specs.Lists.{some_of, each, All}
-
-pub some_append : {A : Type 0} (p : A → Bool) (xs ys : List A) → some_of p (xs ++ ys) ≡ some_of p xs || some_of p ys
-some_append p [] ys = refl
-some_append p (x ∷ xs) ys = ap (λ b. p x || b) (some_append p xs ys) ∙ sym (or_assoc (p x) (some_of p xs) (some_of p ys))
+use Rattle.nest.proofs.Scan.{some_append}
 
 pub none_left : (a b : Bool) → a || b ≡ false → a ≡ false
 none_left false b h = refl

@@ -11,7 +11,7 @@ use Rattle.codec.specs.Codec.{pick, le_c, list_c}
 use Rattle.codec.specs.Forms.{opt_c, byte_c, bytes_c, long_c, wide_c}
 use Rattle.codec.specs.Skip.{skip, count_at, tag_at, Is, skip_le}
 use Rattle.codec.specs.Field.{is_list, is_in, is_none, is_some, count_list}
-use Rattle.codec.specs.Ways.{tag_in, tag_case}
+use Rattle.codec.specs.Ways.{tag_in, tag_case, tag_read, tag_past, tag_within}
 use Rattle.codec.specs.Limits.{any, any_of}
 use Rattle.format.specs.Words.{member_of, repeats, all_of, between}
 use Rattle.format.specs.Fields.{values_tag, is_int64, is_decimal}
@@ -110,35 +110,26 @@ two_first r x y p q ts h i j = h ∙ rw (i, j) (go p q)
 
 -- ---- scales
 module _ (b : List ℕ) (e at t : ℕ) (h : t ≡ tag_at b at e) where
-  there : (k : ℕ) → t ≡ k → k < 256 → get_or b at 0 ≡ k
-  there k i l = sym (tag_in b at e (tag_case b at e k (sym h ∙ i) l)) ∙ sym h ∙ i
-
-  behind : (k : ℕ) → t ≡ k → k < 256 → (p : ℕ) → p ≡ skip (le_c 1) b at e → p ≡ at + 1
-  behind k i l p j = let m : at < e = tag_case b at e k (sym h ∙ i) l in j ∙ skip_le 1 b at e (omega arith)
-
-  marks : at + 1 ≤ e → get_or b at 0 ≡ t
-  marks l = sym (h ∙ tag_in b at e (omega arith))
-
   pub scale_int : (p q n : ℕ) → t ≡ 1 → p ≡ skip (le_c 1) b at e → q ≡ skip (list_c long_c) b p e → n ≡ get_or b q 0 → (v : Values) → Is values_c b e at v → ltb 38 n ≡ ltb 38 (scale v)
   unfolding scale
-  scale_int p q n i j k m (binary x y) u = absurd (omega (arith, values_tag b e at (binary x y) u, there 1 i (omega arith)))
-  scale_int p q n i j k m (int64 x y) u = let z : n ≡ y = byte_is b e n q _ y m (k ∙ rw (behind 1 i (omega arith) p j)) (is_int64 b e at x y u).1 in rw z
-  scale_int p q n i j k m (decimal x y) u = absurd (omega (arith, values_tag b e at (decimal x y) u, there 1 i (omega arith)))
-  scale_int p q n i j k m (date32 x) u = absurd (omega (arith, values_tag b e at (date32 x) u, there 1 i (omega arith)))
-  scale_int p q n i j k m (time32 x) u = absurd (omega (arith, values_tag b e at (time32 x) u, there 1 i (omega arith)))
+  scale_int p q n i j k m (binary x y) u = absurd (omega (arith, values_tag b e at (binary x y) u, tag_read b at e t h 1 i (omega arith)))
+  scale_int p q n i j k m (int64 x y) u = let z : n ≡ y = byte_is b e n q _ y m (k ∙ rw (tag_past b at e t h 1 i (omega arith) p j)) (is_int64 b e at x y u).1 in rw z
+  scale_int p q n i j k m (decimal x y) u = absurd (omega (arith, values_tag b e at (decimal x y) u, tag_read b at e t h 1 i (omega arith)))
+  scale_int p q n i j k m (date32 x) u = absurd (omega (arith, values_tag b e at (date32 x) u, tag_read b at e t h 1 i (omega arith)))
+  scale_int p q n i j k m (time32 x) u = absurd (omega (arith, values_tag b e at (time32 x) u, tag_read b at e t h 1 i (omega arith)))
 
   pub scale_wide : (p q n : ℕ) → t ≡ 2 → p ≡ skip (le_c 1) b at e → q ≡ skip (list_c wide_c) b p e → n ≡ get_or b q 0 → (v : Values) → Is values_c b e at v → ltb 38 n ≡ ltb 38 (scale v)
   unfolding scale
-  scale_wide p q n i j k m (binary x y) u = absurd (omega (arith, values_tag b e at (binary x y) u, there 2 i (omega arith)))
-  scale_wide p q n i j k m (int64 x y) u = absurd (omega (arith, values_tag b e at (int64 x y) u, there 2 i (omega arith)))
-  scale_wide p q n i j k m (decimal x y) u = let z : n ≡ y = byte_is b e n q _ y m (k ∙ rw (behind 2 i (omega arith) p j)) (is_decimal b e at x y u).1 in rw z
-  scale_wide p q n i j k m (date32 x) u = absurd (omega (arith, values_tag b e at (date32 x) u, there 2 i (omega arith)))
-  scale_wide p q n i j k m (time32 x) u = absurd (omega (arith, values_tag b e at (time32 x) u, there 2 i (omega arith)))
+  scale_wide p q n i j k m (binary x y) u = absurd (omega (arith, values_tag b e at (binary x y) u, tag_read b at e t h 2 i (omega arith)))
+  scale_wide p q n i j k m (int64 x y) u = absurd (omega (arith, values_tag b e at (int64 x y) u, tag_read b at e t h 2 i (omega arith)))
+  scale_wide p q n i j k m (decimal x y) u = let z : n ≡ y = byte_is b e n q _ y m (k ∙ rw (tag_past b at e t h 2 i (omega arith) p j)) (is_decimal b e at x y u).1 in rw z
+  scale_wide p q n i j k m (date32 x) u = absurd (omega (arith, values_tag b e at (date32 x) u, tag_read b at e t h 2 i (omega arith)))
+  scale_wide p q n i j k m (time32 x) u = absurd (omega (arith, values_tag b e at (time32 x) u, tag_read b at e t h 2 i (omega arith)))
 
   pub scale_none : (t ≡ 1 → ⊥) → (t ≡ 2 → ⊥) → (v : Values) → Is values_c b e at v → false ≡ ltb 38 (scale v)
   unfolding scale
   scale_none i j (binary x y) u = refl
-  scale_none i j (int64 x y) u = absurd (i (sym (marks (is_in (list_c long_c) b e _ _ (is_int64 b e at x y u).0)) ∙ values_tag b e at (int64 x y) u))
-  scale_none i j (decimal x y) u = absurd (j (sym (marks (is_in (list_c wide_c) b e _ _ (is_decimal b e at x y u).0)) ∙ values_tag b e at (decimal x y) u))
+  scale_none i j (int64 x y) u = absurd (i (sym (tag_within b at e t h (is_in (list_c long_c) b e _ _ (is_int64 b e at x y u).0)) ∙ values_tag b e at (int64 x y) u))
+  scale_none i j (decimal x y) u = absurd (j (sym (tag_within b at e t h (is_in (list_c wide_c) b e _ _ (is_decimal b e at x y u).0)) ∙ values_tag b e at (decimal x y) u))
   scale_none i j (date32 x) u = refl
   scale_none i j (time32 x) u = refl

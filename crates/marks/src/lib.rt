@@ -1,7 +1,7 @@
 // 5: separators, identifiers, scales and texts. Each function tells whether whatever stands at a place is unfit.
 #![tactic(auto)]
 
-ghost use Rattle.std.specs.Prelude.{◌≡◌, length, ◌≤◌, [], ◌∷◌, false};
+ghost use Rattle.std.specs.Prelude.{◌≡◌, false};
 ghost use Rattle.codec.specs.Codec.{◌⊗◌, list_c};
 ghost use Rattle.codec.specs.Forms.{byte_c, bytes_c, num_c, opt_c};
 ghost use Rattle.codec.specs.Skip.{Is, skip};

@@ -1,7 +1,8 @@
 -- What the accessors of a job say, in terms of its outline.
 use Prim.Native.Nat.{ℕ, zero, suc}
-use mathlib.Core.Path.{◌≡◌, refl, ap, ◌∙◌}
+use mathlib.Core.Path.{◌≡◌, refl, sym, ap, ◌∙◌}
 use mathlib.Core.List.{List, [], ◌∷◌, map}
+use Rattle.std.specs.Prelude.{Option}
 use lib.ListN.{length, get_or, length-map}
 use Rattle.format.specs.Spec as S
 use Rattle.format.specs.Plan as P
@@ -10,8 +11,8 @@ use Rattle.format.specs.Job.{Job}
 use Rattle.format.specs.Ask as A
 use Rattle.plan.specs.Answers.{no_item}
 use Rattle.column.specs.Cell.{key_of, reference_of}
-use Rattle.nest.specs.Outline.{Loop, Table, Plan, Item, segment, no_loop, no_segment, loop_of, table_of, plan_of, parent_of, kind_of, order_of, segment_of, planned, table_parent, row_count}
-use Rattle.nest.specs.OfJob.{outline_of, is_there, loop_in, table_in, plan_in, planned_in, kind_in, item_in}
+use Rattle.nest.specs.Outline.{Loop, Table, Plan, Planned, Item, segment, no_loop, no_segment, loop_of, table_of, plan_of, parent_of, kind_of, order_of, segment_of, planned, table_parent, row_count}
+use Rattle.nest.specs.OfJob.{outline_of, is_there, loop_in, table_in, plan_in, planned_in, kind_in, source_in, item_in}
 
 pub get_d_map : {A B : Type 0} (f : A → B) (xs : List A) (i : ℕ) (d : A) → get_or (map f xs) i (f d) ≡ f (get_or xs i d)
 get_d_map f [] i d = refl
@@ -26,6 +27,14 @@ module _ (j : Job) where
   pub reference_is : (t u r : ℕ) → (outline_of j).reference t u r ≡ reference_of (A.data_of j t) u r
   unfolding outline_of
   reference_is t u r = refl
+
+  pub capacity_is : (t : ℕ) → (outline_of j).capacity t ≡ A.capacity_of j t
+  unfolding outline_of
+  capacity_is t = refl
+
+  pub roots_is : (outline_of j).roots ≡ j.spec.roots
+  unfolding outline_of
+  roots_is = refl
 
   pub rows_is : (t : ℕ) → row_count (outline_of j) t ≡ (A.data_of j t).rows
   unfolding outline_of row_count A.data_of
@@ -93,6 +102,9 @@ module _ (j : Job) where
   unfolding segment_of A.planned_of
   segment_is l i = ap (λ (v : Plan). get_or v.segments i no_segment) (plan_is l) ∙ get_d_map planned_in (A.plan_of j l).segments i P.no_segment_plan
 
+  pub source_is : (l i : ℕ) → (segment_of (outline_of j) l i).source ≡ source_in (A.planned_of j l i).source
+  source_is l i = ap (λ (v : Planned). v.source) (segment_is l i)
+
   pub order_count_is : length (outline_of j).order ≡ length j.layout.order
   unfolding outline_of
   order_count_is = length-map j.layout.order (map item_in)
@@ -111,6 +123,10 @@ module _ (j : Job) where
   pub table_parent_is : (t : ℕ) → table_parent (outline_of j) t ≡ (A.table_of j t).parent
   unfolding table_parent
   table_parent_is t = ap (λ (v : Table). v.parent) (table_is t)
+
+  -- the parent, as its accessor answers
+  pub table_parent_by : (t : ℕ) (x : Option ℕ) → x ≡ (A.table_of j t).parent → (y : Option ℕ) → x ≡ y → table_parent (outline_of j) t ≡ y
+  table_parent_by t x e y q = table_parent_is t ∙ sym e ∙ q
 
   pub ancestors_is : (t : ℕ) → (table_of (outline_of j) t).ancestors ≡ (A.table_of j t).ancestors
   ancestors_is t = ap (λ (v : Table). v.ancestors) (table_is t)

@@ -22,3 +22,4 @@ pub mod Lacking
 pub mod Lining
 pub mod Rising
 pub mod RisingRows
+pub mod Small

@@ -23,7 +23,7 @@ use Rattle.std.specs.Prelude.{Option, Some, None, Result, Ok, Err}
 use Rattle.nest.specs.declared.hang.Claimed.{Claimed}
 use Rattle.nest.specs.declared.hang.Place.{Place}
 use Rattle.nest.specs.Lists.{each, from, up_to}
-use Rattle.nest.specs.Outline.{table_of, table_parent, row_count, repeated}
+use Rattle.nest.specs.Outline.{table_of, row_count, repeated}
 use Rattle.nest.specs.Nest.{Claim, hook_on, first_row, referred, anchors, claim_in, hook, nest_record, table_array}
 use Rattle.nest.specs.Found.{found_by}
 use Rattle.nest.specs.Claims.{claim_by, Hung}
@@ -31,7 +31,7 @@ use Rattle.nest.specs.OfJob.{outline_of}
 use Rattle.nest.proofs.Scan.{each_next, each_end}
 use Rattle.nest.proofs.NestLaws.{hook_claim, hook_none, hangs_hooked, hangs_unhooked, hangs_top, hangs_referred, hangs_lost, record-hooked, record-unhooked, record-top, record-referred, record-lost, record-three, table_array_all}
 use Rattle.nest.proofs.Hanging.{first_exists, referred_exists}
-use Rattle.nest.proofs.Bridge.{rows_is, table_is, table_count_is, table_parent_is}
+use Rattle.nest.proofs.Bridge.{rows_is, table_is, table_count_is, table_parent_by}
 use Rattle.nest.proofs.Reports.{found_row, found_none}
 
 -- ---- a table of repeat segments
@@ -69,27 +69,26 @@ referred_small j t r u f p h e q = let x = referred_exists (outline_of j) t r u 
 
 -- ---- where a row of another table hangs
 module _ (j : Job) (t r : ℕ) (plain : repeated (outline_of j) t ≡ false) (x : Option ℕ) (e : x ≡ (A.table_of j t).parent) where
-  parent_at : (u : ℕ) → x ≡ Some u → table_parent (outline_of j) t ≡ Some u
-  parent_at u q = table_parent_is j t ∙ sym e ∙ q
-
   pub hung_top : x ≡ None → Hung (outline_of j) t r (record { above = 0; l = record { 0 = 0 }; table = record { 0 = 0 } })
   hung_top q =
-      let p : table_parent (outline_of j) t ≡ None = table_parent_is j t ∙ sym e ∙ q in
+      let p = table_parent_by j t x e None q in
       record { numbers = sym (record-top (outline_of j) t r plain p); row = sym (hangs_top (outline_of j) t r plain p) }
 
   module _ (u : ℕ) (q : x ≡ Some u) (f : Option RowId) (g : f ≡ found_by (referred (outline_of j) t r u)) where
     pub hung_parent : (p : RowId) → f ≡ Some p → Hung (outline_of j) t r (record { above = p.0 + 1; l = record { 0 = 0 }; table = record { 0 = u } })
     hung_parent p z =
         let y = found_row _ f p g z in
+        let up = table_parent_by j t x e (Some u) q in
         record {
-          numbers = rw add-one (sym (record-referred (outline_of j) t r u p.0 plain (parent_at u q) y));
-          row = rw add-one (sym (hangs_referred (outline_of j) t r u p.0 plain (parent_at u q) y));
+          numbers = rw add-one (sym (record-referred (outline_of j) t r u p.0 plain up y));
+          row = rw add-one (sym (hangs_referred (outline_of j) t r u p.0 plain up y));
         }
 
     pub hung_lost : f ≡ None → Hung (outline_of j) t r (record { above = 0; l = record { 0 = 0 }; table = record { 0 = 0 } })
     hung_lost z =
         let y = found_none _ f g z in
-        record { numbers = sym (record-lost (outline_of j) t r u plain (parent_at u q) y); row = sym (hangs_lost (outline_of j) t r u plain (parent_at u q) y) }
+        let up = table_parent_by j t x e (Some u) q in
+        record { numbers = sym (record-lost (outline_of j) t r u plain up y); row = sym (hangs_lost (outline_of j) t r u plain up y) }
 
 -- ---- where a repeat row hangs
 abbrev claim_is : Result Claimed TableId → Option Claim
@@ -171,7 +170,7 @@ rows_next [] (suc t) = refl
 rows_next (x ∷ ts) zero = omega arith
 rows_next (x ∷ ts) (suc t) = let i = rows_next ts t in omega (arith, i)
 
-length_from : (n a : ℕ) → length (from a n) ≡ n
+pub length_from : (n a : ℕ) → length (from a n) ≡ n
 length_from zero a = refl
 length_from (suc n) a = ap suc (length_from n (suc a))
 

@@ -6,6 +6,7 @@ use mathlib.Core.List.{List, [], ◌∷◌, ◌++◌, map, append_assoc}
 use native.Mathlib.Numerals.{add-one}
 use native.Mathlib.Omega.{arith}
 use Rattle.std.specs.Prelude.{None, Some}
+use Rattle.std.proofs.Math.Bool.{or_assoc}
 use lib.ListN.{length, take, drop, get_or, drop_of_length-le}
 use lib.Seq.{drop-cons, take-nil, drop-nil}
 use Rattle.nest.specs.Lists.{each, keep, some_of, first, from, up_to, sum, part}
@@ -187,6 +188,10 @@ some_not_at p xs i d h e = rw (drop_next xs i d h) (rw e)
 
 pub some_past : {A : Type 0} (p : A → Bool) (xs : List A) (i : ℕ) → length xs ≤ i → some_of p (drop i xs) ≡ false
 some_past p xs i h = rw (drop_of_length-le xs h)
+
+pub some_append : {A : Type 0} (p : A → Bool) (xs ys : List A) → some_of p (xs ++ ys) ≡ some_of p xs || some_of p ys
+some_append p [] ys = refl
+some_append p (x ∷ xs) ys = ap (λ b. p x || b) (some_append p xs ys) ∙ sym (or_assoc (p x) (some_of p xs) (some_of p ys))
 
 some_shift : (p : ℕ → Bool) (n a : ℕ) → some_of p (from (suc a) n) ≡ some_of (λ i. p (suc i)) (from a n)
 some_shift p zero a = refl

@@ -30,8 +30,7 @@ pub struct AnchorLoop {
 }
 
 // The anchors of a repeat table, n of them in the order in which they are tried. There is no heap, so they stand in an array of fixed length with their number.
-// No ghost field says whose they are (`Lined`): that is a definition over this whole struct, which a field of it can't name; a struct round both would hold
-// this one, and be no plainer.
+// Whose they are (`Lined`) is asked: a struct with job and table would be no plainer, since its users take an Option of it, and need both where there is none.
 #[derive(Clone, Copy)]
 pub struct Line {
     pub anchors: [AnchorLoop; 8],
@@ -82,8 +81,9 @@ pub fn row_table(kind: Instances) -> Option<u32>
     }
 }
 
-// How many loops stand above each loop. That they are those of this job (`Deep`) the functions below ask: an array holds no ghost field,
-// and a struct for that would hold the job and the array, which the functions take anyway, and be no plainer.
+// How many loops stand above each loop; an array, since there is no heap. That they are those of this job (`Deep`) the functions below ask. One struct of a
+// job with its keys and its depths would ask for both where one is needed now, and so ask more; of two structs each would hold the job, and the functions
+// that take both would have to ask that it is one job: no plainer.
 pub fn all_depths(job: Job) -> [u8; 32]
     ensures { Deep (outline_by job.entry) result }
 {

@@ -76,8 +76,8 @@ pub fn keys_of(job: Job, u: TableId) -> Keys
     Keys::Any
 }
 
-// What is known of the keys of all tables of data. That they are those of this job (`Keyed`) its users ask: an array holds no ghost field,
-// and a struct for that would hold the job and the array, which its users take anyway, and be no plainer.
+// What is known of the keys of all tables of data; an array, since there is no heap. That they are those of this job (`Keyed`) its users ask, and no struct
+// says it, for the reason at `hang::all_depths`.
 pub fn all_keys(job: Job) -> [Keys; 16]
     ensures { Keyed (outline_by job.entry) result }
 {

@@ -1,4 +1,6 @@
-// Searches through numbers, by a test.
+// Searches through numbers, by a test. Written as loops, no std's `any` and `find` over a range: what these say goes by the steps of an iterator, and every
+// proof above would have to tell the steps as numbers; no plainer. Where a search below calls itself, or its numbers come from the job one by one, it
+// has a loop of its own.
 ghost use Rattle.std.specs.Prelude.{ℕ, ◌≡◌, ◌≤◌, ◌<◌, ◌^◌, Bool};
 ghost use Rattle.nest.specs.Lists.{keep, first, some_of, up_to};
 ghost use Rattle.nest.specs.Found.{found_by};

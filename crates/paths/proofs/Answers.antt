@@ -20,15 +20,15 @@ use Rattle.plan.specs.Index.{PlanIndexed}
 use Rattle.nest.specs.Lists.{on, is, sum, times, All}
 use Rattle.nest.specs.Outline.{Outline, Table, Planned, Kind, row_table, loop_of, table_of, kind_of, order_of, segment_of, table_parent, plain, repeated, item_loops, item_segments}
 use Rattle.nest.specs.OfJob.{outline_of, kind_in, source_in}
-use Rattle.nest.proofs.Bridge.{table_is, kind_is, parent_is, planned_is, segment_is, order_is, occurrences_is, table_parent_is, loops_is}
-use Rattle.walk.specs.Check.{each_of, how_many, rows_of, repeat_table, planned, if_there, past, fits, all_pass}
+use Rattle.nest.proofs.Bridge.{table_is, kind_is, parent_is, planned_is, segment_is, source_is, order_is, occurrences_is, table_parent_by, loops_is}
+use Rattle.walk.specs.Check.{each_of, rows_of, repeat_table, planned, if_there, past, fits, all_pass}
 use Rattle.walk.proofs.Tests.{tests_all, all_tests, that_is_all, ◌⨾◌}
 use Rattle.complete.specs.Decides.{Decides}
-use Rattle.paths.specs.Tests.{same_item, segment_below, order_right, only_planned, row_fits, row_loops, repeats_in, planned_once, anchors_in}
+use Rattle.paths.specs.Tests.{same_item, segment_below, order_right, only_planned, row_fits, repeats_in, planned_once, anchors_in}
 use Rattle.paths.specs.Entries.{Entries4}
 use Rattle.paths.specs.Upward.{outcome}
 use Rattle.paths.specs.declared.up.Up.{Up}
-use Rattle.paths.specs.declared.up.Up.TheVariants.{No, Top, On}
+use Rattle.paths.specs.declared.up.Up.TheVariants.{No, Top}
 use Rattle.paths.proofs.Tests.{every, each_every, loop_times, segment_times, segments_below}
 
 -- ---- tests put together
@@ -58,27 +58,24 @@ pub kind_in_lem : (j : Job) (l : ℕ) (k : P.Instances) → k ≡ (A.plan_of j l
 kind_in_lem j l k e = ap kind_in e ∙ sym (kind_is j l)
 
 pub source_in_lem : (j : Job) (l i : ℕ) (s : P.Source) → s ≡ (A.planned_of j l i).source → source_in s ≡ (segment_of (outline_of j) l i).source
-source_in_lem j l i s e = ap source_in e ∙ ap (λ (v : Planned). v.source) (sym (segment_is j l i))
+source_in_lem j l i s e = ap source_in e ∙ sym (source_is j l i)
 
 pub planned_in_lem : (j : Job) (l n : ℕ) → n ≡ length (A.plan_of j l).segments → n ≡ planned (outline_of j) l
 planned_in_lem j l n e = e ∙ sym (planned_is j l)
 
 -- the table's parent, as its accessor answers
 module _ (j : Job) (t : ℕ) (v : Option ℕ) (e : v ≡ (A.table_of j t).parent) where
-  parent_by : (o : Option ℕ) → v ≡ o → table_parent (outline_of j) t ≡ o
-  parent_by o q = table_parent_is j t ∙ sym e ∙ q
-
   pub parent_there : (u : ℕ) (x : Bool) → v ≡ Some u → x ≡ plain (outline_of j) u → x ≡ if_there (table_parent (outline_of j) t) (plain (outline_of j))
-  parent_there u x q p = rw (parent_by (Some u) q) p
+  parent_there u x q p = rw (table_parent_by j t v e (Some u) q) p
 
   pub parent_none : v ≡ None → true ≡ if_there (table_parent (outline_of j) t) (plain (outline_of j))
-  parent_none q = rw (parent_by None q)
+  parent_none q = rw (table_parent_by j t v e None q)
 
   pub top_no : (u : ℕ) → v ≡ Some u → (h : ℕ) → on (table_parent (outline_of j) t) (λ w. false) true ≡ false
-  top_no u q h = rw (parent_by (Some u) q)
+  top_no u q h = rw (table_parent_by j t v e (Some u) q)
 
   pub top_yes : v ≡ None → (h : ℕ) → on (table_parent (outline_of j) t) (λ w. false) true ≡ true
-  top_yes q h = rw (parent_by None q)
+  top_yes q h = rw (table_parent_by j t v e None q)
 
 -- ---- kinds and sources
 
@@ -90,14 +87,6 @@ rows_at j t l = rows_of t (kind_of j l)
 
 abbrev pub repeats_at : Outline → ℕ → ℕ → ℕ → Bool
 repeats_at j t l i = is (repeat_table (segment_of j l i).source) t
-
-pub rows_done : (j : Outline) (t : ℕ) → how_many (length j.loops) (rows_at j t) ≡ row_loops j t
-unfolding row_loops
-rows_done j t = refl
-
-pub repeats_done : (j : Outline) (t l : ℕ) → how_many (planned j l) (repeats_at j t l) ≡ repeats_in j t l
-unfolding repeats_in
-repeats_done j t l = refl
 
 -- ---- loops that a table lists
 
@@ -132,9 +121,6 @@ module _ (j : Job) (l w : ℕ) (o : Option ℕ) (e : o ≡ (A.loop_of j l).paren
   unfolding fits
   up_past p r q f h = rw (parent_is j l ∙ sym e ∙ q) (f h)
 
-pub up_start : (j : Outline) (n l w m : ℕ) → m ≡ n → fits j n l w ≡ fits j (m - 0) l w
-up_start j n l w m e = let z : n ≡ m - 0 = omega (arith, e) in ap (λ k. fits j k l w) z
-
 module _ (j : Outline) (n l w c i at last : ℕ) (d : fits j n l w ≡ fits j (c - i) at last) where
   module _ (s : Up) (h : i < c) (f : (k : ℕ) → fits j (suc k) at last ≡ outcome j k s) where
     stepped : fits j n l w ≡ outcome j (c - (i + 1)) s
@@ -143,9 +129,6 @@ module _ (j : Outline) (n l w c i at last : ℕ) (d : fits j n l w ≡ fits j (c
         go : (m : ℕ) → 0 < m → fits j m at last ≡ outcome j (m - 1) s
         go zero h = absurd (omega arith)
         go (suc m) h = rw sub-one (f m)
-
-    pub up_on : (p v : ℕ) → s ≡ On p v → fits j n l w ≡ fits j (c - (i + 1)) p v
-    up_on p v e = stepped ∙ ap (outcome j (c - (i + 1))) e
 
     pub up_yes : s ≡ Top → true ≡ fits j n l w
     up_yes e = sym (stepped ∙ ap (outcome j (c - (i + 1))) e)

@@ -1,11 +1,12 @@
 -- Numbers of loops that a job which passed names are below 32.
 use Prim.Native.Nat.{ℕ, ◌<◌}
-use mathlib.Core.Path.{◌≡◌, refl, ap}
+use mathlib.Core.Path.{◌≡◌, refl, sym, ap, ◌∙◌}
 use mathlib.Core.Bool.{Bool, true, false}
 use mathlib.Core.List.{List}
 use native.Mathlib.Omega.{arith}
 use native.Mathlib.Decide.{dec_lt}
 use Rattle.std.specs.Prelude.{None, Some}
+use Rattle.std.proofs.lemmas.Option.{none-some}
 use lib.ListN.{length, get_or, get_or-eq_default}
 use lib.Dec.{ltb}
 use borrow.Author.Tests.{ltb-true, ltb-false, leb-false}
@@ -29,7 +30,7 @@ parent_small b w l p e = go (ltb l (length (job_of b).spec.loops)) refl e
         omega (arith, z, (few (job_of b) w.limits).loops)
     go false q i =
         let z : (get_or (job_of b).spec.loops l S.no_loop).parent ≡ None = ap (λ (s : S.Loop). s.parent) (get_or-eq_default (job_of b).spec.loops S.no_loop {n = l} (ltb-false _ _ q)) in
-        absurd (let y : ◌≡◌ {A = ℕ} 0 1 = cc in omega arith)
+        absurd (none-some p (sym z ∙ i))
 
 pub table_loop_small : (b : List ℕ) → Passed b → (t k m : ℕ) → m ≡ get_or (A.table_of (job_of b) t).loops k 0 → m < 32
 unfolding A.table_of tangled outside_table outside

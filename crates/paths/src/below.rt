@@ -1,4 +1,5 @@
-// Tests of the numbers below n.
+// Tests of the numbers below n. Loops of their own, for the reason in `nest::seek`; `each` is no `!some`: its definition (`each_below`) joins by `&&`,
+// and a proof would have to turn it round.
 ghost use Rattle.std.specs.Prelude.{ℕ, ◌≡◌, ◌≤◌, ◌<◌, Bool};
 ghost use Rattle.nest.specs.Seek.{AnswersAs};
 ghost use Rattle.walk.specs.Check.{each_below, how_many};

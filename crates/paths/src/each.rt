@@ -1,7 +1,7 @@
 // The tests of each table, of each loop and of each planned segment, condition by condition.
 ghost use Rattle.std.specs.Prelude.{◌≡◌, ◌<◌};
 ghost use Rattle.walk.specs.Check.{each_below, planned};
-ghost use Rattle.paths.specs.Tests.{each_table, each_loop, one_row_loop, names_plain, parent_plain, segment_ordered, loop_ordered, row_fits, repeat_planned, segment_anchored, loop_anchored};
+ghost use Rattle.paths.specs.Tests.{each_table, each_loop, one_row_loop, names_plain, parent_plain, segment_ordered, loop_ordered, row_fits, repeat_planned, loop_anchored};
 ghost use Rattle.nest.specs.Job.{outline_by};
 
 use crate::below::each;

@@ -1,5 +1,5 @@
 // Orders (condition 2).
-ghost use Rattle.std.specs.Prelude.{◌≡◌, ◌≤◌, ◌<◌, eqb, ltb, length};
+ghost use Rattle.std.specs.Prelude.{◌≡◌, ◌<◌, eqb, ltb, length};
 ghost use Rattle.format.specs.Ask.{order_of};
 ghost use Rattle.plan.specs.Answers.{item_of};
 ghost use Rattle.nest.specs.Lists.{sum, times};

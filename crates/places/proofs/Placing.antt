@@ -15,6 +15,7 @@ use Rattle.format.specs.Plan.{Source, from_envelope, from_row, from_repeat, Valu
 use Rattle.format.specs.Job.{Job}
 use Rattle.format.specs.Ask.{capacity_of}
 use Rattle.segment.specs.Parts.{rank}
+use Rattle.segment.proofs.Rows.{rank_same}
 use Rattle.nest.specs.Lists.{All}
 use Rattle.complete.specs.Complete.{Pairs, IfThere, Segments, PlanStarts, reach, step_in, element_of, InFront, PlacesApart, OwnApart, Unmixed, Placed, SegmentFits}
 use Rattle.codes.specs.Refutes.{Refutes}
@@ -48,12 +49,6 @@ reach_one room h (from_group c) = h
 reach_one room h (from_code c) = omega arith
 
 -- ---- plain and component
-rank_same : (o p : Option ℕ) → rank o ≡ rank p → o ≡ p
-rank_same None None h = refl
-rank_same None (Some c) h = absurd (omega arith)
-rank_same (Some c) None h = absurd (omega arith)
-rank_same (Some c) (Some d) h = let z : c ≡ d = omega arith in rw z
-
 rank_plain : (o : Option ℕ) → rank o ≡ 0 → o ≡ None
 rank_plain None h = refl
 rank_plain (Some c) h = absurd (omega arith)

@@ -16,7 +16,7 @@ use Rattle.format.specs.Fields.{source_tag, is_from_row, is_from_repeat, value_t
 use Rattle.complete.specs.Complete.{step_in}
 use Rattle.says.specs.Says.{Says, SaysRest, SaysBefore, any_before}
 use Rattle.says.proofs.Walk.{number_is, both, only}
-use Rattle.codes.proofs.Reading.{there, behind, within}
+use Rattle.codec.specs.Ways.{tag_read, tag_past, tag_within}
 use Rattle.places.specs.declared.spots.Spot.{Spot}
 use Rattle.places.specs.declared.spots.Filled.{Filled}
 use Rattle.places.specs.declared.spots.Filled.TheVariants.{Row}
@@ -24,27 +24,27 @@ use Rattle.places.specs.Spots.{wrong_spot, wrong_spot_of, clash, clash_of, fails
 
 module _ (b : List ℕ) (e at t room : ℕ) (h : t ≡ tag_at b at e) where
   pub reach_group : t ≡ 1 → Says value_c b e at (reach_of room) room
-  reach_group i (from_column x) u = absurd (omega (arith, value_tag b e at (from_column x) u, there b e at t h 1 i (omega arith)))
+  reach_group i (from_column x) u = absurd (omega (arith, value_tag b e at (from_column x) u, tag_read b at e t h 1 i (omega arith)))
   reach_group i (from_group x) u = refl
-  reach_group i (from_code x) u = absurd (omega (arith, value_tag b e at (from_code x) u, there b e at t h 1 i (omega arith)))
+  reach_group i (from_code x) u = absurd (omega (arith, value_tag b e at (from_code x) u, tag_read b at e t h 1 i (omega arith)))
 
   pub reach_one : (t ≡ 1 → ⊥) → Says value_c b e at (reach_of room) 1
   reach_one i (from_column x) u = refl
-  reach_one i (from_group x) u = absurd (i (sym (within b e at t h (is_in num_c b e _ _ (is_from_group b e at x u))) ∙ value_tag b e at (from_group x) u))
+  reach_one i (from_group x) u = absurd (i (sym (tag_within b at e t h (is_in num_c b e _ _ (is_from_group b e at x u))) ∙ value_tag b e at (from_group x) u))
   reach_one i (from_code x) u = refl
 
 module _ (b : List ℕ) (e at t : ℕ) (h : t ≡ tag_at b at e) where
   pub component_some : (p n : ℕ) → t ≡ 1 → p ≡ skip (le_c 1) b at e → n ≡ count_at b p e → Says (opt_c num_c) b e at (λ (o : Option ℕ). o) (Some n)
-  component_some p n i j k None u = absurd (omega (arith, is_none num_c b e at u, there b e at t h 1 i (omega arith)))
+  component_some p n i j k None u = absurd (omega (arith, is_none num_c b e at u, tag_read b at e t h 1 i (omega arith)))
   component_some p n i j k (Some v) u =
-      let z : n ≡ v = number_is b e n p (at + 1) v k (behind b e at t h 1 i (omega arith) p j) (is_some num_c b e at v u).1 in
+      let z : n ≡ v = number_is b e n p (at + 1) v k (tag_past b at e t h 1 i (omega arith) p j) (is_some num_c b e at v u).1 in
       rw z
 
   pub component_none : (t ≡ 1 → ⊥) → Says (opt_c num_c) b e at (λ (o : Option ℕ). o) None
   component_none i None u = refl
   component_none i (Some v) u =
       let m = is_some num_c b e at v u in
-      absurd (i (sym (within b e at t h (is_in num_c b e (at + 1) v m.1)) ∙ m.0))
+      absurd (i (sym (tag_within b at e t h (is_in num_c b e (at + 1) v m.1)) ∙ m.0))
 
 pub spot_is : (room : ℕ) (v : ElementPlan) (n : ℕ) (o : Option ℕ) (r : ℕ) → n ≡ v.element → o ≡ v.component → r ≡ reach_of room v.value → record { element = n; component = o; reach = r } ≡ spot_of room v
 spot_is room v n o r h i j = rw (h, i, j)
@@ -71,21 +71,21 @@ module _ (b : List ℕ) (e p m q kind step room : ℕ) (x : Spot) (a : Bool) (h 
 -- ---- what fills a planned segment
 module _ (b : List ℕ) (e at t : ℕ) (h : t ≡ tag_at b at e) where
   pub source_repeat : (p n : ℕ) → t ≡ 2 → p ≡ skip (le_c 1) b at e → n ≡ count_at b p e → (v : Source) → Is source_c b e at v → v ≡ from_repeat n
-  source_repeat p n i j k from_envelope u = absurd (omega (arith, source_tag b e at from_envelope u, there b e at t h 2 i (omega arith)))
-  source_repeat p n i j k (from_row x) u = absurd (omega (arith, source_tag b e at (from_row x) u, there b e at t h 2 i (omega arith)))
+  source_repeat p n i j k from_envelope u = absurd (omega (arith, source_tag b e at from_envelope u, tag_read b at e t h 2 i (omega arith)))
+  source_repeat p n i j k (from_row x) u = absurd (omega (arith, source_tag b e at (from_row x) u, tag_read b at e t h 2 i (omega arith)))
   source_repeat p n i j k (from_repeat x) u =
-      let z : n ≡ x = number_is b e n p (at + 1) x k (behind b e at t h 2 i (omega arith) p j) (is_from_repeat b e at x u) in
+      let z : n ≡ x = number_is b e n p (at + 1) x k (tag_past b at e t h 2 i (omega arith) p j) (is_from_repeat b e at x u) in
       rw z
 
   pub source_row : t ≡ 1 → (j : Job) → Says source_c b e at (filled_of j) Row
-  source_row i j from_envelope u = absurd (omega (arith, source_tag b e at from_envelope u, there b e at t h 1 i (omega arith)))
+  source_row i j from_envelope u = absurd (omega (arith, source_tag b e at from_envelope u, tag_read b at e t h 1 i (omega arith)))
   source_row i j (from_row x) u = refl
-  source_row i j (from_repeat x) u = absurd (omega (arith, source_tag b e at (from_repeat x) u, there b e at t h 1 i (omega arith)))
+  source_row i j (from_repeat x) u = absurd (omega (arith, source_tag b e at (from_repeat x) u, tag_read b at e t h 1 i (omega arith)))
 
   pub source_envelope : (t ≡ 2 → ⊥) → (t ≡ 1 → ⊥) → (v : Source) → Is source_c b e at v → v ≡ from_envelope
   source_envelope i j from_envelope u = refl
-  source_envelope i j (from_row x) u = absurd (j (sym (within b e at t h (is_in num_c b e _ _ (is_from_row b e at x u))) ∙ source_tag b e at (from_row x) u))
-  source_envelope i j (from_repeat x) u = absurd (i (sym (within b e at t h (is_in num_c b e _ _ (is_from_repeat b e at x u))) ∙ source_tag b e at (from_repeat x) u))
+  source_envelope i j (from_row x) u = absurd (j (sym (tag_within b at e t h (is_in num_c b e _ _ (is_from_row b e at x u))) ∙ source_tag b e at (from_row x) u))
+  source_envelope i j (from_repeat x) u = absurd (i (sym (tag_within b at e t h (is_in num_c b e _ _ (is_from_repeat b e at x u))) ∙ source_tag b e at (from_repeat x) u))
 
 filled_is : (j : Job) (s : Source) (es : List ElementPlan) → wrong_spots (kind_by (filled_of j s)) (step_by (filled_of j s)) (room_by (filled_of j s)) es ≡ wrong_spots (kind_of s) (step_in j s) (room_in j s) es
 filled_is j from_envelope es = refl

@@ -10,7 +10,7 @@ use lib.Dec.{eqb}
 use borrow.Author.Tests.{eq-eqb, ne_eqb}
 use Rattle.codec.specs.Codec.{Codec, pick, list_c, ◌⊗◌}
 use Rattle.codec.specs.Skip.{count_at, tag_at, Is}
-use Rattle.codec.specs.Field.{is_enum, is_list, is_map, count_list}
+use Rattle.codec.specs.Field.{is_list, count_list}
 use Rattle.codec.specs.Forms.{num_c}
 use Rattle.codec.specs.Maps.{is_num_map}
 use Rattle.codec.specs.Ways.{tag_in, tag_case}
@@ -78,11 +78,6 @@ module _ (b : List ℕ) (e at k : ℕ) (h : k ≡ tag_at b at e) where
   pub trigger_no : (t : Trigger) (xs : SegmentDef) (p : SegmentPlan) → at < e → (k ≡ 0 → ⊥) → Is source_c b e at p.source → false ≡ wrong_trigger t xs p
   unfolding wrong_trigger
   trigger_no t xs p l i u = sym (rw (envelope_not l i p.source u))
-
--- what an enum takes at least
-pub source_room : (b : List ℕ) (e at : ℕ) (v : Source) → Is source_c b e at v → at < e
-unfolding source_c
-source_room b e at v u = (is_enum _ b e at _ (is_map _ _ _ _ _ b e at v u)).room
 
 -- ---- a loop
 none_wrong : (t : Trigger) (ps : List SegmentPlan) → any_of (wrong_trigger t []) ps ≡ false

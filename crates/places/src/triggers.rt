@@ -1,5 +1,5 @@
 // Envelope fields that give a separator. Each function that reads tells whether whatever stands at a place is wrong.
-ghost use Rattle.std.specs.Prelude.{◌≡◌, length, List, ◌≤◌, ◌<◌};
+ghost use Rattle.std.specs.Prelude.{◌≡◌, List, ◌≤◌, ◌<◌};
 ghost use Rattle.codec.specs.Codec.{◌⊗◌, list_c};
 ghost use Rattle.codec.specs.Forms.{num_c};
 ghost use Rattle.codec.specs.Skip.{Is, count_at};

@@ -25,7 +25,7 @@ use Rattle.plan.specs.Elements.{run_none}
 use Rattle.plan.specs.declared.answers.Planned.{Planned}
 use Rattle.plan.specs.declared.answers.Order.{Order}
 use Rattle.plan.specs.Planned.{unplanned, SegmentIs, SegmentRead, PlannedIs, OrderIs}
-use Rattle.plan.proofs.Reading.{number_is, wide_item, wide_number, wide_order, wide_flag, flag_is}
+use Rattle.plan.proofs.Reading.{number_is, wide_item, skip_number, wide_order, wide_flag, flag_is}
 
 -- past the last item
 past : {A : Type 0} (vs : List A) (d : A) (k n : ℕ) → n ≡ length vs → n ≤ k → d ≡ get_or vs k d
@@ -107,7 +107,7 @@ module _ (b idx : List ℕ) (x : PlanIndexed b idx) where
       pub source_is : Is source_c b (layout_start b) (p + 4) (planned_of (job_of b) l i).source
       source_is =
           let f : SegmentPlanIs b (layout_start b) p (planned_of (job_of b) l i) = is_segment_plan b (layout_start b) p _ planned_is in
-          let s : skip num_c b p (layout_start b) ≡ p + 4 = wide_number b (layout_start b) p _ f.occurrence in
+          let s : skip num_c b p (layout_start b) ≡ p + 4 = skip_number b (layout_start b) p _ f.occurrence in
           rw s at f.source
 
   -- ---- the layout
@@ -174,4 +174,4 @@ module _ (b idx : List ℕ) (x : PlanIndexed b idx) where
 
     pub capacity_is : (r : ℕ) → t < n → r ≡ le 4 b (p + 4 + t * 4) → r ≡ capacity_of (job_of b) t
     unfolding capacity_of
-    capacity_is r q s = number_is b (envelope_start b) (p + 4 + t * 4) r _ s (wide_item num_c 4 b (envelope_start b) p _ t 1 (wide_number b (envelope_start b)) (is_at (list_c num_c) b (envelope_start b) p _ _ h x.capacity) (rw (← capacity_count) q))
+    capacity_is r q s = number_is b (envelope_start b) (p + 4 + t * 4) r _ s (wide_item num_c 4 b (envelope_start b) p _ t 1 (skip_number b (envelope_start b)) (is_at (list_c num_c) b (envelope_start b) p _ _ h x.capacity) (rw (← capacity_count) q))

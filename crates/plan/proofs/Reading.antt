@@ -10,7 +10,7 @@ use lib.ListN.{length, get_or, take, drop, length-drop}
 use lib.Seq.{ext_get_or, get_or-take, get_or-drop, length-take-le}
 use lib.Dec.{eqb}
 use Rattle.codec.specs.Codec.{Codec, ◌⊕◌, le, le_c, list_c}
-use Rattle.codec.specs.Skip.{skip, steps, Is, skip_le, skip_map, skip_pair, tag_at}
+use Rattle.codec.specs.Skip.{skip, steps, steps_last, Is, skip_le, skip_map, skip_pair, tag_at}
 use Rattle.codec.specs.Forms.{num_c, bytes_c, opt_c, flag_c}
 use Rattle.codec.specs.Field.{is_map, is_enum, is_le, is_none, is_some, is_list, room_of, count_of}
 use Rattle.codec.specs.Ways.{tag_in, skip_opt, opt_none, opt_some, skip_flag, case_in}
@@ -27,13 +27,12 @@ use Rattle.plan.specs.declared.answers.Source.TheVariants.{Envelope, Row, Repeat
 use Rattle.plan.specs.Answers.{source_of, ValueRead, ElementRead}
 use Rattle.plan.specs.Elements.{run_list}
 use Rattle.plan.specs.Planned.{SegmentRead}
-use Rattle.spec.proofs.Storing.{steps_more}
 
 -- ---- numbers, options, byte strings
 pub number_is : (b : List ℕ) (e at n x : ℕ) → n ≡ le 4 b at → Is num_c b e at x → n ≡ x
 number_is b e at n x h i = h ∙ sym (is_le 4 b e at x i).1
 
-skip_number : (b : List ℕ) (e at x : ℕ) → Is num_c b e at x → skip num_c b at e ≡ at + 4
+pub skip_number : (b : List ℕ) (e at x : ℕ) → Is num_c b e at x → skip num_c b at e ≡ at + 4
 skip_number b e at x i = skip_le 4 b at e (is_le 4 b e at x i).0
 
 opt_room : (b : List ℕ) (e at : ℕ) (o : Option ℕ) → Is (opt_c num_c) b e at o → at < e
@@ -170,7 +169,7 @@ plan_room b e at v f = go v.instances f.instances
         let s = instances_high b at e (get_or b at 0) (at + 1) (sym (tag_in b at e m)) (sym (skip_le 1 b at e (omega arith))) (omega arith) (omega arith) in
         omega (arith, r)
 
-source_room : (b : List ℕ) (e at : ℕ) (v : Source) → Is source_c b e at v → at < e
+pub source_room : (b : List ℕ) (e at : ℕ) (v : Source) → Is source_c b e at v → at < e
 unfolding source_c
 source_room b e at v h = (is_enum _ b e at _ (is_map _ _ _ _ _ b e at v h)).room
 
@@ -352,15 +351,12 @@ steps_wide C w b e f vs from h d (suc i) m =
     let s : steps C b e i from ≡ from + i * w = steps_wide C w b e f vs from h d i (omega arith) in
     let k : suc i * w ≡ i * w + w = suc-mul i w in
     let r : skip C b (steps C b e i from) e ≡ steps C b e i from + w = f _ (get_or vs i d) (h i d (omega arith)) in
-    ap (λ (z : ℕ). steps C b e z from) q ∙ steps_more C b e i from ∙ r ∙ omega arith
+    ap (λ (z : ℕ). steps C b e z from) q ∙ steps_last C b e i from ∙ r ∙ omega arith
 
 pub wide_item : {A : Type 0} (C : Codec A) (w : ℕ) (b : List ℕ) (e at : ℕ) (vs : List A) (i : ℕ) (d : A) → ((p : ℕ) (v : A) → Is C b e p v → skip C b p e ≡ p + w) → Is (list_c C) b e at vs → i < length vs → Is C b e (at + 4 + i * w) (get_or vs i d)
 wide_item C w b e at vs i d f h q =
     let l = is_list C b e at vs h in
     rw (steps_wide C w b e f vs (at + 4) l.item d i (omega arith)) at (l.item i d q)
-
-pub wide_number : (b : List ℕ) (e p v : ℕ) → Is num_c b e p v → skip num_c b p e ≡ p + 4
-wide_number b e p v h = skip_number b e p v h
 
 pub wide_order : (b : List ℕ) (e p : ℕ) (v : Item) → Is item_c b e p v → skip item_c b p e ≡ p + 5
 wide_order b e p (segment_item x) j =

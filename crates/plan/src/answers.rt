@@ -22,8 +22,8 @@ pub enum Source {
 
 // A planned segment: whether the plan has it, what fills it, which occurrence of its loop it is, how many elements it has and from where on they stand.
 // An Option would be no plainer: past the plan's last segment the definitions go by these values all the same (`planned_of`), and three of the four
-// callers take them without asking whether it is there. No ghost field says which segment it is (`PlannedIs`): that speaks of the whole struct, in
-// a definition that takes it in; a struct round it would hold the job, the loop and this one, and be no plainer.
+// callers take them without asking whether it is there. Which segment it is (`PlannedIs`) is asked, and no
+// ghost field: a ghost field holds a fact of several proofs, as this, only truncated, to be opened by each proof that uses it; no plainer.
 #[derive(Clone, Copy)]
 pub struct Planned {
     pub there: bool,

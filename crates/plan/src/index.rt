@@ -1,5 +1,5 @@
 // The region of the index that belongs to plan and layout, and how it is filled.
-ghost use Rattle.std.specs.Prelude.{◌≡◌, List, ℕ, ◌+◌, ◌≤◌, get_or, length};
+ghost use Rattle.std.specs.Prelude.{◌≡◌, List, ℕ, ◌+◌, get_or};
 ghost use Rattle.codec.specs.Codec.{le};
 ghost use Rattle.format.specs.Passed.{Passed};
 ghost use Rattle.plan.specs.Index.{PlanFilled};

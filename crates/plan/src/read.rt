@@ -172,7 +172,8 @@ pub fn element_at(job: &[u8], at: usize) -> ElementPlan
     value_at(job, element, Some(component), at + 9)
 }
 
-// The item that stands at a place. Where the job ends before, any item will do, as none stands there: no Option, for the same reason as above.
+// The item that stands at a place. Where the job ends before, any item will do. No Option, as at `unplanned_element`: no job that passed lacks an item
+// that it counts, and each caller would have to answer for what can't be.
 pub fn item_at(job: &[u8], at: usize) -> Item
     requires { at < 1099511627776 }
     ensures { (e : ℕ) (v : ItemIn) → e ≤ length job.now → Is item_c job.now e at v → item_of result ≡ v }

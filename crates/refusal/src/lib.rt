@@ -30,6 +30,7 @@ impl Refusal {
     }
 }
 
+#[tactic(auto, using(format::specs::Passed::refused_1, format::specs::Passed::refused_2, format::specs::Passed::refused_3, format::specs::Passed::refused_4, format::specs::Passed::refused_5, format::specs::Passed::refused_not))]
 pub fn check(job: &[u8]) -> Result<(), Refusal>
     ensures { number_of result ≡ refusal_of job.now }
 {

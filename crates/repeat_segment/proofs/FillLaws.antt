@@ -6,8 +6,8 @@ use mathlib.Core.Bool.{true, false}
 use native.Mathlib.Omega.{arith}
 use Rattle.std.specs.Prelude.{Option, Some}
 use lib.ListN.{length, get_or, take}
-use Rattle.lent.specs.Fit.{cap, wide, more, Stored, Noted}
-use Rattle.lent.proofs.Laws.{more_more}
+use Rattle.lent.specs.Fit.{wide, more, Noted}
+use Rattle.lent.proofs.Laws.{unmoved, more_more}
 use Rattle.format.specs.Sections.{job_of}
 use Rattle.format.specs.Ask.{loop_of, planned_of, identifier_of, step_of, max_of, data_of}
 use Rattle.format.specs.Refusal.{separators, unfit}
@@ -78,9 +78,6 @@ quiet_cell b id e k t column r bs h q f = rw (h.cell, q) at (f (cell t r column)
 pub no_finding : {d : List ℕ} {at n : ℕ} (p : Put) → p.findings ≡ [] → n ≡ more at 0 → Noted d at (words_of p.findings) n d
 no_finding p h e = rw h (none_stored e)
 
-pub still : (m : ℕ) → m ≤ cap → m ≡ more m 0
-still m h = omega arith
-
 -- ---- the elements one by one
 
 pub record FillSoFar (b : List ℕ) (s : Planned) (k r : ℕ) (state : Counts) (f₀ f : List ℕ) (at i found count : ℕ) : Type 0 where
@@ -91,7 +88,7 @@ pub record FillSoFar (b : List ℕ) (s : Planned) (k r : ℕ) (state : Counts) (
 module _ (b : List ℕ) (s : Planned) (o : Of b s) (k r : ℕ) (state : Counts) where
   pub fill_start : {f : List ℕ} (entries : ℕ) → Within state → entries ≡ more state.entries 0 → FillSoFar b s k r state f f s.first 0 state.findings entries
   unfolding row_puts chunk_put
-  fill_start entries h e = record { along = along_first b s o; stored = none_stored (still state.findings h.findings); entries = e }
+  fill_start entries h e = record { along = along_first b s o; stored = none_stored (omega (arith, h.findings)); entries = e }
 
   pub fill_next : {f₀ f f₁ : List ℕ} {at i found entries n : ℕ} (e : Element) (m : ℕ) → length f₀ ≤ wide → i < s.count → FillSoFar b s k r state f₀ f at i found entries → Read b s i e
       → Noted f found (words_of (element_put b s k r (element_of b e)).findings) n f₁ → m ≡ (element_put b s k r (element_of b e)).entries
@@ -123,9 +120,6 @@ module _ (b : List ℕ) (s : Planned) (o : Of b s) (k r : ℕ) (state : Counts) 
       record { entries = rw e at w.entries; begun = refl; bytes = refl; segments = refl; findings = rw e at w.stored; stops = refl }
 
 -- ---- the whole row
-
-unmoved : {m n : ℕ} {d : List ℕ} → m ≤ cap → n ≡ m → Stored d m [] n d
-unmoved h e = record { counted = omega arith; stored = refl }
 
 pub did_fill : {n : Counts} {f f' : List ℕ} (b : List ℕ) (s : Planned) (k r : ℕ) (state : Counts) → Of b s → Within state
     → Filled (row_puts b s k r (plans_of b s)) state n f f' → (d g p : List ℕ) → DidCounts (fill_out (job_of b) s.l.0 s.i s.table.0 k r) state n d d g g f f' p p

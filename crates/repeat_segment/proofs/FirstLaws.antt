@@ -123,22 +123,19 @@ module _ (b : List ℕ) (s : Planned) (o : Of b s) (count p r : ℕ) (c : count 
       ap (λ (xs : List ElementPlan). first_at p r (row_puts b s m (get_or rows m 0) xs).parts) (take_next b s o at i a h e q)
       ∙ ap (λ (x : Put). first_at p r x.parts) (row_snoc b s m (get_or rows m 0) (take i (plans_of b s)) (element_of b e))
 
-  first_moved : (f g : First) (at i : ℕ) (e : Element) → i < s.count → FirstSoFar b s count p r f at i → Read b s i e → Earlier s.step p r b f e g → FirstSoFar b s count p r g e.next (i + 1)
-  first_moved f g at i e h w q (taken k less same low) = record {
+  pub first_next : {f g : First} {at i : ℕ} (e : Element) → i < s.count → FirstSoFar b s count p r f at i → Read b s i e → Earlier s.step p r b f e g → FirstSoFar b s count p r g e.next (i + 1)
+  first_next {f} {g} {at} {i} e h w q (taken k less same low) = record {
     along = q.along;
     low = omega (arith, w.low);
     before = λ rows m z. row_next at i e h w.along q rows m ∙ first_behind p r _ _ (w.before rows m (omega arith)) ∙ element_elsewhere p r b s m (get_or rows m 0) (element_of b e) (λ y _. low.below m z (omega (arith, w.low)) y);
     found = λ rows z. row_next at i e h w.along q rows k ∙ first_behind p r _ _ (w.before rows k less) ∙ element_stands p r b s k (get_or rows k 0) (element_of b e) (low.stands (omega (arith, w.low))) same;
   }
-  first_moved f g at i e h w q (kept none-lower) = record {
+  first_next {f} {g} {at} {i} e h w q (kept none-lower) = record {
     along = q.along;
     low = w.low;
     before = λ rows m z. row_next at i e h w.along q rows m ∙ first_behind p r _ _ (w.before rows m z) ∙ element_elsewhere p r b s m (get_or rows m 0) (element_of b e) (λ y v. none-lower m z (omega (arith, w.low)) y v);
     found = λ rows z. row_next at i e h w.along q rows f.row ∙ first_before p r _ _ _ (w.found rows z);
   }
-
-  pub first_next : {f g : First} {at i : ℕ} (e : Element) → i < s.count → FirstSoFar b s count p r f at i → Read b s i e → Earlier s.step p r b f e g → FirstSoFar b s count p r g e.next (i + 1)
-  first_next {f} {g} {at} {i} e h w q x = first_moved f g at i e h w q x
 
   pub first_end : {f : First} {at i : ℕ} → s.count ≤ i → FirstSoFar b s count p r f at i → (rows : List ℕ) → first_at p r (parts_of b s rows count) ≡ found_text b s rows count p f
   first_end {f} {at} {i} h w rows = go (ltb f.row count) refl

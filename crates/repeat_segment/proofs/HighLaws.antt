@@ -11,6 +11,7 @@ use borrow.Author.Tests.{ne_eqb}
 use Rattle.format.specs.Plan.{ElementPlan}
 use Rattle.format.specs.Ask.{on}
 use Rattle.segment.specs.Parts.{Part, pick, is_empty, highest}
+use Rattle.segment.proofs.Rows.{not_counted}
 use Rattle.plan.specs.declared.answers.ElementPlan.{ElementPlan as Element}
 use Rattle.plan.specs.Answers.{element_of}
 use Rattle.emit.specs.Puts.{Put, and_put, part_at, chunk_put}
@@ -38,13 +39,9 @@ pub high_elsewhere : (b : List ℕ) (s : Planned) (p k r : ℕ) (x : ElementPlan
 unfolding highest
 high_elsewhere b s p k r x h = rw (element_parts b s k r x) (go (place_in s.step k x) refl)
   where
-    zeros : (t : Bool) → max (pick t 0 0) 0 ≡ 0
-    zeros true = omega arith
-    zeros false = omega arith
-
     go : (o : Option ℕ) → place_in s.step k x ≡ o → highest (number_by (Some p)) (on o (λ e. part_at e x.component (text_in b s e r x).text ∷ []) []) ≡ 0
     go None e = refl
-    go (Some m) e = rw (ne_eqb m p (λ z. h (e ∙ ap Some z))) (zeros (is_empty (text_in b s m r x).text))
+    go (Some m) e = rw (ne_eqb m p (λ z. h (e ∙ ap Some z))) (not_counted (is_empty (text_in b s m r x).text) 0)
 
 pub filled_none : (text : List ℕ) (n : ℕ) → n ≡ 0 → 0 ≡ pick (is_empty text) 0 n
 filled_none text n h = rw h (go (is_empty text))

@@ -27,7 +27,6 @@ use Rattle.emit.proofs.StepLaws.{did_segment}
 use Rattle.repeat_segment.specs.declared.planned.Planned.{Planned}
 use Rattle.repeat_segment.specs.Planned.{plans_of, id_of, Of}
 use Rattle.repeat_segment.specs.Places.{row_puts, parts_from, parts_of, number_by}
-use Rattle.repeat_segment.proofs.FillLaws.{still}
 use Rattle.segment.proofs.Runs.{repeat_run_stored, stuck_run_stored}
 
 -- ---- the elements
@@ -87,4 +86,4 @@ unfolding chunk_out
 did_chunk b s rows state sep from o h q y x z f p high counter =
     let e = rw (take-length rows) at (chunk_parts b s rows (plans_of b s) (length rows) (omega arith)) in
     rw (← o.step, e, ← y)
-    (did_segment (job_of b) (id_of b s) (sorted (parts_of b s rows (length rows))) [] 0 from h (rw q x) (none_stored (still state.findings h.findings)) z high counter)
+    (did_segment (job_of b) (id_of b s) (sorted (parts_of b s rows (length rows))) [] 0 from h (rw q x) (none_stored (omega (arith, h.findings))) z high counter)

@@ -5,6 +5,7 @@ use mathlib.Core.Bool.{Bool, true, false}
 use mathlib.Core.List.{List, [], ◌∷◌}
 use native.Mathlib.Omega.{arith}
 use native.Mathlib.Nat.{mul-le-mul_left, mul-lt-mul_of_pos_right, mul_comm, mul-zero, mod-add-div, mul-mod_left, eq_of_mul-eq-mul_right}
+use Rattle.std.proofs.lemmas.Option.{none-some, same_Some}
 use Rattle.std.specs.Prelude.{Option, None, Some}
 use lib.Dec.{eqb}
 use borrow.Author.Tests.{eqb-true}
@@ -58,19 +59,13 @@ module _ (element step p : ℕ) where
 
 -- ---- places
 
-pub some_is : {a b : ℕ} → ◌≡◌ {A = Option ℕ} (Some a) (Some b) → a ≡ b
-some_is {a} {b} e = ap (λ (o : Option ℕ). on o (λ x. x) 0) e
-
-pub none_isn't : {b : ℕ} → ◌≡◌ {A = Option ℕ} None (Some b) → ⊥
-none_isn't {b} e = let z : ◌≡◌ {A = ℕ} 0 1 = ap (λ (o : Option ℕ). on o (λ x. 1) 0) e in omega arith
-
 -- only the first row's place
 once : (k e p : ℕ) → pick (eqb k 0) (Some e) None ≡ Some p → (k ≡ 0) × (e ≡ p)
 once k e p h = go (eqb k 0) refl h
   where
     go : (t : Bool) → eqb k 0 ≡ t → pick t (Some e) None ≡ Some p → (k ≡ 0) × (e ≡ p)
-    go true q r = (eqb-true _ _ q, some_is r)
-    go false q r = absurd (none_isn't r)
+    go true q r = (eqb-true _ _ q, same_Some _ _ r)
+    go false q r = absurd (none-some _ r)
 
 module _ (b : List ℕ) (e : Element) (step : ℕ) where
   pub place_column : (k n : ℕ) (o : Option ℕ) → e.value ≡ Column n → o ≡ pick (eqb k 0) (Some e.element) None → o ≡ place_in step k (element_of b e)
@@ -106,7 +101,7 @@ module _ (b : List ℕ) (e : Element) (step : ℕ) where
     pub lowest_group : (n r : ℕ) → e.value ≡ Group n → (e.element ≡ p → ⊥) → (r < 256 → e.element + r * step ≡ p) × ((m : ℕ) → m < r → e.element + m * step ≡ p → e.element ≡ p)
         → Lowest step p r (element_of b e)
     unfolding place_in
-    lowest_group n r h q x = record { stands = λ z. rw h (ap Some (x.0 z)); below = λ m i _ y. q (x.1 m i (some_is (rw h at y))) }
+    lowest_group n r h q x = record { stands = λ z. rw h (ap Some (x.0 z)); below = λ m i _ y. q (x.1 m i (same_Some _ _ (rw h at y))) }
 
 -- with a step an element stands at p for one row at most
 pub one_row : (step k m p : ℕ) (x : ElementPlan) → 0 < step → place_in step k x ≡ Some p → place_in step m x ≡ Some p → m ≡ k
@@ -115,7 +110,7 @@ one_row step k m p x h i j = go x.value i j
   where
     go : (v : Value) → place_by step k x.element v ≡ Some p → place_by step m x.element v ≡ Some p → m ≡ k
     go (from_column c) y z = (once m _ p z).0 ∙ sym (once k _ p y).0
-    go (from_group c) y z = let e : m * step ≡ k * step = omega (arith, some_is y, some_is z) in eq_of_mul-eq-mul_right step h m k e
+    go (from_group c) y z = let e : m * step ≡ k * step = omega (arith, same_Some _ _ y, same_Some _ _ z) in eq_of_mul-eq-mul_right step h m k e
     go (from_code t) y z = (once m _ p z).0 ∙ sym (once k _ p y).0
 
 pub place_first : (step : ℕ) (x : ElementPlan) → place_in step 0 x ≡ Some x.element
@@ -133,7 +128,7 @@ place_behind step k m x h = go x.value h
   where
     go : (v : Value) → place_by step k x.element v ≡ Some m → x.element ≤ m
     go (from_column c) y = omega (arith, (once k _ m y).1)
-    go (from_group c) y = omega (arith, some_is y)
+    go (from_group c) y = omega (arith, same_Some _ _ y)
     go (from_code t) y = omega (arith, (once k _ m y).1)
 
 -- ---- where a text comes from

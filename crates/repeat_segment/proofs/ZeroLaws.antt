@@ -1,7 +1,7 @@
 -- A part at element 0: there is one where a planned element is at 0, for the first row already.
 use Prim.Native.Nat.{ℕ, zero, suc, ◌+◌, ◌≤◌, ◌<◌}
 use mathlib.Core.Path.{◌≡◌, refl, sym, ap, ◌∙◌}
-use mathlib.Core.Bool.{Bool, true, false}
+use mathlib.Core.Bool.{Bool, true, false, false≢true}
 use mathlib.Core.List.{List, [], ◌∷◌, ◌++◌}
 use native.Mathlib.Omega.{arith}
 use Rattle.std.specs.Prelude.{Option, None, Some}
@@ -20,9 +20,6 @@ use Rattle.repeat_segment.specs.Planned.{plans_of, Of, Along, Read}
 use Rattle.repeat_segment.specs.Places.{place_in, text_in, element_put, row_puts, parts_from, parts_of, all_above}
 use Rattle.repeat_segment.proofs.Steps.{take_next, take_end, along_first, row_cons}
 use Rattle.repeat_segment.proofs.PlaceLaws.{element_parts, place_first, place_behind}
-
-never : {A : Type 0} → ◌≡◌ {A = Bool} false true → A
-never {A} h = absurd (let z : ◌≡◌ {A = ℕ} 0 1 = ap (λ (t : Bool). pick t 1 0) h in omega arith)
 
 abbrev both : Bool → Bool → Bool
 both true t = t
@@ -68,7 +65,7 @@ module _ (b : List ℕ) (s : Planned) where
     where
       go : (t : Bool) → ltb 0 x.element ≡ t → pick t (all_above xs) false ≡ true → (all_above xs ≡ true → zero_free (row_puts b s k r xs).parts ≡ true) → zero_free (row_puts b s k r (x ∷ xs)).parts ≡ true
       go true e q ih = ap zero_free (row_cons b s k r x xs) ∙ zero_append (element_put b s k r x).parts (row_puts b s k r xs).parts ∙ rw (element_later k r x (ltb-true _ _ e), ih q) refl
-      go false e q ih = never q
+      go false e q ih = absurd (false≢true q)
 
   module _ (rows : List ℕ) (xs : List ElementPlan) where
     rows_later : (n k : ℕ) → all_above xs ≡ true → zero_free (parts_from b s rows k n xs) ≡ true
@@ -105,7 +102,7 @@ above_snoc (y ∷ xs) x h = go (ltb 0 y.element) h (above_snoc xs x)
   where
     go : (t : Bool) → pick t (all_above xs) false ≡ true → (all_above xs ≡ true → all_above (xs ++ (x ∷ [])) ≡ ltb 0 x.element) → pick t (all_above (xs ++ (x ∷ []))) false ≡ ltb 0 x.element
     go true h ih = ih h
-    go false h ih = never h
+    go false h ih = absurd (false≢true h)
 
 low_at : (xs : List ElementPlan) (i : ℕ) → i < length xs → (get_or xs i no_element_plan).element ≡ 0 → all_above xs ≡ false
 unfolding all_above

@@ -4,8 +4,8 @@ ghost use Rattle.std.specs.Prelude.{◌≤◌, length};
 use crate::planned::Planned;
 use nest::Job;
 
-// The rows of a chunk, and the planned segment that they fill. That the segment is one of the job, `Of`, is no ghost field: it goes along the
-// planned elements, and a ghost field's fact must have one proof at most, which would have to be shown of all that an element holds.
+// The rows of a chunk, and the planned segment that they fill. That the segment is one of the job (`Of`) is asked, and no ghost field: a ghost field
+// holds a fact of several proofs, as this, only truncated, and every proof that goes along the planned elements would have to open it first; no plainer.
 #[derive(Clone, Copy)]
 pub struct Chunk<'a> {
     pub job: Job<'a>,

@@ -1,5 +1,5 @@
 // A row of a chunk: the findings on its cells, and their trace entries.
-ghost use Rattle.std.specs.Prelude.{◌≡◌, true, List, [], ℕ, ◌≤◌, ◌<◌};
+ghost use Rattle.std.specs.Prelude.{◌≡◌, true, [], ◌≤◌, ◌<◌};
 ghost use Rattle.lent.specs.Fit.{Noted};
 ghost use Rattle.format.specs.Sections.{job_of};
 ghost use Rattle.format.specs.Passed.{Passed};

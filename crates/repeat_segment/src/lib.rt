@@ -49,7 +49,7 @@ fn source_of(rows: &[u32], t: TableId) -> From
     }
 }
 
-// The segment of a chunk, which are the rows.
+// Writes the segment of a chunk, whose rows are `rows`.
 pub fn write_chunk(
     job: Job,
     rows: &[u32],

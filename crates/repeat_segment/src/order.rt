@@ -1,5 +1,5 @@
 // Segments whose parts are plain and come, row by row, in the order of their places: texts are written as they come.
-ghost use Rattle.std.specs.Prelude.{◌≡◌, true, List, ℕ, ◌≤◌, ◌<◌, length};
+ghost use Rattle.std.specs.Prelude.{◌≡◌, true, List, ℕ, ◌≤◌, ◌<◌};
 ghost use Rattle.lent.specs.Fit.{Stored};
 ghost use Rattle.format.specs.Ask.{max_of};
 ghost use Rattle.column.specs.Cell.{or_null};

@@ -43,7 +43,8 @@ pub fn place_of(e: ElementPlan, step: u32, k: u32) -> Option<u32>
     }
 }
 
-// The row number for which an element moved by the step stands at another place p, or 256.
+// The row number for which an element moved by the step stands at another place p, or 256. No Option, as at `row_at`, whose answer this is: no chunk
+// has a row 256.
 fn group_row(element: u32, step: u32, p: u32) -> u32
     ensures { (result < 256 → element + result * step ≡ p) × ((m : ℕ) → m < result → element + m * step ≡ p → element ≡ p) }
 {

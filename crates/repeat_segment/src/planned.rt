@@ -8,8 +8,7 @@ use spec::ids::{LoopId, Stretch, TableId};
 use spec::loops;
 
 // A planned segment: its loop and its number there, its table and that table's step, its identifier, where its elements stand and how many.
-// No ghost field says that it is the job's (`Of`): that speaks of the whole struct, in a definition that takes it in; a struct round both would
-// hold this one, and be no plainer.
+// That it is the job's (`Of`) is no ghost field, neither here nor at `Chunk`, which has the job too; the reason stands there.
 #[derive(Clone, Copy)]
 pub struct Planned {
     pub l: LoopId,

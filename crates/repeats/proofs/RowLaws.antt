@@ -36,7 +36,7 @@ use Rattle.nest.proofs.Placing.{repeats_is, rows_room}
 use Rattle.walk.specs.Nested.{Nested}
 use Rattle.walk.proofs.RowLaws.{repeat_all}
 use Rattle.walk.proofs.NestedLaws.{lent_hooked, lent_climbs}
-use Rattle.due.proofs.Bridge.{capacity_is}
+use Rattle.nest.proofs.Bridge.{capacity_is}
 use Rattle.repeats.specs.declared.Table.{Table}
 use Rattle.repeats.specs.Added.{TableIs, PartIs}
 

@@ -49,8 +49,9 @@ pub struct Repeated {
 }
 
 // A chunk that rows are still added to: the table's highest row, the counts, how many segments stand before it, its first row, and how many rows it has.
-// What it holds is said of the rows lent beside it (`Holds`), and the room for its segments by what is still to be written; that a row is the table's, of
-// the job, the table and the row: no struct has them together.
+// That it is filled as it should be (`Holds`) speaks of the table and of the list of rows too. A struct of all three is no plainer: it would borrow that
+// list in order to write to it, and each function that adds a row would take it apart and make it anew. The room for its segments is asked by what is
+// still to be written, and that a row is the table's of the job, the table and the row, which stand in no struct together: no plainer by one for this alone.
 #[derive(Clone, Copy)]
 pub struct Chunk {
     pub mark: Mark,

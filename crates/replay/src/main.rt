@@ -2,7 +2,7 @@
 // tools/vectors writes the jobs, and what has to come out.
 #![tactic(auto)]
 
-ghost use Rattle.std.specs.Prelude.{◌<◌, ◌≤◌, length, IfOk};
+ghost use Rattle.std.specs.Prelude.{◌<◌, length, IfOk};
 
 use input::read_up_to;
 use std::io;

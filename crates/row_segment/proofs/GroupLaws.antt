@@ -9,7 +9,7 @@ use mathlib.Core.List.{List, [], ◌∷◌}
 use native.Mathlib.Omega.{arith}
 use borrow.Author.Tests.{eq-eqb, ne_eqb}
 use Rattle.segment.specs.Parts.{Part, pick, is_empty, or_one, highest, last_component, here, after, component_text}
-use Rattle.segment.proofs.Rows.{here_other, after_other}
+use Rattle.segment.proofs.Rows.{here_same, here_other, after_same, after_other}
 use Rattle.emit.specs.Puts.{Put}
 use Rattle.row_segment.specs.declared.parts.Line.{Line}
 use Rattle.row_segment.specs.declared.parts.Look.{Look}
@@ -17,14 +17,6 @@ use Rattle.row_segment.specs.declared.parts.Planned.{Planned}
 use Rattle.row_segment.specs.Stream.{Lined, puts, outcome_of, ahead, Sees, Looks, left}
 use Rattle.row_segment.specs.Groups.{Scans}
 use Rattle.row_segment.proofs.StreamLaws.{part_by, parts_here, parts_more, ahead_none, left_less}
-
-here_same : (p : ℕ) (x : Part) (xs : List Part) → x.element ≡ p → here p (x ∷ xs) ≡ x ∷ here p xs
-unfolding here
-here_same p x xs h = rw (eq-eqb x.element p h)
-
-after_same : (p : ℕ) (x : Part) (xs : List Part) → x.element ≡ p → after p (x ∷ xs) ≡ after p xs
-unfolding after
-after_same p x xs h = rw (eq-eqb x.element p h)
 
 -- ---- a look and the parts at element e
 

@@ -103,10 +103,7 @@ module _ {b : List ℕ} {x : Line} {n m : Look} {s t : Tally} {f₀ f : List ℕ
   -- no part is left
   pub between_end : m.part ≡ None → Sees b x m → s.findings ≤ cap → Notes (ahead b x n) s t f₀ f
   unfolding highest
-  between_end e v h = i.whole t f (rw (ahead_none b x m e v) (record { findings = none_stored (still t.findings (i.small h)); entries = omega arith; last = omega arith }))
-    where
-      still : (k : ℕ) → k ≤ cap → k ≡ more k 0
-      still k q = omega arith
+  between_end e v h = i.whole t f (rw (ahead_none b x m e v) (record { findings = none_stored (omega (arith, i.small h)); entries = omega arith; last = omega arith }))
 
 -- ---- the whole line
 

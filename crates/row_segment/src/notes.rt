@@ -27,8 +27,8 @@ pub struct Tally {
     pub last: usize,
 }
 
-// The end of a segment, how many numbers of findings there are then, and its trace entries. trigger's `Put` has the same numbers, as it has no method
-// either: a struct for both would put an import of emit in the sources and the definitions of each in the place of five lines.
+// The end of a segment, how many numbers of findings there are then, and its trace entries. `trigger::opener::Put` has the same three fields. One struct
+// for both is no plainer: it would stand in `emit`, and the sources and definitions of both crates would import it in the place of these five lines.
 #[derive(Clone, Copy)]
 pub struct Ended {
     pub bytes: usize,

@@ -11,9 +11,9 @@ use nest::Job;
 use plan::answers::{ElementPlan, Planned as PlannedSegment, ValueSource};
 use spec::ids::{LoopId, RowId, Stretch, TableId};
 
-// A planned segment of a loop, with its identifier, how many elements it has and from where on they stand, and the row that fills it. No ghost
-// field says that it is the job's (`Lined`): that speaks of the whole struct, in a definition that takes it in; a struct round both would hold
-// this one, and be no plainer.
+// A planned segment of a loop, with its identifier, how many elements it has and from where on they stand, and the row that fills it. That it is the
+// job's (`Lined`) is asked, and no ghost field: a ghost field holds a fact of several proofs, as this, only truncated, and every proof that goes along
+// the planned elements would have to open it first; no plainer. The lists that are lent stay beside it, as in `writer`.
 #[derive(Clone, Copy)]
 pub struct Line {
     pub l: LoopId,

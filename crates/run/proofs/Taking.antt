@@ -26,7 +26,7 @@ use Rattle.std.specs.Prelude.{Option, Some, None}
 use Rattle.nest.specs.Nest.{Row, row_of, repeat_rows}
 use Rattle.nest.specs.OfJob.{outline_of, kind_in, source_in}
 use Rattle.nest.specs.Ready.{Ready, outline_at}
-use Rattle.nest.proofs.Bridge.{kind_is, planned_is}
+use Rattle.nest.proofs.Bridge.{kind_is, planned_is, source_is}
 use Rattle.nest.proofs.Placing.{rows_few}
 use Rattle.walk.specs.declared.Context.{Context as Kept}
 use Rattle.walk.specs.Instances.{Context}
@@ -45,11 +45,11 @@ use Rattle.repeats.specs.declared.Repeated.{Repeated}
 use Rattle.repeats.specs.Added.{Repeats}
 use Rattle.repeats.proofs.GoingLaws.{repeat_none}
 use Rattle.run.specs.declared.own.Owner.{Owner}
-use Rattle.std.proofs.lemmas.Option.{same_Some}
+use Rattle.std.proofs.lemmas.Option.{same_Some, none-some}
 use Rattle.run.specs.declared.segments.Due.{Due}
 use Rattle.run.specs.declared.segments.Due.TheVariants as due
 use Rattle.run.specs.Went.{owner_by, kind_steps, Gives}
-use Rattle.run.proofs.Reading.{source_is, table_small, rows_none}
+use Rattle.run.proofs.Reading.{table_small, rows_none}
 
 -- ---- the row that opened an instance
 
@@ -94,7 +94,7 @@ own_row_there : (o : Outline) (k : O.Kind) (c : Context) (t r : ℕ) → Sound o
 own_row_there o k c t r h e = go (row_table k) e
   where
     held : (u : ℕ) (x : Option ℕ) → c.row u ≡ x → option_map (row_of u) x ≡ Some (record { table = t; row = r }) → r < row_count o t
-    held u None i q = absurd (let z : ◌≡◌ {A = ℕ} 0 1 = cc in omega arith)
+    held u None i q = absurd (none-some _ q)
     held u (Some m) i q =
         let a : row_of u m ≡ record { table = t; row = r } = same_Some _ _ q in
         let b : u ≡ t = ap (λ (w : Row). w.table) a in
@@ -102,7 +102,7 @@ own_row_there o k c t r h e = go (row_table k) e
         h.there t r (rw (← b, ← d) i)
 
     go : (x : Option ℕ) → on x (λ u. option_map (row_of u) (c.row u)) None ≡ Some (record { table = t; row = r }) → r < row_count o t
-    go None q = absurd (let z : ◌≡◌ {A = ℕ} 0 1 = cc in omega arith)
+    go None q = absurd (none-some _ q)
     go (Some u) q = held u (c.row u) refl q
 
 pub own_known : {b idx : List ℕ} (l : ℕ) (c : Kept) (x : Option Owner) (o : Owner) → Ready b idx → Sound (outline_at b) (context_by c)
@@ -118,22 +118,11 @@ row_few {b} t r R h = omega (arith, rows_few (job_of b) t (few (job_of b) R.pass
 
 -- ---- what a planned segment gives, by its source
 
-repeat_table_of : TableId → Due → TableId
-repeat_table_of t due.Opener = t
-repeat_table_of t (due.Row u r) = t
-repeat_table_of t (due.Repeat u p) = u
-
-repeat_row_of : RowId → Due → RowId
-repeat_row_of r due.Opener = r
-repeat_row_of r (due.Row u p) = r
-repeat_row_of r (due.Repeat u p) = p
-
 same_repeat : (t : TableId) (r : RowId) (u : TableId) (p : RowId) → due.Repeat t r ≡ due.Repeat u p → (r ≡ p) × (t ≡ u)
-unfolding repeat_table_of repeat_row_of
-same_repeat t r u p z = (ap (repeat_row_of r) z, ap (repeat_table_of t) z)
+same_repeat t r u p z = (cc, cc)
 
 gives_nothing : (o : Outline) (l i : ℕ) (xs : List Step) → xs ≡ [] → Gives o l i xs None
-gives_nothing o l i xs e = record { steps = e; few = λ t p q. absurd (let y : ◌≡◌ {A = ℕ} 0 1 = cc in omega arith) }
+gives_nothing o l i xs e = record { steps = e; few = λ t p q. absurd (none-some _ q) }
 
 module _ (o : Outline) (l i : ℕ) where
   -- the repeat segments of an instance that a row opened
@@ -177,14 +166,6 @@ module _ (j : Job) (l i : ℕ) (c : Context) (n : ℕ) (e : n ≡ length (A.plan
 
 -- ---- what is due is taken
 
-opener_one : (l : ℕ) → 1 ≡ segments_in (opener l ∷ [])
-unfolding segments_in
-opener_one l = refl
-
-row_one : (l i t r : ℕ) → 1 ≡ segments_in (row_segment l i t r ∷ [])
-unfolding segments_in
-row_one l i t r = refl
-
 module _ (j : Job) {l i : ℕ} {xs : List Step} {x : Option Due} (w : Gives (outline_of j) l i xs x) where
   pub takes_nothing : {s : State} {d g f p : List ℕ} → x ≡ None → Small s → Took j xs s (record { state = s; written = 0 }) d d g g f f p p
   takes_nothing {s = s} q h = rw (w.steps, q) (took_none j s h)
@@ -205,11 +186,13 @@ module _ (j : Job) {l i : ℕ} {xs : List Step} {x : Option Due} (w : Gives (out
 pub trigger_took : {s : State} {a n : ℕ} {k : Counts} {d d' g g' f f' : List ℕ} (j : Job) (l : ℕ) → a ≡ get_or s.counter l 0 → l < length s.counter
     → ((p : List ℕ) → DidNumber l (opener_out j l) a n s.counts k d d' g g' f f' p p)
     → (p : List ℕ) → Took j (opener l ∷ []) s (record { state = state_with s.high (set s.counter l n) k; written = 1 }) d d' g g' f f' p p
-trigger_took {s} {a} j l e h y p = took_one j (opener l) 1 (opener_one l) (rw (step_opener j l (state_of s)) (did_number (opener_out j l) s l a e h (y p)))
+unfolding segments_in
+trigger_took {s} {a} j l e h y p = took_one j (opener l) 1 refl (rw (step_opener j l (state_of s)) (did_number (opener_out j l) s l a e h (y p)))
 
 pub row_took : {n : Counts} {d d' g g' f f' : List ℕ} (j : Job) (l i t r : ℕ) (s : State) → ((p : List ℕ) → DidCounts (row_out j l i t r) s.counts n d d' g g' f f' p p)
     → (p : List ℕ) → Took j (row_segment l i t r ∷ []) s (record { state = state_with s.high s.counter n; written = 1 }) d d' g g' f f' p p
-row_took j l i t r s y p = took_one j (row_segment l i t r) 1 (row_one l i t r) (rw (step_row j l i t r (state_of s)) (y p s.high s.counter))
+unfolding segments_in
+row_took j l i t r s y p = took_one j (row_segment l i t r) 1 refl (rw (step_row j l i t r (state_of s)) (y p s.high s.counter))
 
 pub repeat_took : {s : State} {m : Mark} {n : Repeated} {d d' g g' f f' v v' : List ℕ} (j : Job) (xs : List Step) (t : ℕ) → m ≡ get_or s.high t None → t < length s.high
     → Repeats j xs t m s.counts n d d' g g' f f' v v'
@@ -218,21 +201,17 @@ repeat_took {s} {m} j xs t e h y = record { did = did_mark (steps_out j xs) s t 
 
 -- ---- the closer
 
-closer_one : (l : ℕ) (o : Bool) (n m : ℕ) → 1 ≡ segments_in (closer l o n m ∷ [])
-unfolding segments_in
-closer_one l o n m = refl
-
 module _ (j : Job) (l children count : ℕ) (a : Bool) (ea : a ≡ ((loop_of (outline_of j) l).ends && (loop_of (outline_of j) l).controlled)) where
   pub takes_closer : {s : State} {n : Counts} {number : ℕ} {d d' g g' : List ℕ} (o : Bool) → o ≡ opened (outline_of j) l → a ≡ true → number ≡ get_or s.counter l 0 → l < length s.counter
       → ((f p : List ℕ) → DidNumber l (closer_out j l o children (count + 1)) number number s.counts n d d' g g' f f p p)
       → (body : List Step) (f p : List ℕ) → count ≡ segments_in body
       → Took j (close_steps (outline_of j) l children body) s (record { state = state_with s.high s.counter n; written = 1 }) d d' g g' f f p p
-  unfolding close_steps
+  unfolding close_steps segments_in
   takes_closer {s} {n} {number} {d} {d'} {g} {g'} o eo qa e h x body f p ec =
       let y : Did (closer_out j l o children (count + 1) (state_of s)) s (state_with s.high s.counter n) d d' g g' f f p p = rw (e, set-get_or s.counter l 0) at (did_number (closer_out j l o children (count + 1)) s l number e h (x f p)) in
       rw (← ea, ← eo, ← ec)
       (rw (qa, ← add-one count)
-      (took_one j (closer l o children (count + 1)) 1 (closer_one l o children (count + 1)) (rw (step_closer j l o children (count + 1) (state_of s)) y)))
+      (took_one j (closer l o children (count + 1)) 1 refl (rw (step_closer j l o children (count + 1) (state_of s)) y)))
 
   pub leaves_closer : {s : State} {d g : List ℕ} → a ≡ false → Small s
       → (body : List Step) (f p : List ℕ) → count ≡ segments_in body → Took j (close_steps (outline_of j) l children body) s (record { state = s; written = 0 }) d d g g f f p p

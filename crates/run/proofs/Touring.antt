@@ -11,7 +11,7 @@ use Rattle.lent.specs.Fit.{cap}
 use Rattle.nest.specs.Lists.{each}
 use Rattle.nest.specs.OfJob.{outline_of}
 use Rattle.nest.specs.Ready.{outline_at}
-use Rattle.nest.proofs.Bridge.{loop_count_is}
+use Rattle.nest.proofs.Bridge.{loop_count_is, roots_is}
 use Rattle.nest.proofs.Scan.{each_at, each_past}
 use Rattle.walk.specs.declared.Context.{Context as Kept}
 use Rattle.walk.specs.Instances.{outside}
@@ -26,12 +26,8 @@ use Rattle.emit.specs.Fold.{steps_out}
 use Rattle.emit.specs.Did.{state_of, Did, Fit, Small}
 use Rattle.run.specs.declared.Visited.{Visited}
 use Rattle.run.specs.Went.{Walks, Went}
-use Rattle.run.proofs.Reading.{root_small}
+use Rattle.nest.proofs.Small.{root_small}
 use Rattle.run.proofs.Along.{Far, far_none, far_next, far_end}
-
-roots_are : (j : Job) → (outline_of j).roots ≡ j.spec.roots
-unfolding outline_of
-roots_are j = refl
 
 -- a loop of the list of roots, outside of all loops
 pub walks_root : {b : List ℕ} {s : State} (c : Kept) (k l : ℕ) → c ≡ kept_outside → Passed b → Small s → k < length (job_of b).spec.roots → l ≡ get_or (job_of b).spec.roots k 0
@@ -39,7 +35,7 @@ pub walks_root : {b : List ℕ} {s : State} (c : Kept) (k l : ℕ) → c ≡ kep
 walks_root {b} c k l e w h q y = record {
   small = h;
   sound = rw (e, stands_outside) (sound_outside (outline_at b));
-  loop = rw y (root_small b w k q);
+  loop = root_small b w k _ l refl q y;
 }
 
 module _ (j : Job) (h : ℕ) where
@@ -56,14 +52,14 @@ module _ (j : Job) (h : ℕ) where
   module _ {s t : State} {d d₁ g g₁ f f₁ p p₁ : List ℕ} (count k : ℕ) (e : count ≡ length j.spec.roots) (a : RootsTo k s t d d₁ g g₁ f f₁ p p₁) where
     pub tour_end : h ≡ length j.spec.loops → count ≤ k → Did (steps_out j (tour (outline_of j)) (state_of s)) s t d d₁ g g₁ f f₁ p p₁
     tour_end z b =
-        let q : length (outline_of j).roots ≤ k = rw (roots_are j) (omega (arith, e, b)) in
+        let q : length (outline_of j).roots ≤ k = rw (roots_is j) (omega (arith, e, b)) in
         rw (loop_count_is j, ← z) (far_end j (tour_to (outline_of j) h) (rw (each_past one (outline_of j).roots k q) at a))
 
     module _ (l : ℕ) (c : Kept) (b : k < count) (y : l ≡ get_or j.spec.roots k 0) (o : c ≡ kept_outside) where
       split : Far j (tour_to (outline_of j) h) (visits (outline_of j) h l (context_by c) ++ each one (drop (k + 1) (outline_of j).roots)) s t d d₁ g g₁ f f₁ p p₁
       split =
-          let q : k < length (outline_of j).roots = rw (roots_are j) (omega (arith, e, b)) in
-          let z : get_or (outline_of j).roots k 0 ≡ l = ap (λ (xs : List ℕ). get_or xs k 0) (roots_are j) ∙ sym y in
+          let q : k < length (outline_of j).roots = rw (roots_is j) (omega (arith, e, b)) in
+          let z : get_or (outline_of j).roots k 0 ≡ l = ap (λ (xs : List ℕ). get_or xs k 0) (roots_is j) ∙ sym y in
           rw (o, stands_outside) (rw (each_at one (outline_of j).roots k 0 q, z) at a)
 
       pub root_within : h ≡ length j.spec.loops → segments_in (tour (outline_of j)) < cap → segments_in (visits (outline_of j) h l (context_by c)) < cap

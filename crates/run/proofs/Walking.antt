@@ -26,7 +26,7 @@ use Rattle.nest.proofs.Placing.{rows_few}
 use Rattle.walk.specs.Instances.{Context, instances}
 use Rattle.walk.specs.Tour.{Step, enters, segments_in, own_row, stop_at, segment_steps, item_steps, body_steps, children, close_steps, instance_steps, visits}
 use Rattle.walk.proofs.TourLaws.{steps_of, instance_steps_lem, no_item, children_from, children_all, children_segment, children_loop, children_end, visits_deep, inst_deep}
-use Rattle.walk.proofs.Counts.{segments_append}
+use Rattle.walk.proofs.Counts.{enters_count, segments_append}
 use Rattle.emit.specs.declared.state.State.{State}
 use Rattle.emit.specs.declared.state.Taken.{Taken}
 use Rattle.emit.specs.Fold as F
@@ -34,7 +34,7 @@ use Rattle.emit.specs.Fold.{step_out, steps_out}
 use Rattle.emit.specs.Did.{state_of, Did, Fit, Small, Took}
 use Rattle.emit.proofs.TookLaws.{did_steps, took_none}
 use Rattle.run.specs.declared.Visited.{Visited}
-use Rattle.run.specs.Went.{Went, item_loop, item_count}
+use Rattle.run.specs.Went.{Went, item_count}
 use Rattle.nest.proofs.Bridge.{order_length, order_item}
 use Rattle.run.proofs.Few.{instances_few, children_few}
 use Rattle.run.proofs.Along.{Along, along_none, along_next, along_end, along_room}
@@ -48,10 +48,6 @@ within xs e h = omega arith
 enters_first : (j : Job) (l : ℕ) (xs : List Step) (s : F.State) → steps_out j (enters l ∷ xs) s ≡ steps_out j xs s
 unfolding steps_out step_out
 enters_first j l xs s = refl
-
-enters_count : (l : ℕ) (xs : List Step) → segments_in (enters l ∷ xs) ≡ segments_in xs
-unfolding segments_in
-enters_count l xs = omega arith
 
 stop_count : (l : ℕ) (own : Option Row) → segments_in (stop_at l own) ≡ 0
 unfolding segments_in
@@ -104,9 +100,6 @@ module _ (j : Job) (h l : ℕ) (c : Context) where
         record { did = rw (whole_is, enters_first j l (body ++ closing) (state_of s)) z; written = omega (arith, whole_count, w.took.written, closed.written) }
 
 -- ---- one item
-
-pub loop_small : (x : asked.Item) (k : LoopId) → x ≡ item.Loop k → item_loop (item_in (item_of x)) < 32 → k.0 < 32
-loop_small x k e r = rw e at r
 
 module _ (o : Outline) (h l : ℕ) (c : Context) (x : asked.Item) where
   abbrev steps : List Step
@@ -237,9 +230,6 @@ module _ (j : Job) (h l : ℕ) (c : Context) (cs : List Context) (e : cs ≡ ins
 
     pub fewer : n + 1 ≤ length cs
     fewer = omega (arith, ahead.instances)
-
-    pub shorter : length rest < length left
-    shorter = omega (arith, ap length y)
 
     module _ {r : Taken} {d₂ g₂ f₂ p₂ : List ℕ} (u : Took j (steps_of (outline_of j) (h - 1) l x) t r d₁ d₂ g₁ g₂ f₁ f₂ p₁ p₂) where
       pub sum_fits : segments_in (each_of j h l cs) < cap → w + r.written < cap

@@ -28,11 +28,6 @@ pub record Went (j : Job) (xs : List Step) (n : ℕ) (s t : State) (r : Visited)
   pub took : Took j xs s (record { state = t; written = r.written }) d d' g g' f f' p p'
   pub instances : r.instances ≡ n
 
--- the loop that an item enters
-abbrev pub item_loop : Item → ℕ
-item_loop (segment i) = 0
-item_loop (loop k) = k
-
 -- how many child instances an item gives
 abbrev pub item_count : (ℕ → Context → List Context) → Context → Item → ℕ
 item_count inner c (segment i) = 0

@@ -1,7 +1,7 @@
 // The walk that writes: every instance of a loop that the rows give, its segments and child loops in the order of the layout, and its closer.
 #![tactic(auto)]
 
-ghost use Rattle.std.specs.Prelude.{◌≡◌, ◌<◌, length};
+ghost use Rattle.std.specs.Prelude.{◌<◌, length};
 ghost use Rattle.lent.specs.Fit.{cap};
 ghost use Rattle.nest.specs.Lists.{each};
 ghost use Rattle.nest.specs.Outline.{order_of};
@@ -9,7 +9,7 @@ ghost use Rattle.walk.specs.Contexts.{context_by};
 ghost use Rattle.walk.specs.Instances as I;
 ghost use Rattle.walk.specs.Tour as T;
 ghost use Rattle.emit.specs.Fold.{steps_out};
-ghost use Rattle.emit.specs.Did.{state_of, Did, Small, Took};
+ghost use Rattle.emit.specs.Did.{state_of, Did, Small};
 ghost use Rattle.run.specs.Went.{Walks, Went};
 ghost use Rattle.nest.specs.Job.{outline_by, job_by};
 

@@ -1,5 +1,5 @@
 // A planned segment of an instance, written in the state as it stands.
-ghost use Rattle.std.specs.Prelude.{◌≡◌, [], ◌∷◌, List, ℕ, ◌<◌};
+ghost use Rattle.std.specs.Prelude.{[], ◌∷◌, List, ℕ, ◌<◌};
 ghost use Rattle.lent.specs.Fit.{cap};
 ghost use Rattle.walk.specs.Contexts.{context_by};
 ghost use Rattle.walk.specs.Tour.{opener, segments_in, segment_steps, repeat_steps};

@@ -13,7 +13,7 @@ use Rattle.codec.specs.Forms.{opt_c, num_c, byte_c}
 use Rattle.codec.specs.Skip.{skip, steps, count_at, tag_at, Is, skip_le}
 use Rattle.codec.specs.Field.{ListIs, is_list, is_in, is_none, is_some, count_list, is_le}
 use Rattle.codec.specs.Ways.{tag_in, tag_case}
-use Rattle.codec.specs.Limits.{any, any_of}
+use Rattle.codec.specs.Limits.{any, alone, any_of}
 use Rattle.format.specs.Words.{if_some, present}
 use Rattle.says.specs.Says.{Says, Rest}
 
@@ -24,11 +24,7 @@ both r x y s ts h i j = h ∙ rw (i, j)
 
 pub only : (x s : Bool) → x ≡ s → x ≡ any (s ∷ [])
 unfolding any
-only x s h = h ∙ go s
-  where
-    go : (t : Bool) → t ≡ pick t true false
-    go true = refl
-    go false = refl
+only x s h = h ∙ alone s
 
 -- ---- numbers and counts
 pub number_is : (b : List ℕ) (e n p q v : ℕ) → n ≡ count_at b p e → p ≡ q → Is num_c b e q v → n ≡ v

@@ -3,7 +3,7 @@
 use Prim.Native.Nat.{ℕ, zero, suc, ◌+◌, ◌-◌, ◌≤◌, ◌<◌}
 use mathlib.Core.Path.{◌≡◌, refl, sym, ap, ◌∙◌}
 use mathlib.Core.List.{List, [], ◌∷◌, ◌++◌, append_assoc, append-nil}
-use mathlib.Core.Bool.{Bool, true, false}
+use mathlib.Core.Bool.{Bool, true, false, true≢false}
 use native.Mathlib.Omega.{arith}
 use lib.ListN.{length, replicate, length-append, length-replicate, replicate-append-replicate}
 use lib.Dec.{ltb}
@@ -19,7 +19,6 @@ use Rattle.segment.specs.Calls.{Group, next, finish}
 use Rattle.segment.proofs.Strokes.{anew, finished_some, finished_none}
 use Rattle.segment.proofs.Pending.{replicate_snoc, behind_empty, inside, components, inside_step, inside_finish, Room, room_first, room_next}
 use Rattle.segment.proofs.Groups.{texts_some, texts_none}
-use Rattle.segment.proofs.Rows.{never}
 
 -- `done` are the elements so far, filled or empty
 pub record Elements (s : Separators) (id : List ℕ) (done : List (List ℕ)) (pen : Pen) (written : List ℕ) : Type 0 where
@@ -84,7 +83,7 @@ elements_empty s id done pen r written h e =
 pub elements_filled : (s : Separators) (id : List ℕ) (done : List (List ℕ)) (pen r : Pen) (written t : List ℕ) → Elements s id done pen written → is_empty t ≡ false
     → r.elements ≡ length done + 1
     → Elements s id (done ++ (t ∷ [])) r (written ++ (replicate (length done + 1 - pen.elements) s.element ++ t))
-elements_filled s id done pen r written [] h f e = absurd (never f)
+elements_filled s id done pen r written [] h f e = absurd (true≢false f)
 elements_filled s id done pen r written (x ∷ xs) h f e = record {
   text = rw (trimmed_filled done x xs, h.text) line;
   standing = rw (trimmed_filled done x xs) (e ∙ sym count);

@@ -1,7 +1,7 @@
 -- Parts that come in the order of their places are written as they come: what is stored is their joining.
 use Prim.Native.Nat.{ℕ, zero, suc, ◌+◌, ◌-◌, ◌≤◌, ◌<◌, max}
 use mathlib.Core.Path.{◌≡◌, refl, sym, ◌∙◌}
-use mathlib.Core.Bool.{Bool, true, false}
+use mathlib.Core.Bool.{Bool, true, false, true≢false}
 use mathlib.Core.List.{List, [], ◌∷◌, ◌++◌}
 use native.Mathlib.Omega.{arith}
 use lib.Dec.{eqb, ltb}
@@ -14,7 +14,6 @@ use Rattle.segment.specs.declared.Pen.{Pen}
 use Rattle.segment.specs.Parts.{Part, pick, is_empty, component_of, highest, last_element, last_component, here, after, component_text, joined}
 use Rattle.segment.specs.Pen.{nothing, placed, finished, opened, closing, due, Penned}
 use Rattle.segment.specs.Calls.{Group, next, finish, Row, group, close, stays, Rises, Fed, done, part}
-use Rattle.segment.proofs.Rows.{never}
 use Rattle.segment.proofs.Runs.{run_stored}
 
 -- ---- lengths and places
@@ -175,7 +174,7 @@ split {s} {t = t} p c (part {x = x} {xs = xs} {pen = pen} {r = r} {d = d} {d₁ 
         let v = ih q in
         record { mid = v.mid; doc = v.doc; first = rw e (part w v.first); inside = rw e (q, h.0.2 q, v.inside); second = rw e v.second; rises = rw e v.rises }
     go false e ih =
-        let n : x.element ≡ p → ⊥ = λ q. never (sym (eq-eqb x.element p q) ∙ e) in
+        let n : x.element ≡ p → ⊥ = λ q. true≢false (sym (eq-eqb x.element p q) ∙ e) in
         record { mid = pen; doc = d; first = rw e done; inside = rw e tt; second = rw e (part w f); rises = rw e ((ne_lt n, h.0.1, λ y. omega (arith, h.0.1)), h.1) }
 
 fed_row : {s : Separators} {parts : List Part} {pen t : Pen} {d d₁ d₂ : List ℕ} {e : ℕ} (n q c last : ℕ) → length parts ≤ n → Fed s parts pen d t d₁ → Rises q c parts → pen.at ≤ cap → length d ≤ cap

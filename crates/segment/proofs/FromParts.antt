@@ -1,5 +1,5 @@
 -- Segments joined of parts whose places rise and whose texts hold no separators read as those texts, each at its place.
-use Prim.Native.Nat.{ℕ, zero, suc, ◌+◌, ◌≤◌, ◌<◌, max}
+use Prim.Native.Nat.{ℕ, zero, suc, ◌+◌, ◌<◌, max}
 use mathlib.Core.Path.{◌≡◌, refl, sym, ap, ◌∙◌, subst}
 use mathlib.Core.Logic.{◌≢◌}
 use mathlib.Core.Bool.{Bool, true, false}
@@ -16,6 +16,8 @@ use Rattle.segment.specs.Grammar.{Segment, All, Without, Plain, Apart, Reads, do
 use Rattle.segment.specs.Reading.{read_document}
 use Rattle.segment.specs.Places.{place, component, elements_at, Planned, written, Clear, AsPlanned, Match}
 use Rattle.segment.specs.ReadParts.{Due, joined_all, text_of, PlainAt, ComposedAt, RisesFrom, Free, ReadAs}
+use Rattle.segment.proofs.Groups.{texts_same}
+use Rattle.segment.proofs.Rows.{highest_tail, component_past}
 use Rattle.segment.proofs.Cuts.{all_both}
 use Rattle.segment.proofs.OneReading.{reads_found}
 use Rattle.segment.proofs.AtPlaces.{elements_each, elements_all_at, component_empty, components_plain, planned_reads, planned_once_lem, planned_everywhere, as_planned}
@@ -78,14 +80,6 @@ parts_all P p (x ∷ xs) h = go (eqb x.element p) (parts_all P p xs h.1)
 
 -- ---- the elements, by place
 
-texts_same : (f g : ℕ → List ℕ) (n p : ℕ) → ((q : ℕ) → p ≤ q → f q ≡ g q) → texts f n p ≡ texts g n p
-unfolding texts
-texts_same f g zero p h = refl
-texts_same f g (suc n) p h =
-    let a : f p ≡ g p = h p (omega arith) in
-    let b : texts f n (p + 1) ≡ texts g n (p + 1) = texts_same f g n (p + 1) (λ q k. h q (omega arith)) in
-    cc
-
 texts_shift : (f g : ℕ → List ℕ) (n p : ℕ) → ((i : ℕ) → f (p + i) ≡ g (suc i)) → texts f n p ≡ elements_at g n
 unfolding texts elements_at
 texts_shift f g zero p h = refl
@@ -128,14 +122,10 @@ highest_here f x xs h = go x.text h
     go [] k = refl
     go (y ∷ t) k = absurd (omega arith)
 
-highest_rest : (f : Part → ℕ) (x : Part) (xs : List Part) → highest f xs ≤ highest f (x ∷ xs)
-unfolding highest
-highest_rest f x xs = omega arith
-
 parts_unfilled : (p : ℕ) (xs : List Part) → last_element xs < p → Unfilled (parts_at p xs)
 unfolding parts_at
 parts_unfilled p [] h = tt
-parts_unfilled p (x ∷ xs) h = go (eqb x.element p) refl (parts_unfilled p xs (omega (arith, highest_rest (λ y. y.element) x xs)))
+parts_unfilled p (x ∷ xs) h = go (eqb x.element p) refl (parts_unfilled p xs (omega (arith, highest_tail (λ y. y.element) x xs)))
   where
     go : (b : Bool) → eqb x.element p ≡ b → Unfilled (parts_at p xs) → Unfilled (pick b (x ∷ parts_at p xs) (parts_at p xs))
     go true q ih = (highest_here (λ y. y.element) x xs (omega (arith, eqb-true x.element p q)), ih)
@@ -160,15 +150,6 @@ component_unfilled (x ∷ xs) c u = go (eqb (component_of x) c) (component_unfil
     go : (b : Bool) → component_text xs c ≡ [] → pick b x.text (component_text xs c) ≡ []
     go true ih = u.0
     go false ih = ih
-
-component_past : (xs : List Part) (c : ℕ) → last_component xs < c → component_text xs c ≡ []
-unfolding component_text
-component_past [] c h = refl
-component_past (x ∷ xs) c h = go (eqb (component_of x) c) refl (component_past xs c (omega (arith, highest_rest component_of x xs)))
-  where
-    go : (b : Bool) → eqb (component_of x) c ≡ b → component_text xs c ≡ [] → pick b x.text (component_text xs c) ≡ []
-    go true q ih = highest_here component_of x xs (omega (arith, eqb-true (component_of x) c q))
-    go false q ih = ih
 
 -- ---- an element's text
 

@@ -23,6 +23,11 @@ pub texts_none : (f : ℕ → List ℕ) (k c : ℕ) → k < c → texts f (k + 1
 unfolding texts
 texts_none f k c h = let e : k + 1 - c ≡ 0 = omega arith in ap (λ (n : ℕ). texts f n c) e
 
+pub texts_same : (f g : ℕ → List ℕ) (n p : ℕ) → ((q : ℕ) → p ≤ q → f q ≡ g q) → texts f n p ≡ texts g n p
+unfolding texts
+texts_same f g zero p h = refl
+texts_same f g (suc n) p h = rw (h p (omega arith)) (ap (λ (l : List (List ℕ)). g p ∷ l) (texts_same f g n (p + 1) (λ q i. h q (omega arith))))
+
 -- element p from component c on, of which f gives the texts up to the k-th, then the elements behind it
 unfoldable pub group_rest : Separators → ℕ → ℕ → (ℕ → List ℕ) → Pen → ℕ → ℕ → List (List ℕ) → List ℕ
 group_rest s last k f pen p c elements =

@@ -10,7 +10,7 @@ use Rattle.segment.specs.Parts.{Part, pick, is_empty, component_of, highest, las
 use Rattle.segment.specs.declared.Separators.{Separators}
 use Rattle.segment.specs.declared.Pen.{Pen}
 use Rattle.segment.specs.Calls.{numbered, up_to, Group, Row, group, stays, stands_at, first_at, zero_free}
-use Rattle.segment.proofs.Rows.{here_other, after_other}
+use Rattle.segment.proofs.Rows.{here_same, here_other, after_same, after_other}
 
 pub up_some : (part : ℕ → Part) (i e : ℕ) → i < e → up_to part i e ≡ part i ∷ up_to part (i + 1) e
 unfolding numbered
@@ -39,14 +39,6 @@ pub record Scan (part : ℕ → Part) (p e i j : ℕ) : Type 0 where
 
 pub scan_start : (part : ℕ → Part) (p e i : ℕ) → Scan part p e i i
 scan_start part p e i = record { ordered = omega arith; those = ap (λ (l : List Part). l ++ here p (up_to part i e)) (sym (up_none part i i (omega arith))); others = refl }
-
-here_same : (p : ℕ) (x : Part) (xs : List Part) → x.element ≡ p → here p (x ∷ xs) ≡ x ∷ here p xs
-unfolding here
-here_same p x xs h = rw (eq-eqb x.element p h)
-
-after_same : (p : ℕ) (x : Part) (xs : List Part) → x.element ≡ p → after p (x ∷ xs) ≡ after p xs
-unfolding after
-after_same p x xs h = rw (eq-eqb x.element p h)
 
 pub scan_next : (part : ℕ → Part) (p e i j : ℕ) → Scan part p e i j → j < e → (part j).element ≡ p → Scan part p e i (j + 1)
 scan_next part p e i j s h q = record {

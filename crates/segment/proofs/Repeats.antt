@@ -2,8 +2,9 @@
 use Prim.Native.Nat.{ℕ, zero, suc, ◌+◌, ◌-◌, ◌≤◌, ◌<◌, max}
 use mathlib.Core.Path.{◌≡◌, refl, sym, ap, ◌∙◌}
 use mathlib.Core.List.{List, [], ◌∷◌, ◌++◌}
-use mathlib.Core.Bool.{Bool, true, false}
+use mathlib.Core.Bool.{Bool, true, false, true≢false}
 use native.Mathlib.Omega.{arith}
+use native.Mathlib.Nat.{add-sub_cancel}
 use Rattle.std.specs.Prelude.{Option, None, Some}
 use lib.ListN.{get_or, replicate}
 use lib.Dec.{eqb, ltb, eqb-zero-suc, eqb-suc-zero, eqb-suc-suc}
@@ -15,9 +16,9 @@ use Rattle.segment.specs.Parts.{Part, pick, is_empty, or_one, component_of, rank
 use Rattle.segment.specs.Pen.{closing}
 use Rattle.segment.specs.Calls.{stays, stands_at, first_at, or_text, repeat_text, component_in, last_component_at, zero_free}
 use Rattle.segment.proofs.Pending.{to_come, come_open, come_close, come_skip}
-use Rattle.segment.proofs.Groups.{texts_some, texts_none, group_rest, group_start}
+use Rattle.segment.proofs.Groups.{texts_some, texts_none, texts_same, group_rest, group_start}
 use Rattle.std.proofs.Math.Arith.{lt_of_le-ne}
-use Rattle.segment.proofs.Rows.{never, highest_head, element_text_lem, elements_empty}
+use Rattle.segment.proofs.Rows.{not_counted, highest_head, element_text_lem, elements_empty}
 use Rattle.segment.proofs.Sorting.{AllLow, InOrder, sorted_order, stands, sorted_first, sorted_highest, behind_true, behind_false}
 
 -- ---- the texts of element p
@@ -41,11 +42,7 @@ none_high : (p : ℕ) (x : Part) (xs : List Part) → p < x.element → AllLow x
 unfolding highest
 none_high p x [] h a = refl
 none_high p x (y ∷ ys) h a =
-    rw (ne_eqb y.element p (λ e. omega (arith, a.0.elements)), none_high p x ys h a.1) (zero_pick (is_empty y.text))
-  where
-    zero_pick : (t : Bool) → max (pick t 0 0) 0 ≡ 0
-    zero_pick true = omega arith
-    zero_pick false = omega arith
+    rw (ne_eqb y.element p (λ e. omega (arith, a.0.elements)), none_high p x ys h a.1) (not_counted (is_empty y.text) 0)
 
 -- behind a part with components no plain part stands
 none_plain : (x : Part) (xs : List Part) → 0 < rank x.component → AllLow x xs → first_at x.element 0 xs ≡ None
@@ -137,16 +134,12 @@ unfolding here highest
 here_last [] p o q = refl
 here_last (x ∷ xs) p o q = go (eqb x.element p) refl (here_last xs p o.1 (starts_tail p x xs q o.0))
   where
-    zero_pick : (t : Bool) → 0 ≡ max (pick t 0 0) 0
-    zero_pick true = omega arith
-    zero_pick false = omega arith
-
     go : (t : Bool) → eqb x.element p ≡ t → last_component (here p xs) ≡ highest (component_in p) xs
         → last_component (pick t (x ∷ here p xs) []) ≡ max (pick (is_empty x.text) 0 (pick t (component_of x) 0)) (highest (component_in p) xs)
     go true e ih = ap (λ (n : ℕ). max (pick (is_empty x.text) 0 (component_of x)) n) ih
     go false e ih =
         let n : p < x.element = lt_of_le-ne q (λ f. eqb-false _ _ e (sym f)) in
-        rw (none_high p x xs n o.0) (zero_pick (is_empty x.text))
+        rw (none_high p x xs n o.0) (sym (not_counted (is_empty x.text) 0))
 
 -- ---- what is used up at p is missed nowhere else
 
@@ -165,13 +158,9 @@ unfolding after highest
 after_high [] p q h = refl
 after_high (x ∷ xs) p q h = go (eqb x.element p) refl (after_high xs p q h)
   where
-    zero_pick : (t : Bool) (n : ℕ) → n ≡ max (pick t 0 0) n
-    zero_pick true n = omega arith
-    zero_pick false n = omega arith
-
     go : (t : Bool) → eqb x.element p ≡ t → highest (component_in q) (after p xs) ≡ highest (component_in q) xs
         → highest (component_in q) (pick t (after p xs) (x ∷ xs)) ≡ max (pick (is_empty x.text) 0 (component_in q x)) (highest (component_in q) xs)
-    go true e ih = ih ∙ rw (ne_eqb x.element q (λ f. h (sym (eqb-true _ _ e) ∙ f))) (zero_pick (is_empty x.text) (highest (component_in q) xs))
+    go true e ih = ih ∙ rw (ne_eqb x.element q (λ f. h (sym (eqb-true _ _ e) ∙ f))) (sym (not_counted (is_empty x.text) (highest (component_in q) xs)))
     go false e ih = refl
 
 after_order : (p : ℕ) (rest : List Part) → InOrder rest → InOrder (after p rest)
@@ -193,11 +182,6 @@ after_starts p (x ∷ xs) o q = go (eqb x.element p) refl (after_starts p xs o.1
     go false e ih = let n : p < x.element = lt_of_le-ne q (λ f. eqb-false _ _ e (sym f)) in omega arith
 
 -- ---- the elements of a list whose places never fall
-
-pub texts_same : (f g : ℕ → List ℕ) (n p : ℕ) → ((q : ℕ) → p ≤ q → f q ≡ g q) → texts f n p ≡ texts g n p
-unfolding texts
-texts_same f g zero p h = refl
-texts_same f g (suc n) p h = rw (h p (omega arith)) (ap (λ (l : List (List ℕ)). g p ∷ l) (texts_same f g n (p + 1) (λ q i. h q (omega arith))))
 
 element_same : (s : Separators) (xs ys : List Part) (p : ℕ) → ((r : ℕ) → first_at p r xs ≡ first_at p r ys) → highest (component_in p) xs ≡ highest (component_in p) ys
     → repeat_element s xs p ≡ repeat_element s ys p
@@ -239,7 +223,7 @@ sorted_starts (x ∷ xs) h = go (ltb 0 x.element) refl (sorted_starts xs) h
   where
     go : (t : Bool) → ltb 0 x.element ≡ t → (zero_free xs ≡ true → starts_from 1 (sorted xs)) → pick t (zero_free xs) false ≡ true → starts_from 1 (insert x (sorted xs))
     go true e ih k = insert_starts x (sorted xs) (ltb-true _ _ e) (ih k)
-    go false e ih k = absurd (never (sym k))
+    go false e ih k = absurd (true≢false (sym k))
 
 -- a list that begins at element 0
 abbrev Zero : List Part → Type 0
@@ -266,7 +250,7 @@ insert_keeps x (y ∷ ys) z = go (not_behind x y) refl
 
 sorted_zero : (parts : List Part) → zero_free parts ≡ false → Zero (sorted parts)
 unfolding zero_free sorted
-sorted_zero [] h = absurd (never h)
+sorted_zero [] h = absurd (true≢false h)
 sorted_zero (x ∷ xs) h = go (ltb 0 x.element) refl (sorted_zero xs) h
   where
     go : (t : Bool) → ltb 0 x.element ≡ t → (zero_free xs ≡ false → Zero (sorted xs)) → pick t (zero_free xs) false ≡ false → Zero (insert x (sorted xs))
@@ -282,9 +266,6 @@ zero_stays (x ∷ xs) z = lt-ltb x.element 1 (omega arith)
 abbrev pub repeat_rest : Separators → ℕ → ℕ → ℕ → List Part → List ℕ
 repeat_rest s last w p parts = to_come s last w p (texts (repeat_element s parts) (last + 1 - p) p)
 
-one_off : (n : ℕ) → n ≡ n + 1 - 1
-one_off n = omega arith
-
 -- after the identifier
 pub repeat_open : (s : Separators) (id : List ℕ) (parts : List Part) → zero_free parts ≡ true
     → joined s id (sorted parts) ≡ id ++ repeat_rest s (last_element parts) 0 1 parts
@@ -297,7 +278,7 @@ repeat_open s id parts h =
     ∙ texts_same (repeat_element s (sorted parts)) (repeat_element s parts) n 1 (λ q _.
     element_same s (sorted parts) parts q (λ r. sorted_first q r parts) (sorted_highest (component_in q) parts)))
     ∙ come_open s id n (texts (repeat_element s parts) n 1)
-    ∙ ap (λ (m : ℕ). id ++ to_come s n 0 1 (texts (repeat_element s parts) m 1)) (one_off n)
+    ∙ ap (λ (m : ℕ). id ++ to_come s n 0 1 (texts (repeat_element s parts) m 1)) (sym (add-sub_cancel n 1))
 
 -- a part at element 0 stands in front of all others, and nothing but separators is written
 pub repeat_stuck : (s : Separators) (id : List ℕ) (pen : Pen) (parts : List Part) → zero_free parts ≡ false → pen.elements ≡ 0
@@ -308,7 +289,7 @@ repeat_stuck s id pen parts h e =
     ap (λ (m : ℕ). segment_bytes s id (elements_from s m 1 (sorted parts))) (sorted_highest (λ x. x.element) parts)
     ∙ ap (λ (l : List (List ℕ)). segment_bytes s id l) (elements_empty s n 1 (sorted parts) (zero_stays (sorted parts) (sorted_zero parts h)))
     ∙ come_open s id n (replicate n [])
-    ∙ ap (λ (m : ℕ). id ++ to_come s n 0 1 (replicate m [])) (one_off n)
+    ∙ ap (λ (m : ℕ). id ++ to_come s n 0 1 (replicate m [])) (sym (add-sub_cancel n 1))
     ∙ ap (λ (l : List ℕ). id ++ l) (ap (λ (w : ℕ). to_come s n w 1 (replicate (n + 1 - 1) [])) (sym e) ∙ come_close s pen n 1 (omega arith) (omega arith))
 
 -- the element at position p

@@ -2,20 +2,28 @@
 use Prim.Native.Nat.{ℕ, zero, suc, ◌+◌, ◌-◌, ◌≤◌, ◌<◌, max}
 use mathlib.Core.Path.{◌≡◌, refl, sym, ap, ◌∙◌}
 use mathlib.Core.List.{List, [], ◌∷◌, ◌++◌, append-nil}
-use mathlib.Core.Bool.{Bool, true, false}
+use mathlib.Core.Bool.{Bool, true, false, true≢false}
 use native.Mathlib.Omega.{arith}
+use native.Mathlib.Nat.{add-sub_cancel}
 use Rattle.std.specs.Prelude.{Option, None, Some}
 use lib.ListN.{replicate}
 use lib.Dec.{eqb, leb}
-use borrow.Author.Tests.{eqb-true, ne_eqb, lt-ltb, leb-true, leb-false, ltb-true}
+use borrow.Author.Tests.{eqb-true, eq-eqb, ne_eqb, lt-ltb, leb-true, leb-false, ltb-true}
 use Rattle.segment.specs.declared.Separators.{Separators}
 use Rattle.segment.specs.declared.Pen.{Pen}
 use Rattle.segment.specs.Joining.{behind, component_bytes}
-use Rattle.segment.specs.Parts.{Part, pick, is_empty, or_one, is_plain, component_of, highest, last_element, last_component, here, after, all_plain, first_text, component_text, texts, element_text, elements_from, elements_of, joined}
+use Rattle.segment.specs.Parts.{Part, rank, pick, is_empty, or_one, is_plain, component_of, highest, last_element, last_component, here, after, all_plain, first_text, component_text, texts, element_text, elements_from, elements_of, joined}
 use Rattle.segment.specs.Pen.{finished, closing}
 use Rattle.segment.specs.Calls.{stays}
 use Rattle.segment.proofs.Pending.{to_come, come_open, come_past, come_close, come_skip}
 use Rattle.segment.proofs.Groups.{group_rest, group_start, group_past, Among, among_start, after_finish}
+
+-- a component's rank tells it
+pub rank_same : (a b : Option ℕ) → rank a ≡ rank b → a ≡ b
+rank_same None None e = refl
+rank_same None (Some c) e = absurd (omega arith)
+rank_same (Some c) None e = absurd (omega arith)
+rank_same (Some c) (Some d) e = let z : c ≡ d = omega arith in ap {B = Option ℕ} Some z
 
 -- ---- the highest number of a filled part
 
@@ -27,18 +35,20 @@ pub highest_tail : (f : Part → ℕ) (x : Part) (xs : List Part) → highest f 
 unfolding highest
 highest_tail f x xs = omega arith
 
-pub never : true ≡ false → ⊥
-never e = let z : ◌≡◌ {A = ℕ} 0 1 = cc in omega arith
+-- a part with the number 0 does not count, filled or not
+pub not_counted : (t : Bool) (n : ℕ) → max (pick t 0 0) n ≡ n
+not_counted true n = omega arith
+not_counted false n = omega arith
 
 -- ---- one element: plain or not, it is its components up to the last filled
 
 pub empty_is : (l : List ℕ) → is_empty l ≡ true → l ≡ []
 empty_is [] e = refl
-empty_is (x ∷ xs) e = absurd (never (sym e))
+empty_is (x ∷ xs) e = absurd (true≢false (sym e))
 
 component_filled : (xs : List Part) (c : ℕ) → is_empty (component_text xs c) ≡ false → c ≤ last_component xs
 unfolding component_text
-component_filled [] c h = absurd (never h)
+component_filled [] c h = absurd (true≢false h)
 component_filled (x ∷ xs) c h = go (eqb (component_of x) c) refl (component_filled xs c) h
   where
     go : (t : Bool) → eqb (component_of x) c ≡ t → (is_empty (component_text xs c) ≡ false → c ≤ last_component xs)
@@ -61,7 +71,7 @@ plain_first (x ∷ xs) h = go x.component refl h
   where
     go : (o : Option ℕ) → x.component ≡ o → pick (is_plain o) (all_plain xs) false ≡ true → x.text ≡ pick (eqb (or_one x.component) 1) x.text (component_text xs 1)
     go None e k = rw e
-    go (Some c) e k = absurd (never (sym k))
+    go (Some c) e k = absurd (true≢false (sym k))
 
 plain_last : (xs : List Part) → all_plain xs ≡ true → last_component xs ≤ 1
 unfolding all_plain highest
@@ -75,7 +85,7 @@ plain_last (x ∷ xs) h = go x.component refl (plain_last xs) h
     go : (o : Option ℕ) → x.component ≡ o → (all_plain xs ≡ true → last_component xs ≤ 1) → pick (is_plain o) (all_plain xs) false ≡ true
         → max (pick (is_empty x.text) 0 (or_one x.component)) (last_component xs) ≤ 1
     go None e ih k = rw e (short (is_empty x.text) (last_component xs) (ih k))
-    go (Some c) e ih k = absurd (never (sym k))
+    go (Some c) e ih k = absurd (true≢false (sym k))
 
 single : (s : Separators) (xs : List Part) (k : ℕ) → last_component xs ≡ k → k ≤ 1 → component_text xs 1 ≡ component_bytes s (texts (component_text xs) k 1)
 unfolding component_bytes texts behind
@@ -144,10 +154,7 @@ pub row_open : (s : Separators) (id : List ℕ) (parts : List Part) → joined s
 unfolding joined elements_of
 row_open s id parts =
     come_open s id (last_element parts) (elements_from s (last_element parts) 1 parts)
-    ∙ ap (λ (n : ℕ). id ++ to_come s (last_element parts) 0 1 (elements_from s n 1 parts)) (one_off (last_element parts))
-  where
-    one_off : (n : ℕ) → n ≡ n + 1 - 1
-    one_off n = omega arith
+    ∙ ap (λ (n : ℕ). id ++ to_come s (last_element parts) 0 1 (elements_from s n 1 parts)) (sym (add-sub_cancel (last_element parts) 1))
 
 pub under_open : (pen : Pen) (parts : List Part) → pen.elements ≡ 0 → Under (last_element parts) pen 1 parts
 under_open pen parts e = record { below = omega arith; within = omega arith; covers = omega arith }
@@ -201,6 +208,14 @@ row_nothing s last w p rest h e = go (leb p last) refl
         rw (elements_none s last p rest k, elements_none s last (p + 1) (after p rest) k') (come_past s last w p k)
 
 -- ---- from group to group
+
+pub here_same : (p : ℕ) (x : Part) (xs : List Part) → x.element ≡ p → here p (x ∷ xs) ≡ x ∷ here p xs
+unfolding here
+here_same p x xs h = rw (eq-eqb x.element p h)
+
+pub after_same : (p : ℕ) (x : Part) (xs : List Part) → x.element ≡ p → after p (x ∷ xs) ≡ after p xs
+unfolding after
+after_same p x xs h = rw (eq-eqb x.element p h)
 
 pub here_other : (p : ℕ) (x : Part) (xs : List Part) → (x.element ≡ p → ⊥) → here p (x ∷ xs) ≡ []
 unfolding here

@@ -2,14 +2,13 @@
 use Prim.Native.Nat.{ℕ, ◌≤◌, ◌<◌, max}
 use mathlib.Core.Path.{◌≡◌, refl, sym, ap, ◌∙◌}
 use mathlib.Core.List.{List, [], ◌∷◌}
-use mathlib.Core.Bool.{Bool, true, false}
+use mathlib.Core.Bool.{Bool, true, false, true≢false}
 use native.Mathlib.Omega.{arith}
 use Rattle.std.specs.Prelude.{Option, Some}
 use lib.Dec.{eqb, ltb, leb}
 use borrow.Author.Tests.{eqb-true, eqb-false, leb-true, leb-false, ltb-true, ltb-false}
 use Rattle.segment.specs.Parts.{Part, pick, is_empty, rank, not_behind, insert, sorted, highest}
 use Rattle.segment.specs.Calls.{stands_at, first_at}
-use Rattle.segment.proofs.Rows.{never}
 
 -- ---- places in order
 
@@ -91,7 +90,7 @@ stands p r x h = go (eqb x.element p) refl h
   where
     go : (t : Bool) → eqb x.element p ≡ t → pick t (eqb (rank x.component) r) false ≡ true → (x.element ≡ p) × (rank x.component ≡ r)
     go true e k = (eqb-true _ _ e, eqb-true _ _ k)
-    go false e k = absurd (never (sym k))
+    go false e k = absurd (true≢false (sym k))
 
 insert_first : (p r : ℕ) (x : Part) (ys : List Part) → first_at p r (insert x ys) ≡ first_at p r (x ∷ ys)
 unfolding insert first_at

@@ -18,8 +18,8 @@ pub struct Separators {
     pub line_break: bool,
 }
 
-// A text: zeros, the first `count` of `bytes`, `len` bytes of the job from `start` on, spaces. No `texts::Text` with a `spec::ids::Stretch`, and
-// none in `held`, `begin` and `part`: this crate stands on `lent` alone and knows neither type.
+// A text: zeros, the first `count` of `bytes`, `len` bytes of the job from `start` on, spaces. An array with a count, since there is no heap. No
+// `texts::Text` with a `spec::ids::Stretch`, and none in `held`, `begin` and `part`: this crate stands on `lent` alone and knows neither type.
 #[derive(Clone, Copy)]
 pub struct Value {
     pub zeros: usize,
@@ -30,7 +30,8 @@ pub struct Value {
     pub spaces: usize,
 }
 
-// How far a segment is written: bytes of the document, element separators, component separators in the last element.
+// How far a segment is written: bytes of the document, element separators, component separators in the last element. The document and the separators go
+// beside it: a struct of the three would borrow the document in order to write to it, and be made anew at each part; no plainer.
 #[derive(Clone, Copy)]
 pub struct Pen {
     pub at: usize,

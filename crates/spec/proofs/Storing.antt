@@ -1,5 +1,5 @@
 -- Storing the places of a list and of its items.
-use Prim.Native.Nat.{ℕ, suc, zero, ◌+◌, ◌*◌, ◌≤◌, ◌<◌}
+use Prim.Native.Nat.{ℕ, ◌+◌, ◌*◌, ◌≤◌, ◌<◌}
 use mathlib.Core.Path.{◌≡◌, refl, sym, ◌∙◌}
 use mathlib.Core.List.{List}
 use mathlib.Core.Logic.{◌⊎◌, inl, inr}
@@ -10,7 +10,7 @@ use lib.Seq.{get_or-set_same, get_or-set_other}
 use lib.Dec.{ltb}
 use borrow.Author.Tests.{lt-ltb, le-ltb, ltb-true, ltb-false}
 use Rattle.codec.specs.Codec.{Codec, le_c, list_c}
-use Rattle.codec.specs.Skip.{skip, steps, count_at, Is, skip_le, skip_list}
+use Rattle.codec.specs.Skip.{skip, steps, count_at, Is, skip_le, skip_list, steps_last}
 use Rattle.codec.specs.Field.{ListIs, is_list, count_list}
 use Rattle.codec.specs.Rows.{small, is_small}
 use Rattle.spec.specs.Kept.{Kept, kept_same, kept_set, kept_then, kept_wide}
@@ -25,11 +25,6 @@ pub put_item_out : (l : List ℕ) (k i p : ℕ) → 32 ≤ i → put_item l k i 
 unfolding put_item
 put_item_out l k i p h = simp (le-ltb _ _ h)
 
-pub steps_more : {A : Type 0} (C : Codec A) (b : List ℕ) (e i at : ℕ) → steps C b e (i + 1) at ≡ skip C b (steps C b e i at) e
-unfolding steps
-steps_more C b e zero at = refl
-steps_more C b e (suc i) at = let q : suc i + 1 ≡ suc (i + 1) = omega arith in rw q (steps_more C b e i (skip C b at e))
-
 -- i items were stored; the next stands at p
 pub record Items {A : Type 0} (C : Codec A) (b : List ℕ) (e from k i p : ℕ) (old new : List ℕ) : Type 0 where
   pub place : p ≡ steps C b e i from
@@ -42,7 +37,7 @@ module _ {A : Type 0} (C : Codec A) (b : List ℕ) (e : ℕ) where
   items_none from k p l h = record { place = h; kept = kept_same _ _ l; item = λ j m. absurd (omega arith) }
 
   pub items_more : (from k i p q : ℕ) (old d new : List ℕ) → Items C b e from k i p old d → new ≡ put_item d k i p → q ≡ skip C b p e → Items C b e from k (i + 1) q old new
-  items_more from k i p q old d new h w s = record { place = s ∙ rw h.place (sym (steps_more C b e i from)); kept = kept' (ltb i 32) refl; item = item' (ltb i 32) refl }
+  items_more from k i p q old d new h w s = record { place = s ∙ rw h.place (sym (steps_last C b e i from)); kept = kept' (ltb i 32) refl; item = item' (ltb i 32) refl }
     where
       kept' : (t : Bool) → ltb i 32 ≡ t → Kept (k + 1) (k + 33) old new
       kept' true q = let r : i < 32 = ltb-true _ _ q in kept_set _ _ old d new (k + 1 + i) (small p) h.kept (w ∙ put_item_in d k i p r) (omega arith) (omega arith)
@@ -106,7 +101,7 @@ module _ {A B : Type 0} (C : Codec A) (D : Codec B) (b : List ℕ) (e : ℕ) (at
   -- one more item and its list
   pub lists_more : (n p q : ℕ) (old d mid new : List ℕ) → n < 32 → k + 33 ≤ from → from + n * 33 + 33 ≤ to → Lists C D b e at k from to start n p old d → mid ≡ set d (k + 1 + n) (small p) → Kept (from + n * 33) (from + n * 33 + 33) mid new → Stored D b e (at p) (from + n * 33) new → q ≡ skip C b p e → Lists C D b e at k from to start (n + 1) q old new
   lists_more n p q old d mid new m i t h w y s r = record {
-    place = r ∙ rw h.place (sym (steps_more C b e n start));
+    place = r ∙ rw h.place (sym (steps_last C b e n start));
     kept = kept_then (k + 1) to _ _ old mid new (kept_set (k + 1) to old d mid (k + 1 + n) (small p) h.kept w (omega arith) (omega arith)) y (omega arith) t;
     item = λ j u v l. y.below (k + 1 + j) (omega arith) ∙ rw w (item' j u v l (ltb j n) refl);
     inner = λ j u v. inner' j u v (ltb j n) refl;
@@ -133,7 +128,7 @@ module _ {A B : Type 0} (C : Codec A) (D : Codec B) (b : List ℕ) (e : ℕ) (at
   -- an item past the first 32
   pub lists_past : (n p q : ℕ) (old d : List ℕ) → 32 ≤ n → Lists C D b e at k from to start n p old d → q ≡ skip C b p e → Lists C D b e at k from to start (n + 1) q old d
   lists_past n p q old d m h r = record {
-    place = r ∙ rw h.place (sym (steps_more C b e n start));
+    place = r ∙ rw h.place (sym (steps_last C b e n start));
     kept = h.kept;
     item = λ j u v. h.item j (omega arith) v;
     inner = λ j u v. h.inner j (omega arith) v;

@@ -9,7 +9,7 @@ use Rattle.std.proofs.Math.ListN.{length-drop}
 use Rattle.std.proofs.Math.Seq.{get_or-take, get_or-drop, length-take-le}
 use borrow.Author.Tests.{eq-eqb, ne_eqb, eqb-true, eqb-false}
 use Rattle.codec.specs.Codec.{Codec, pick, le, le_c, ◌⊗◌}
-use Rattle.codec.specs.Skip.{Is, skip, steps, count_at}
+use Rattle.codec.specs.Skip.{Is, skip, steps, count_at, steps_last as last_step}
 use Rattle.codec.specs.Ways.{count_is}
 use Rattle.codec.specs.Forms.{num_c, byte_c, bytes_c, opt_c}
 use Rattle.codec.specs.Maps.{num_map_c, is_num_map}
@@ -17,7 +17,7 @@ use Rattle.codec.specs.Field.{is_list, is_pair, is_le, is_in}
 use Rattle.codec.specs.Answers.{byte_item, skip_les}
 use Rattle.format.specs.Ask.{on, found, same_bytes, segment_def, element_def, max_of, min_of}
 use Rattle.format.specs.Spec.{SegmentDef, segment_c, ElementDef, element_c, ComponentDef, component_c, kind_c}
-use Rattle.format.specs.Fields.{is_element, is_component}
+use Rattle.format.specs.Fields.{is_element, is_component, element_components}
 use Rattle.format.specs.Job.{Job}
 use Rattle.format.specs.Sections.{plan_start, job_of}
 use Rattle.spec.specs.Answers.{stretch_of}
@@ -47,12 +47,7 @@ module _ {K A : Type 0} (P : K → Bool) where
 
 -- ---- a map with number keys, entry by entry
 pub steps_last : {A : Type 0} (C : Codec A) (b : List ℕ) (e k at p q : ℕ) → p ≡ steps C b e k at → q ≡ skip C b p e → q ≡ steps C b e (k + 1) at
-unfolding steps
-steps_last C b e k at p q h i = i ∙ rw h (go k at)
-  where
-    go : (k at : ℕ) → skip C b (steps C b e k at) e ≡ steps C b e (k + 1) at
-    go zero at = refl
-    go (suc k) at = let s : suc k + 1 ≡ suc (k + 1) = omega arith in rw s (go k (skip C b at e))
+steps_last C b e k at p q h i = i ∙ rw h (sym (last_step C b e k at))
 
 module _ {A : Type 0} (C : Codec A) (b : List ℕ) (e at number : ℕ) where
   -- the entries before k have other keys
@@ -264,15 +259,16 @@ pub component_there : (b : List ℕ) (e p c : ℕ) (r : Option ℕ) (d : Element
 component_there b e p c r d s h = rw s.there (h s.value s.is)
 
 -- ---- the fields of an element that stands at a place, by the places that were read on the way
-module _ (b : List ℕ) (e at kind min max : ℕ) (i : kind ≡ skip kind_c b at e) (j : min ≡ skip (opt_c num_c) b kind e) where
+module _ (b : List ℕ) (e at kind min : ℕ) (i : kind ≡ skip kind_c b at e) (j : min ≡ skip (opt_c num_c) b kind e) where
   pub element_max_at : (d : ElementDef) → Is element_c b e at d → Is (opt_c num_c) b e min d.max
   element_max_at d h = rw (j, i) (is_element b e at d h).max
 
   pub component_max_at : (d : ComponentDef) → Is component_c b e at d → Is (opt_c num_c) b e min d.max
   component_max_at d h = rw (j, i) (is_component b e at d h).max
 
-  pub components_at : max ≡ skip (opt_c num_c) b min e → (d : ElementDef) → Is element_c b e at d → Is (num_map_c component_c) b e max d.components
-  components_at k d h = rw (k, j, i) (is_element b e at d h).components
+-- where an element's components stand
+pub components_at : (b : List ℕ) (e at p : ℕ) → p ≡ element_components b e at → (d : ElementDef) → Is element_c b e at d → Is (num_map_c component_c) b e p d.components
+components_at b e at p i d h = rw i (is_element b e at d h).components
 
 -- which definition's most is asked
 pub max_in_none : (o : Option ℕ) (r : Option ℕ) (d : ElementDef) → o ≡ None → r ≡ d.max → r ≡ max_in d o

@@ -1,5 +1,5 @@
 // Lists in the index. A list takes 33 numbers of it: its place, then the places of its first 32 items.
-ghost use Rattle.std.specs.Prelude.{◌≡◌, length, ◌+◌, ◌<◌, ◌≤◌};
+ghost use Rattle.std.specs.Prelude.{◌≡◌, ◌+◌, ◌<◌};
 ghost use Rattle.codec.specs.Codec.{list_c};
 ghost use Rattle.codec.specs.Skip.{skip};
 ghost use Rattle.spec.specs.Kept.{Kept};

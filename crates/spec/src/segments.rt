@@ -3,7 +3,7 @@ ghost use Rattle.std.specs.Prelude.{ℕ, ◌+◌, ◌<◌, ◌≤◌, ◌≡◌,
 ghost use Rattle.codec.specs.Skip.{Is};
 ghost use Rattle.codec.specs.Forms.{bytes_c, num_c, opt_c};
 ghost use Rattle.codec.specs.Maps.{num_map_c};
-ghost use Rattle.format.specs.Spec.{ElementDef, element_c, ComponentDef, component_c, SegmentDef, segment_c};
+ghost use Rattle.format.specs.Spec.{ElementDef, element_c, ComponentDef, component_c, segment_c};
 ghost use Rattle.format.specs.Sections.{job_of, plan_start};
 ghost use Rattle.format.specs.Ask.{found, same_bytes, segment_def, element_def, max_of, min_of};
 ghost use Rattle.spec.specs.Answers.{stretch_of};
@@ -14,7 +14,7 @@ use crate::Indexed;
 use crate::ids::Stretch;
 use crate::read::{number_at, spec_of};
 use codec::{Form, Section};
-use format::{Component, Element, Kind};
+use format::{Component, Element, Kind, sizes_end};
 
 // Whether the n bytes at p are those at q. No slices: either may reach past the last byte, where a byte reads as 0.
 pub fn same_at(b: &[u8], p: usize, q: usize, n: usize) -> bool
@@ -116,9 +116,7 @@ pub fn max_at(s: Section, at: usize) -> Option<u32>
 pub fn max_of_component(s: Section, at: usize, component: u32) -> Option<u32>
     ensures { (d : ElementDef) → Is element_c s.entry.bytes.now s.entry.end at d → result ≡ max_in d (Some component) }
 {
-    let min = Kind::ends_at(s, at);
-    let max = s.opt_num_at(min);
-    let components = s.opt_num_at(max);
+    let components = sizes_end(s, at);
     if (s.end as usize) < components {
         return None;
     }

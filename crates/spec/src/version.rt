@@ -11,7 +11,7 @@ use crate::Indexed;
 use crate::ids::VersionRule;
 use crate::read::{flag_at, stretch_at};
 
-// No `then` as in `read`: its closure would have to say of two stretches what `stretch_at` says of each.
+// `then`, as in `read`, is no plainer: its closure would need a contract of two stretches and a number, where three readers' contracts do.
 pub fn version_at(b: &[u8], at: usize) -> Option<VersionRule>
     requires { at < 4294967296 }
     ensures { (e : ℕ) (v : OptVersion) → Reads (opt_c version_c) b.now e at None v → HoldsVersion b.now result v }

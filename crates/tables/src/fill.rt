@@ -12,7 +12,7 @@ use codec::{Form, Section};
 use format::Column;
 use spec::region::list_into;
 
-// Where the references of the table at p stand.
+// Where the references of the table at p stand. Its fields one after the other, as in `format::TableData`: a hook for each field would be no plainer.
 fn refs_at(s: Section, p: usize) -> usize
     ensures { result ≡ refs_from s.entry.bytes.now s.entry.end p }
 {

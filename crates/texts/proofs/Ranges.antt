@@ -1,5 +1,5 @@
 -- Signed numbers within bounds: the ways of `in_range`, and what its answer says.
-use Rattle.std.proofs.Common.{◌≡◌, ℕ, ◌<◌, ◌≤◌, Bool, true, false, leb, ltb, eqb, ◌&&◌, eqb-true, ltb-false, ℤ, pos, negsuc, nat_abs, sym, refl, ap, ◌∙◌, arith, to_z-of_z, w32, SFits, ltb-true, le-leb, leb-true, Option, Some, None, Result, Ok, Err}
+use Rattle.std.proofs.Common.{◌≡◌, ℕ, ◌<◌, ◌≤◌, Bool, true, false, leb, ltb, eqb, ◌&&◌, eqb-true, ltb-false, ℤ, pos, negsuc, nat_abs, sym, refl, ap, ◌∙◌, arith, to_z-of_z, w32, SFits, ltb-true, le-leb, leb-true, Some, None, Result, Ok, Err}
 use borrow.Author.Tests.{lt-leb, eqb-false}
 use mathlib.Core.Bool.{false≢true}
 use Rattle.std.specs.Bool.{then_some}
@@ -56,17 +56,14 @@ pub record Inside (low high : ℕ) (z : ℤ) (n : ℕ) : Type 0 where
   pub from : low ≤ n
   pub to : n ≤ high
 
-not_out : (n : ℕ) → ◌≡◌ {A = Option ℕ} None (Some n) → ⊥
-not_out n e = let z : ◌≡◌ {A = ℕ} 0 1 = cc in omega arith
-
 inside : (low high : ℕ) (z : ℤ) (n : ℕ) → ranged_of low high z ≡ Some n → Inside low high z n
 unfolding ranged_of
-inside low high (negsuc m) n e = absurd (not_out n e)
+inside low high (negsuc m) n e = absurd (none-some n e)
 inside low high (pos m) n e = go (leb low m) refl (leb m high) refl e
   where
     go : (s : Bool) → leb low m ≡ s → (t : Bool) → leb m high ≡ t → pick_ranged s (pick_ranged t (Some m) None) None ≡ Some n → Inside low high (pos m) n
-    go false p t q h = absurd (not_out n h)
-    go true p false q h = absurd (not_out n h)
+    go false p t q h = absurd (none-some n h)
+    go true p false q h = absurd (none-some n h)
     go true p true q h =
         let k : m ≡ n = cc in
         record { is = ap pos k; from = omega (arith, leb-true low m p); to = omega (arith, leb-true m high q) }
@@ -79,7 +76,7 @@ outside low high (pos m) e = go (leb low m) refl (leb m high) refl e
     go : (s : Bool) → leb low m ≡ s → (t : Bool) → leb m high ≡ t → pick_ranged s (pick_ranged t (Some m) None) None ≡ None → between low high (pos m) ≡ false
     go false p t q h = simp p
     go true p false q h = simp (p, q)
-    go true p true q h = absurd (not_out m (sym h))
+    go true p true q h = absurd (none-some m (sym h))
 
 -- the same of a number that is read back from its bits
 module _ (low high : ℕ) (z : ℤ) (f : SFits w32 z) where

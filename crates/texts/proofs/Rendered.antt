@@ -3,7 +3,7 @@ use Rattle.std.proofs.Common.{◌≡◌, ℕ, ◌/◌, ◌%◌, ◌<◌, ◌≤�
 use Rattle.std.specs.Bool.{then_some}
 use Rattle.std.specs.Option.{ok_or}
 use Rattle.std.specs.Result.{IsErrAnd}
-use Rattle.std.proofs.lemmas.Option.{same_Some}
+use Rattle.std.proofs.lemmas.Option.{none-some, same_Some}
 use Rattle.texts.specs.declared.Text.{Text}
 use Rattle.texts.specs.declared.parse.Date.{Date}
 use Rattle.texts.specs.declared.render.Refused.{Refused}
@@ -71,23 +71,20 @@ pub record Told (d y : ℤ) (m n : ℕ) : Type 0 where
   pub month : m < 100
   pub day : n < 100
 
-none_some : {A : Type 0} (x : A) → ◌≡◌ {A = Option A} None (Some x) → ⊥
-none_some x e = cc
-
 pub far : (d : ℤ) → SFits w32 d → civil_from (Back d) ≡ None → near d ≡ false
 unfolding civil_from
 far d f e = go (near d) refl (ap civil_from (sym (to_z-of_z f)) ∙ e)
   where
     go : (t : Bool) → near d ≡ t → then_some t (dated (civil_of d)) ≡ None → near d ≡ false
     go false p h = p
-    go true p h = absurd (none_some _ (sym h))
+    go true p h = absurd (none-some _ (sym h))
 
 pub told : (d : ℤ) (x : Date) → SFits w32 d → civil_from (Back d) ≡ Some x → Told d x.year x.month x.day
 unfolding civil_from
 told d x f e = go (near d) refl (ap civil_from (sym (to_z-of_z f)) ∙ e)
   where
     go : (t : Bool) → near d ≡ t → then_some t (dated (civil_of d)) ≡ Some x → Told d x.year x.month x.day
-    go false p h = absurd (none_some x h)
+    go false p h = absurd (none-some x h)
     go true p h =
         let q : dated (civil_of d) ≡ x = same_Some _ _ h in
         let v = civil_valid d in

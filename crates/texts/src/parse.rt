@@ -43,7 +43,7 @@ fn era_day(e: u32) -> Date
 }
 
 // The date `days` days after 1970-01-01, which is 719,468 days after the first of March of the year 0; none where that sum overflows.
-// Its era counts from there in 400 years, whose dates are the same in each but for the year.
+// An era is 400 years, counted from that first of March: its dates are those of every other era, but for the year.
 pub fn civil_from_days(days: i32) -> Option<Date>
     ensures { result ≡ civil_from days }
 {

@@ -1,8 +1,8 @@
 // Dates and times as the texts of elements.
-ghost use Rattle.std.specs.Prelude.{◌≡◌, ℕ, ◌%◌, ◌<◌, ◌≤◌, [], ◌++◌};
+ghost use Rattle.std.specs.Prelude.{◌≡◌, ◌%◌, ◌<◌, ◌≤◌, ◌++◌};
 ghost use Rattle.texts.specs.Calendar.{day_of};
 ghost use Rattle.texts.specs.Held.{held, added};
-ghost use Rattle.texts.specs.Reason.{refuses, reason_of, Says, shorter};
+ghost use Rattle.texts.specs.Reason.{reason_of, Says, shorter};
 ghost use Rattle.texts.specs.DateText.{two, long_date, short_date, date_by, date_text, envelope_date};
 ghost use Rattle.texts.specs.Clock.{time_text, envelope_time};
 

@@ -5,14 +5,13 @@ use mathlib.Core.List.{List}
 use mathlib.Core.Bool.{Bool, true, false}
 use native.Mathlib.Omega.{arith}
 use Rattle.codec.specs.Codec.{le_c, list_c}
-use Rattle.codec.specs.Skip.{skip, steps, count_at}
+use Rattle.codec.specs.Skip.{skip, steps, steps_last, count_at}
 use Rattle.format.specs.Fields.{loop_children}
 use Rattle.format.specs.Spec.{Loop, loop_c}
 use Rattle.format.specs.Words.{any_from}
 use Rattle.says.specs.Says.{Says}
 use Rattle.says.proofs.Behind.{NoneUpTo, from_start, from_again, from_found, from_none}
 use Rattle.tree.specs.Parts.{LoopAt}
-use Rattle.tree.proofs.Places.{steps_last}
 
 abbrev pub Upto : List ℕ → ℕ → ℕ → (ℕ → Loop → Bool) → ℕ → ℕ → Type 0
 Upto b e at f n k = NoneUpTo loop_c b e at f k (n - k) (steps loop_c b e k (skip (le_c 4) b at e))

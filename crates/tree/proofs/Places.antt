@@ -1,5 +1,5 @@
 -- The places of the loops and of their children: filled in one after the other, and looked up.
-use Prim.Native.Nat.{ℕ, zero, suc, ◌+◌, ◌≤◌, ◌<◌}
+use Prim.Native.Nat.{ℕ, ◌+◌, ◌≤◌, ◌<◌}
 use mathlib.Core.Path.{◌≡◌, refl, sym, ◌∙◌}
 use mathlib.Core.List.{List}
 use mathlib.Core.Bool.{Bool, true, false}
@@ -8,9 +8,9 @@ use lib.ListN.{length, get_or, set, length-set}
 use lib.Seq.{get_or-set_same, get_or-set_other}
 use lib.Dec.{ltb}
 use borrow.Author.Tests.{ltb-true, ltb-false}
-use Rattle.codec.specs.Codec.{Codec, le_c, list_c}
+use Rattle.codec.specs.Codec.{le_c, list_c}
 use Rattle.codec.specs.Forms.{num_c}
-use Rattle.codec.specs.Skip.{skip, steps, count_at, skip_map, skip_pair}
+use Rattle.codec.specs.Skip.{skip, steps, steps_last, count_at, skip_map, skip_pair}
 use Rattle.format.specs.Fields.{loop_children}
 use Rattle.format.specs.Spec.{loop_c}
 use Rattle.tree.specs.Parts.{Placed}
@@ -18,12 +18,6 @@ use Rattle.tree.specs.Parts.{Placed}
 module _ (b : List ℕ) (e at : ℕ) (ps : List (ℕ × ℕ)) (i : ℕ) (d : Placed b e at ps) (h : i < length ps) (k : i < count_at b at e) where
   pub placed_at : (get_or ps i (0, 0)).0 ≡ steps loop_c b e i (skip (le_c 4) b at e)
   placed_at = (d i h k).0
-
--- the last step
-pub steps_last : {A : Type 0} (C : Codec A) (b : List ℕ) (e n p : ℕ) → steps C b e (n + 1) p ≡ skip C b (steps C b e n p) e
-unfolding steps
-steps_last C b e zero p = refl
-steps_last C b e (suc n) p = let z : suc n + 1 ≡ suc (n + 1) = omega arith in rw z (steps_last C b e n (skip C b p e))
 
 -- a loop ends where its children do
 loop_end_lem : (b : List ℕ) (e p : ℕ) → skip (list_c num_c) b (loop_children b e p) e ≡ skip loop_c b p e

@@ -3,16 +3,16 @@
 
 mod loops;
 
-ghost use Rattle.std.specs.Prelude.{◌≡◌, Bool, List, ◌<◌, ◌≤◌, ℕ, drop, length, take, eqb, Some};
-ghost use Rattle.codec.specs.Codec.{le_c, list_c};
+ghost use Rattle.std.specs.Prelude.{◌≡◌, Bool, List, ◌<◌, ◌≤◌, ℕ, length, eqb, Some};
+ghost use Rattle.codec.specs.Codec.{list_c};
 ghost use Rattle.codec.specs.Forms.{num_c, opt_c};
-ghost use Rattle.codec.specs.Skip.{count_at, Is, skip, steps};
+ghost use Rattle.codec.specs.Skip.{count_at, Is};
 ghost use Rattle.codec.specs.Limits.{any_of};
-ghost use Rattle.format.specs.Words.{if_some, member_of, present, repeats};
+ghost use Rattle.format.specs.Words.{if_some, repeats};
 ghost use Rattle.format.specs.Spec.{Loop, loop_c, spec_c, table_c};
 ghost use Rattle.format.specs.Layout.{item_c};
 ghost use Rattle.format.specs.Fields.{loop_children, spec_roots, spec_tables};
-ghost use Rattle.format.specs.Refusal.{loop_at, outside, outside_loop, outside_order, outside_table};
+ghost use Rattle.format.specs.Refusal.{outside, outside_loop, outside_order, outside_table};
 ghost use Rattle.says.specs.Says.{Says, Clears, SaysBefore, Tests};
 ghost use Rattle.tree.specs.Parts.{again, on_loop, Placed, Noted, outside_spec};
 

@@ -1,5 +1,5 @@
 // The loops of a spec, each by its number.
-ghost use Rattle.std.specs.Prelude.{◌≡◌, List, ℕ, ◌<◌, Bool, eqb};
+ghost use Rattle.std.specs.Prelude.{◌≡◌, ℕ, ◌<◌, Bool, eqb};
 ghost use Rattle.codec.specs.Codec.{le_c, list_c};
 ghost use Rattle.codec.specs.Forms.{num_c, opt_c};
 ghost use Rattle.codec.specs.Skip.{count_at, skip, steps};
@@ -82,7 +82,8 @@ impl<'a, 'p> Loops<'a, 'p> {
         member_at(self.section, children, i)
     }
 
-    // Whether some loop is found, by a test that is told its number, where it stands and where its children do.
+    // Whether some loop is found, by a test that is told its number, where it stands and where its children do. What the test may ask is each function's
+    // own clause: a type for three numbers and that fact would be made here, and taken apart in each test; no plainer.
     pub fn some<T: Fn(usize, usize, usize) -> bool>(self, test: T) -> bool
         requires { (k : ℕ) (p : ℕ) (q : ℕ) → LoopAt self.section.bytes.now self.section.end self.at k p q → T.pre test k p q }
         ensures { (f : ℕ → Loop → Bool) → TestsLoops self.entry.section.bytes.now self.entry.section.end self.entry.at (T.post test) f → Says (list_c loop_c) self.entry.section.bytes.now self.entry.section.end self.entry.at (any_from f 0) result }

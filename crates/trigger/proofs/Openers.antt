@@ -1,7 +1,7 @@
 -- The elements of a trigger one after the other, for a loop that steps through them.
 use Prim.Native.Nat.{ℕ, zero, suc, ◌+◌, ◌≤◌, ◌<◌, max}
 use mathlib.Core.Path.{◌≡◌, refl, sym, ◌∙◌}
-use mathlib.Core.Bool.{Bool, true, false}
+use mathlib.Core.Bool.{Bool, true, false, true≢false}
 use mathlib.Core.List.{List, [], ◌∷◌, ◌++◌, append_assoc, append-nil}
 use native.Mathlib.Omega.{arith}
 use Rattle.std.specs.Prelude.{Option, None, Some}
@@ -10,20 +10,20 @@ use lib.ListN.{length, get_or}
 use borrow.Author.Tests.{eq-eqb, ne_eqb, lt-ltb, ltb-false}
 use Rattle.codec.specs.Codec.{pick as codec-pick}
 use Rattle.codec.specs.Maps.{rises_from}
-use Rattle.format.specs.Spec.{Control, ElementDef, SegmentDef}
+use Rattle.format.specs.Spec.{ElementDef, SegmentDef}
 use Rattle.format.specs.Job.{Job}
-use Rattle.format.specs.Sections.{job_of, plan_start}
-use Rattle.format.specs.Ask.{loop_of, found, segment_def, element_def, min_of}
+use Rattle.format.specs.Sections.{plan_start}
+use Rattle.format.specs.Ask.{found, segment_def, element_def, min_of}
 use Rattle.format.specs.Spec.{element_c, segment_c}
 use Rattle.codec.specs.Skip.{Is}
 use Rattle.codec.specs.Maps.{is_num_map}
 use Rattle.spec.specs.Found.{PlaceOf, place_nowhere, place_at, stands_low}
-use Rattle.spec.specs.Answers.{stretch_of}
+use Rattle.spec.specs.Answers.{stretch_of, rule_of}
 use Rattle.segment.specs.Pen.{Penned, opened}
 use Rattle.segment.proofs.Runs.{run_stored}
 use Rattle.lent.specs.Fit.{stretch}
 use Rattle.emit.specs.Envelope.{opener_put}
-use Rattle.trigger.specs.declared.opener.Frame.{Frame}
+use Rattle.trigger.specs.declared.frame.Frame.{Frame}
 use Rattle.lent.specs.Fit.{cap, wide, more, Stored, Noted}
 use Rattle.spec.specs.declared.ids.Element.{Element}
 use Rattle.spec.specs.declared.ids.Elements.{Elements}
@@ -33,7 +33,8 @@ use Rattle.segment.specs.declared.Pen.{Pen}
 use Rattle.segment.specs.Parts.{Part, highest, last_element, last_component, here, after, component_text}
 use Rattle.segment.specs.Pen.{closing}
 use Rattle.segment.specs.Calls.{Group, Row, group, close, stays}
-use Rattle.segment.proofs.Rows.{here_other, after_other, never}
+use Rattle.segment.proofs.Rows.{here_other, after_other}
+use Rattle.nest.specs.Job.{job_by}
 use Rattle.nest.specs.Lists.{on}
 use Rattle.emit.specs.Puts as P
 use Rattle.emit.specs.Puts.{Put, and_put, put_all}
@@ -42,7 +43,7 @@ use Rattle.emit.specs.Envelope.{Sourced, source_at, put_sourced, put_element}
 use Rattle.emit.proofs.PutLaws.{highest_append}
 use Rattle.emit.proofs.FindingLaws.{stored_findings, none_stored}
 use Rattle.trigger.specs.declared.opener.Drawn.{Drawn}
-use Rattle.trigger.specs.Drawn.{Draws, left, nothing, sticks, one, Adds, Known, Drew, Framed, element_put, Opening, Opened}
+use Rattle.trigger.specs.Drawn.{Draws, left, nothing, sticks, one, Adds, Known, Drew, trigger_of, element_put, Opening, Opened}
 
 -- ---- an element puts one part at its own number, or none
 
@@ -68,7 +69,7 @@ rises_next : (low : ℕ) (y : ℕ × ElementDef) (ys : SegmentDef) → rises_fro
 rises_next low y ys = go (ltb y.0 low) refl
   where
     go : (t : Bool) → ltb y.0 low ≡ t → codec-pick t false (rises_from (y.0 + 1) ys) ≡ true → (low ≤ y.0) × (rises_from (y.0 + 1) ys ≡ true)
-    go true e h = absurd (never (sym h))
+    go true e h = absurd (true≢false (sym h))
     go false e h = (ltb-false y.0 low e, h)
 
 module _ (g : ℕ × ElementDef → Put) (shape : (y : ℕ × ElementDef) → Shape y.0 (g y).parts) where
@@ -283,25 +284,25 @@ mins_of j trigger r y i h = go (segment_def j trigger) refl r h
     go None e r h = absurd (omega arith)
     go (Some xs) e r h = rw (e, key_found xs 0 i y r h)
 
-pub opening : (b : List ℕ) (w : Frame) (c : Elements) (l : ℕ) (k : Control) (number : ℕ) → Framed b l k number w
-    → Entries b c (defined (segment_def (job_of b) (stretch_of b w.id))) × (rises_from 0 (defined (segment_def (job_of b) (stretch_of b w.id))) ≡ true) → Opening b w c
-opening b w c l k number F h =
-    let q = rw F.id.bytes at h in
-    record { loop = l; control = k; number = number; framed = F; elements = defined (segment_def (job_of b) (loop_of (job_of b) l).trigger); entries = q.0; rises = q.1; mins = mins_of (job_of b) (loop_of (job_of b) l).trigger q.1 }
+pub opening : (w : Frame) (c : Elements)
+    → Entries w.job.at.bytes.now c (defined (segment_def (job_by w.job) (stretch_of w.job.at.bytes.now w.id))) × (rises_from 0 (defined (segment_def (job_by w.job) (stretch_of w.job.at.bytes.now w.id))) ≡ true) → Opening w c
+opening w c h =
+    let q = rw w.id_is.bytes at h in
+    record { elements = defined (segment_def (job_by w.job) (trigger_of w)); entries = q.0; rises = q.1; mins = mins_of (job_by w.job) (trigger_of w) q.1 }
 
-pub opened_all : {b d d₁ d₂ d₃ f f₁ : List ℕ} {w : Frame} {c : Elements} {at noted e : ℕ} {pen : Pen} {r : Drawn} (l : ℕ) (k : Control) (number : ℕ) → Framed b l k number w → length d ≤ cap
-    → Entries b c (defined (segment_def (job_of b) (stretch_of b w.id))) × (rises_from 0 (defined (segment_def (job_of b) (stretch_of b w.id))) ≡ true)
-    → Penned (opened (stretch b w.id.start w.id.len)) at pen d d₁
-    → ((o : Opening b w c) → Drew w.sep (put_all (element_put b o.loop o.control o.number) o.elements) pen noted r d₁ d₂ f f₁)
+pub opened_all : {d d₁ d₂ d₃ f f₁ : List ℕ} {c : Elements} {at noted e : ℕ} {pen : Pen} {r : Drawn} (w : Frame) → length d ≤ cap
+    → Entries w.job.at.bytes.now c (defined (segment_def (job_by w.job) (stretch_of w.job.at.bytes.now w.id))) × (rises_from 0 (defined (segment_def (job_by w.job) (stretch_of w.job.at.bytes.now w.id))) ≡ true)
+    → Penned (opened (stretch w.job.at.bytes.now w.id.start w.id.len)) at pen d d₁
+    → ((o : Opening w c) → Drew w.sep (put_all (element_put w) o.elements) pen noted r d₁ d₂ f f₁)
     → Stored d₂ r.pen.at (closing w.sep r.pen r.last) e d₃
-    → Opened (job_of b) (loop_of (job_of b) l).trigger (opener_put (job_of b) l k number) at noted (record { bytes = e; findings = r.findings; entries = r.entries }) d d₃ f f₁
+    → Opened (job_by w.job) (trigger_of w) (opener_put (job_by w.job) w.l.0 (rule_of w.rule) w.number) at noted (record { bytes = e; findings = r.findings; entries = r.entries }) d d₃ f f₁
 unfolding opener_put stretch_of opening
-opened_all {b} {w = w} {c = c} l k number F h q x draws z =
-    let y = draws (opening b w c l k number F q) in
-    let t = F.id.bytes in
+opened_all {c = c} w h q x draws z =
+    let y = draws (opening w c q) in
+    let t = w.id_is.bytes in
     let begun = rw t at x in
     record {
-      bytes = rw F.sep (run_stored w.sep (loop_of (job_of b) l).trigger (put_all (element_put b l k number) (defined (segment_def (job_of b) (loop_of (job_of b) l).trigger))).parts h begun (rw y.last at (y.closes _ _ z)));
+      bytes = rw w.sep_is (run_stored w.sep (trigger_of w) (put_all (element_put w) (defined (segment_def (job_by w.job) (trigger_of w)))).parts h begun (rw y.last at (y.closes _ _ z)));
       findings = y.findings;
       entries = y.entries;
     }

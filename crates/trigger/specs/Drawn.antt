@@ -2,43 +2,35 @@
 use Rattle.std.specs.Prelude.{ℕ, ◌≤◌, ◌<◌, max, ◌≡◌, Bool, true, false, List, [], ◌∷◌, length, get_or, Option, None}
 use Rattle.lent.specs.Fit.{more, Stored, Noted}
 use Rattle.codec.specs.Maps.{rises_from}
-use Rattle.format.specs.Spec.{Control, ElementDef, SegmentDef}
+use Rattle.format.specs.Spec.{ElementDef, SegmentDef}
 use Rattle.format.specs.Job.{Job}
-use Rattle.format.specs.Sections.{job_of}
-use Rattle.format.specs.Refusal.{separators}
+use Rattle.nest.specs.Job.{job_by}
 use Rattle.format.specs.Ask.{loop_of, min_of, depth_of}
 use Rattle.spec.specs.declared.ids.Element.{Element}
 use Rattle.spec.specs.declared.ids.Elements.{Elements}
-use Rattle.spec.specs.Answers.{Holds}
+use Rattle.spec.specs.Answers.{rule_of}
 use Rattle.spec.specs.Cursor.{Entries, ElementSays}
 use Rattle.segment.specs.declared.Separators.{Separators}
 use Rattle.segment.specs.declared.Pen.{Pen}
 use Rattle.segment.specs.Parts.{Part, last_element, last_component, component_text, joined}
-use Rattle.segment.specs.Pen.{value_text, closing}
+use Rattle.segment.specs.Pen.{closing}
 use Rattle.segment.specs.Calls.{Group, Row}
 use Rattle.nest.specs.Lists.{on}
-use Rattle.nest.specs.Finding.{number_from}
 use Rattle.emit.specs.Puts.{Put, part_at}
-use Rattle.emit.specs.Written.{words_of, tried}
+use Rattle.emit.specs.Written.{words_of}
 use Rattle.emit.specs.Envelope.{field_findings, control_in, put_element}
 use Rattle.emit.specs.Fold.{separators_of}
-use Rattle.trigger.specs.declared.opener.Frame.{Frame}
+use Rattle.trigger.specs.declared.frame.Frame.{Frame}
 use Rattle.trigger.specs.declared.opener.Drawn.{Drawn}
 use Rattle.trigger.specs.declared.opener.Put as answer
 
--- what code knows of the trigger of loop l, whose control number is `number`
-pub record Framed (b : List ℕ) (l : ℕ) (k : Control) (number : ℕ) (w : Frame) : Type 0 where
-  pub sep : separators_of (job_of b) ≡ w.sep
-  pub tried : tried w.tried ≡ separators (job_of b).envelope
-  pub id : Holds b w.id (loop_of (job_of b) l).trigger
-  pub name : w.name ≡ number_from 0 (loop_of (job_of b) l).trigger
-  pub depth : w.depth ≡ depth_of (job_of b) l
-  pub opener : w.opener ≡ k.opener
-  pub control : value_text b w.control ≡ control_in (job_of b) l k number
+-- the trigger's identifier
+abbrev pub trigger_of : Frame → List ℕ
+trigger_of w = (loop_of (job_by w.job) w.l.0).trigger
 
--- what an element of that trigger puts
-abbrev pub element_put : List ℕ → ℕ → Control → ℕ → ℕ × ElementDef → Put
-element_put b l k number = put_element (job_of b) (loop_of (job_of b) l).trigger (depth_of (job_of b) l) k.opener (control_in (job_of b) l k number)
+-- what an element of a trigger puts
+abbrev pub element_put : Frame → ℕ × ElementDef → Put
+element_put w = put_element (job_by w.job) (trigger_of w) (depth_of (job_by w.job) w.l.0) w.rule.opener (control_in (job_by w.job) w.l.0 (rule_of w.rule) w.number)
 
 -- a text at an element: a part, the findings on it and a trace entry if it comes from a field
 abbrev pub put_by : Job → List ℕ → ℕ → Option ℕ → ℕ → Bool → List ℕ → Put
@@ -68,15 +60,11 @@ pub record Known (b : List ℕ) (x : Element) : Type 0 where
   pub says : ElementSays b x def
 
 -- a trigger's elements, from where the cursor is
-pub record Opening (b : List ℕ) (w : Frame) (c : Elements) : Type 0 where
-  pub loop : ℕ
-  pub control : Control
-  pub number : ℕ
-  pub framed : Framed b loop control number w
+pub record Opening (w : Frame) (c : Elements) : Type 0 where
   pub elements : SegmentDef
-  pub entries : Entries b c elements
+  pub entries : Entries w.job.at.bytes.now c elements
   pub rises : rises_from 0 elements ≡ true
-  pub mins : (y : ℕ × ElementDef) (i : ℕ) → i < length elements → min_of (job_of b) (loop_of (job_of b) loop).trigger (get_or elements i y).0 ≡ (get_or elements i y).1.min
+  pub mins : (y : ℕ × ElementDef) (i : ℕ) → i < length elements → min_of (job_by w.job) (trigger_of w) (get_or elements i y).0 ≡ (get_or elements i y).1.min
 
 -- all of a trigger's elements were drawn, and closing its segment joins their parts
 pub record Drew (s : Separators) (p : Put) (pen : Pen) (at : ℕ) (r : Drawn) (d d₁ f f₁ : List ℕ) : Type 0 where
@@ -84,13 +72,6 @@ pub record Drew (s : Separators) (p : Put) (pen : Pen) (at : ℕ) (r : Drawn) (d
   pub entries : r.entries ≡ more 0 p.entries
   pub last : r.last ≡ last_element p.parts
   pub closes : (e : ℕ) (d₂ : List ℕ) → Stored d₁ r.pen.at (closing s r.pen r.last) e d₂ → Row s r.last 1 p.parts pen d e d₂
-
--- a frame of some loop
-pub record Told (b : List ℕ) (w : Frame) : Type 0 where
-  pub loop : ℕ
-  pub control : Control
-  pub number : ℕ
-  pub framed : Framed b loop control number w
 
 -- a trigger that puts p was written
 pub record Opened (j : Job) (trigger : List ℕ) (p : Put) (at noted : ℕ) (r : answer.Put) (d d₁ f f₁ : List ℕ) : Type 0 where

@@ -1,5 +1,5 @@
 // What an element of a trigger takes: a field of the envelope, the version, its first code.
-ghost use Rattle.std.specs.Prelude.{◌≡◌, List, [], ℕ, ◌+◌, ◌≤◌, ◌<◌, length, get_or, Option, None, Some};
+ghost use Rattle.std.specs.Prelude.{◌≡◌, List, ℕ, ◌+◌, ◌≤◌, ◌<◌, length, Option, None, Some};
 ghost use Rattle.format.specs.Spec.{ElementDef};
 ghost use Rattle.format.specs.Ask.{same_bytes};
 ghost use Rattle.spec.specs.Answers.{stretch_of, Holds, HoldsText};

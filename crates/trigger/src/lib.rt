@@ -10,11 +10,11 @@ ghost use Rattle.segment.specs.Pen.{value_text};
 ghost use Rattle.emit.specs.Envelope.{control_in};
 ghost use Rattle.emit.specs.Fold.{next, previous, count_of, opener_out, closer_out};
 ghost use Rattle.emit.specs.Did.{DidNumber, Within};
-ghost use Rattle.trigger.specs.Drawn.{Framed};
 ghost use Rattle.nest.specs.Job.{job_by};
 
+use crate::frame::Frame;
 use crate::number::control_in;
-use crate::opener::{Frame, put_opener};
+use crate::opener::put_opener;
 use emit::closer::Closer;
 use emit::state::{Counts, From};
 use emit::{closer, signs, state};
@@ -22,34 +22,14 @@ use nest::Job;
 use segment::Value;
 use spec::ids::{ControlRule, LoopId, Stretch};
 
+pub mod frame;
 pub mod given;
 pub mod number;
 pub mod opener;
 
 // ---- the opener
 
-// The trigger of loop l, whose control number stands at the opener's element.
-fn frame_of(job: Job, l: LoopId, opener: u32, number: u64) -> Frame
-    requires { l.0 < 32 }
-    ensures { (k : Control) → k.opener ≡ opener → Framed job.entry.at.bytes.now l.0 k number result }
-{
-    let sep = signs::separators_of(job.at);
-    let tried = signs::delimiters_of(job.at);
-    let id = spec::loops::trigger(job.at, l);
-    let name = signs::id_number(job.at.bytes, id);
-    let depth = plan::layout::depth(job.at, l);
-    let control = control_in(job, l, opener, number);
-    Frame {
-        sep,
-        tried,
-        id,
-        name,
-        depth,
-        opener,
-        control,
-    }
-}
-
+// Writes the trigger of loop l; its control number stands at the element that the rule names.
 fn open_loop(
     job: Job,
     doc: &mut [u8],
@@ -58,14 +38,30 @@ fn open_loop(
     s: Counts,
     number: u64,
     l: LoopId,
-    opener: u32,
+    rule: ControlRule,
 ) -> Counts
-    requires { Within s × (l.0 < 32) }
-    ensures { (k : Control) (p : List ℕ) → k.opener ≡ opener → (loop_of (job_by job.entry) l.0).control ≡ Some k
-        → DidNumber l.0 (opener_out (job_by job.entry) l.0) number (next number) s result doc.old doc.new segments.old segments.new findings.old findings.new p p }
+    requires { Within s × (l.0 < 32) × ((loop_of (job_by job) l.0).control ≡ Some (rule_of rule)) }
+    ensures { (p : List ℕ) → DidNumber l.0 (opener_out (job_by job.entry) l.0) number (next number) s result doc.old doc.new segments.old segments.new findings.old findings.new p p }
 {
-    let w = frame_of(job, l, opener, number);
-    let put = put_opener(job, doc, findings, w, s.bytes, s.findings);
+    let sep = signs::separators_of(job.at);
+    let delimiters = signs::delimiters_of(job.at);
+    let id = spec::loops::trigger(job.at, l);
+    let name = signs::id_number(job.at.bytes, id);
+    let depth = plan::layout::depth(job.at, l);
+    let control = control_in(job, l, rule.opener, number);
+    let w = Frame {
+        job,
+        l,
+        rule,
+        number,
+        sep,
+        delimiters,
+        id,
+        name,
+        depth,
+        control,
+    };
+    let put = put_opener(doc, findings, &w, s.bytes, s.findings);
     state::finish_segment(
         segments,
         s,
@@ -76,7 +72,7 @@ fn open_loop(
     )
 }
 
-// The counts, and the loop's next control number.
+// The counts, and the loop's next control number. They go in apart: the counts are the walk's, and the number is the loop's of the walk's array.
 #[derive(Clone, Copy)]
 pub struct Numbered {
     pub counts: Counts,
@@ -99,7 +95,7 @@ pub fn write_opener(
     let Some(c) = spec::loops::control(job.at, l) else {
         return Numbered { counts: s, number };
     };
-    let counts = open_loop(job, doc, segments, findings, s, number, l, c.opener);
+    let counts = open_loop(job, doc, segments, findings, s, number, l, c);
     let after = state::next_number(number);
     Numbered {
         counts,

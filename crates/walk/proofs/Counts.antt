@@ -19,6 +19,11 @@ use Rattle.walk.proofs.TourLaws.{close_both}
 
 -- ---- lists put together
 
+-- entering an instance writes nothing
+pub enters_count : (l : ℕ) (xs : List Step) → segments_in (enters l ∷ xs) ≡ segments_in xs
+unfolding segments_in
+enters_count l xs = omega arith
+
 pub segments_append : (xs ys : List Step) → segments_in (xs ++ ys) ≡ segments_in xs + segments_in ys
 unfolding segments_in
 segments_append xs ys = sum_append writes xs ys

@@ -9,13 +9,23 @@ use lib.Seq.{take_all, take-nil, take-take, drop-drop}
 use lib.Dec.{eqb}
 use Rattle.nest.specs.Lists.{once, sum, times, part}
 use Rattle.walk.specs.Instances.{Piece, pieces, pieces_of}
+use Rattle.lent.proofs.Laws.{drop_take}
 use Rattle.nest.proofs.Sums.{sum_append}
 
-drop_take : {A : Type 0} (s n : ℕ) (l : List A) → drop s (take n l) ≡ take (n - s) (drop s l)
-drop_take zero n l = let q : n - 0 ≡ n = omega arith in rw q
-drop_take (suc s) zero l = let q : 0 - suc s ≡ 0 = omega arith in rw q
-drop_take (suc s) (suc n) [] = sym (take-nil (suc n - suc s))
-drop_take (suc s) (suc n) (x ∷ xs) = let q : suc n - suc s ≡ n - s = omega arith in rw q (drop_take s n xs)
+-- there are no more pieces than rows
+pieces_few : (same : ℕ → ℕ → Bool) (xs : List ℕ) (head start end : ℕ) → length (pieces same head start end xs) ≤ suc (length xs)
+unfolding pieces
+pieces_few same [] head start end = omega arith
+pieces_few same (r ∷ more) head start end = go (same head r) (pieces_few same more head start (suc end)) (pieces_few same more r end (suc end))
+  where
+    go : (b : Bool) → length (pieces same head start (suc end) more) ≤ suc (length more) → length (pieces same r end (suc end) more) ≤ suc (length more)
+        → length (cond b (pieces same head start (suc end) more) (record { head = head; start = start; end = end } ∷ pieces same r end (suc end) more)) ≤ suc (suc (length more))
+    go true on apart = omega arith
+    go false on apart = omega arith
+
+pub pieces_no_more : (same : ℕ → ℕ → Bool) (xs : List ℕ) → length (pieces_of same xs) ≤ length xs
+pieces_no_more same [] = omega arith
+pieces_no_more same (r ∷ more) = pieces_few same more r 0 1
 
 -- a part of a part, both counted from the start of the whole
 pub part_of_part : (P : List ℕ) (a b s e : ℕ) → s ≤ e → e ≤ length (part a b P) → part (a + s) (a + e) P ≡ take (e - s) (drop s (part a b P))

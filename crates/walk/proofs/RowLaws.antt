@@ -1,12 +1,12 @@
 -- The rows of a table in a context, their pieces and their chunks, one law for each way that code takes.
-use Prim.Native.Nat.{ℕ, suc, ◌+◌, ◌-◌, ◌<◌}
+use Prim.Native.Nat.{ℕ, suc, ◌+◌, ◌-◌, ◌≤◌, ◌<◌}
 use mathlib.Core.Path.{◌≡◌, refl, sym, ap, ◌∙◌}
 use mathlib.Core.Bool.{Bool, true, false, cond, ◌&&◌}
 use mathlib.Core.List.{List, [], ◌∷◌, ◌++◌}
 use native.Mathlib.Numerals.{add-one}
 use native.Mathlib.Omega.{arith}
 use Rattle.std.specs.Prelude.{Option, None, Some}
-use lib.ListN.{take, get_or}
+use lib.ListN.{length, take, drop, get_or, length-take, length-drop}
 use lib.Seq.{take_all}
 use lib.Dec.{eqb, ltb}
 use borrow.Author.Tests.{lt-ltb, le-ltb, eq-eqb, ne_eqb}
@@ -84,6 +84,26 @@ rows_window j t c e = rw (e, held_keep j t c.row) (cut c.run ∙ sym (window_all
 pub rows_none : (j : Outline) (t : ℕ) (c : Context) → plain j t ≡ false → rows_in j t c ≡ []
 unfolding rows_in
 rows_none j t c e = rw e
+
+-- there are no more of them than are held, and no more than the table has
+cut_few : (t : ℕ) (run : Option Run) (xs : List ℕ) → length (cut_to t run xs) ≤ length xs
+cut_few t None xs = omega arith
+cut_few t (Some p) xs = go (eqb p.table t)
+  where
+    go : (b : Bool) → length (cond b (part p.start p.end xs) xs) ≤ length xs
+    go true = omega (arith, length-take (p.end - p.start) (drop p.start xs), length-drop p.start xs)
+    go false = omega arith
+
+pub rows_held : (j : Outline) (t w : ℕ) (c : Context) → (plain j t ≡ true → length (held_in j t c.row) ≤ w) → length (rows_in j t c) ≤ w
+unfolding rows_in
+rows_held j t w c h = go (plain j t) h
+  where
+    go : (b : Bool) → (b ≡ true → length (held_in j t c.row) ≤ w) → length (cond b (cut_to t c.run (held_in j t c.row)) []) ≤ w
+    go true f = omega (arith, f refl, cut_few t c.run (held_in j t c.row))
+    go false f = omega arith
+
+pub rows_in_few : (j : Outline) (t : ℕ) (c : Context) → length (rows_in j t c) ≤ row_count j t
+rows_in_few j t c = rows_held j t (row_count j t) c (λ f. rw (held_keep j t c.row) (keep_length (held_by j t c.row) 0 (row_count j t)))
 
 -- the bounds: of the run, if it is of that table
 pub bound_free : (t : ℕ) (c : Context) (n : ℕ) → c.run ≡ None → (offset t c.run ≡ 0) × (bound t c.run n ≡ n)

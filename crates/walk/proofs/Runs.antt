@@ -12,7 +12,7 @@ use lib.Dec.{eqb}
 use borrow.Author.Tests.{eqb-true, eqb-false}
 use Rattle.nest.specs.Lists.{on, All, some_of, is_empty_list, part}
 use Rattle.nest.specs.Outline.{Outline, Kind, absent, envelope, implied, rows, inside, groups, loop_of, kind_of, table_parent, plain}
-use Rattle.nest.proofs.Alls.{all_map}
+use Rattle.nest.proofs.Alls.{all_map, any}
 use Rattle.walk.specs.Instances.{Context, Run, Piece, outside, at, held_in, cut_to, rows_in, pieces, pieces_of, offset, in_row, in_piece, shown, by_kind, instances}
 use Rattle.walk.proofs.Counting.{held_same}
 
@@ -129,13 +129,9 @@ fits_instances j (suc h) l c F = go (kind_of j l)
     in_row_lem t None = tt
     in_row_lem t (Some r) = choose (shown j l t r)
 
-    all : {A : Type 0} (P : A → Type 0) → ((a : A) → P a) → (xs : List A) → All P xs
-    all P f [] = tt
-    all P f (x ∷ xs) = (f x, all P f xs)
-
     of_rows : (t : ℕ) → Dec (table_parent j t ≡ Some t) → All (Fits j) (map (in_row t c) (rows_in j t c))
     of_rows t (yes e) = rw (ring_empty j c F t e) tt
-    of_rows t (no d) = all_map (Fits j) (λ r. Unit {0}) (in_row t c) (rows_in j t c) (λ r u. fits_row j c F t r d) (all (λ r. Unit {0}) (λ r. tt) (rows_in j t c))
+    of_rows t (no d) = all_map (Fits j) (λ r. Unit {0}) (in_row t c) (rows_in j t c) (λ r u. fits_row j c F t r d) (any (rows_in j t c))
 
     of_pieces : (t : ℕ) (xs : List ℕ) → rows_in j t c ≡ xs → (table_parent j t ≡ Some t → ⊥) → All (Fits j) (map (in_piece t c) (pieces_of (j.same_group l) xs))
     of_pieces t [] q d = tt

@@ -1,7 +1,7 @@
 // The walk through the loops.
 #![tactic(auto)]
 
-ghost use Rattle.std.specs.Prelude.{◌≡◌, ℕ, ◌+◌, ◌≤◌, ◌<◌, min};
+ghost use Rattle.std.specs.Prelude.{◌≡◌, ◌+◌, ◌<◌};
 ghost use Rattle.nest.specs.Found.{found_by};
 ghost use Rattle.walk.specs.Census.{counted};
 ghost use Rattle.walk.specs.Contexts.{context_by, kept_outside, kept_row, kept_piece, row_by, start_by, end_by};
@@ -80,7 +80,7 @@ pub fn row_in(c: Context, t: TableId) -> Option<RowId>
     Some(RowId(p - 1))
 }
 
-// The same of any table: none past 16 has a row.
+// The same of any table: none from 16 on has a row.
 pub fn row_of(c: Context, t: TableId) -> Option<RowId>
     ensures { result ≡ found_by ((context_by c).row t.0) }
 {

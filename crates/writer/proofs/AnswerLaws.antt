@@ -1,15 +1,14 @@
 -- The answer and the lists, a law for each way through the code.
 use Prim.Native.Nat.{ℕ, zero, suc, ◌≤◌, ◌<◌}
 use mathlib.Core.Path.{◌≡◌, refl, sym}
-use mathlib.Core.Bool.{true, false}
+use mathlib.Core.Bool.{Bool, true, false}
 use mathlib.Core.List.{List, []}
 use native.Mathlib.Omega.{arith}
 use lib.ListN.{length, take, drop}
-use lib.Dec.{eqb}
-use borrow.Author.Tests.{lt-ltb, le-ltb, eq-eqb}
+use borrow.Author.Tests.{lt-ltb, le-ltb}
 use Rattle.codec.specs.Codec.{pick}
-use Rattle.codec.specs.Limits.{any}
-use Rattle.format.specs.Sections.{trailer, plan_start, layout_start, envelope_start, data_start, spoilt, job_of}
+use Rattle.format.specs.Sections.{spoilt, decode, job_of}
+use Rattle.format.specs.Decoding.{decode_read}
 use Rattle.format.specs.Refusal.{refusal_of}
 use Rattle.format.specs.Passed.{Passed, passed, refused_not}
 use Rattle.nest.specs.OfJob.{outline_of}
@@ -18,7 +17,8 @@ use Rattle.walk.specs.Tour.{census}
 use Rattle.emit.specs.Did.{traced_word, stop_word}
 use Rattle.lossless.specs.NothingLost.{NothingLost}
 use Rattle.lossless.proofs.Theorem.{nothing_lost}
-use Rattle.std.specs.Prelude.{Err}
+use Rattle.std.specs.Prelude.{Some, Err}
+use Rattle.std.proofs.lemmas.Option.{none-some}
 use Rattle.refusal.specs.declared.Refusal.{Refusal}
 use Rattle.refusal.specs.declared.Refusal.TheVariants as refusal
 use Rattle.refusal.specs.Answer.{number}
@@ -45,14 +45,15 @@ refused_none b h i = rw (h, le-ltb _ _ i)
 
 -- a job that passed has none from 1 to 5
 pub passed_refusal : (b : List ℕ) → Passed b → refusal_of b ≡ 0
-unfolding spoilt any
+unfolding decode
 passed_refusal b p = refused_not b p.read.sound unspoilt p.limits p.forest p.fit
   where
-    same : (n : ℕ) → eqb n n ≡ true
-    same n = eq-eqb n n refl
+    go : (x : Bool) → spoilt b ≡ x → decode b ≡ Some (job_of b) → x ≡ false
+    go false q e = refl
+    go true q e = absurd (none-some _ (rw (p.read.sound, q) at e))
 
     unspoilt : spoilt b ≡ false
-    unspoilt = rw (p.read.spec, p.read.plan, p.read.layout, p.read.envelope, p.read.tables) (simp (same (plan_start b), same (layout_start b), same (envelope_start b), same (data_start b), same (trailer b)))
+    unspoilt = go (spoilt b) refl (decode_read b (job_of b) p.read)
 
 -- ---- demand 3
 

@@ -13,7 +13,7 @@ use Rattle.nest.specs.Nest.{Row, repeat_rows}
 use Rattle.nest.proofs.Alls.{all_append}
 use Rattle.walk.specs.Instances.{Context, outside, instances}
 use Rattle.walk.specs.Tour.{Step, enters, stop, opener, row_segment, fill, chunk, closer, writes, segments_in, enters_in, own_row, stop_at, chunks_of, row_steps, chunk_steps, repeat_steps, due_row, from_source, segment_steps, item_steps, body_steps, opened, children, close_steps, instance_steps, visits, tour_to, tour, census}
-use Rattle.walk.proofs.Counts.{segments_append, enters_append, enters_instance, enters_visits}
+use Rattle.walk.proofs.Counts.{enters_count, segments_append, enters_append, enters_instance, enters_visits}
 
 -- a closer's counts are no more than T
 abbrev pub Fine : ℕ → Step → Type 0
@@ -105,10 +105,6 @@ module _ (j : Outline) (T : ℕ) where
       go true k = ((h, omega (arith, k)), tt)
       go false k = tt
 
-  segments_head : (l : ℕ) (xs : List Step) → segments_in (enters l ∷ xs) ≡ segments_in xs
-  unfolding segments_in
-  segments_head l xs = omega arith
-
   enters_head : (l : ℕ) (xs : List Step) → enters_in (enters l ∷ xs) ≡ suc (enters_in xs)
   unfolding enters_in
   enters_head l xs = omega arith
@@ -120,7 +116,7 @@ module _ (j : Outline) (T : ℕ) where
       let mine : List Step = stop_at l (own_row (kind_of j l) c) in
       let items : List Step = each (item_steps below j l c) (order_of j l) in
       let last : List Step = close_steps j l (children inner j l c) (mine ++ items) in
-      let s₁ = segments_head l ((mine ++ items) ++ last) in
+      let s₁ = enters_count l ((mine ++ items) ++ last) in
       let s₂ = segments_append (mine ++ items) last in
       let s₃ = segments_append mine items in
       let e₁ = enters_head l ((mine ++ items) ++ last) in

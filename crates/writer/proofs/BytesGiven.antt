@@ -1,11 +1,11 @@
 -- What an element of an envelope's trigger has at most: a text of the envelope, the version, a code or a control number, padded.
-use Prim.Native.Nat.{ℕ, zero, suc, ◌+◌, ◌-◌, ◌%◌, ◌≤◌}
+use Prim.Native.Nat.{ℕ, zero, suc, ◌+◌, ◌-◌, ◌≤◌}
 use mathlib.Core.Bool.{Bool, true, false, cond}
 use mathlib.Core.List.{List, [], ◌∷◌, ◌++◌}
 use native.Mathlib.Omega.{arith}
 use lib.Dec.{eqb}
-use lib.IntN.{ℤ, nat_abs}
-use lib.ListN.{length, replicate, length-append, length-replicate, length-drop}
+use lib.IntN.{ℤ}
+use lib.ListN.{length, replicate, length-append, length-replicate}
 use Rattle.codec.specs.Codec.{map_c, dep_c}
 use Rattle.format.specs.Spec.{ElementDef, Version}
 use Rattle.format.specs.Envelope as E
@@ -15,18 +15,16 @@ use Rattle.format.specs.Ask.{same_bytes}
 use Rattle.std.specs.Prelude.{None, Option, Some}
 use Rattle.texts.specs.Pad.{is_at, zero_padded, space_padded, padded}
 use Rattle.texts.specs.Floor.{signed32}
-use Rattle.texts.specs.Calendar.{or}
-use Rattle.texts.specs.Reason as R
-use Rattle.texts.specs.Reason.{Width, Outcome, gives, refuses, shorter}
-use Rattle.texts.specs.DateText.{date_text, envelope_date, without_century}
-use Rattle.texts.specs.Clock.{within_day, hours_minutes, hours_minutes_seconds, short_clock, envelope_time}
+use Rattle.texts.specs.Reason.{Width}
+use Rattle.texts.specs.DateText.{envelope_date}
+use Rattle.texts.specs.Clock.{envelope_time}
+use Rattle.texts.proofs.Answers.{envelope_date_length, envelope_time_length}
 use Rattle.segment.specs.Parts.{pick}
 use Rattle.nest.specs.Lists.{on, first}
 use Rattle.emit.specs.Puts.{nothing, put_text}
 use Rattle.emit.specs.Envelope.{Given, plainly, trim_end, unless_last, is_white, repetition_given, field_at, field_given, Sourced, version_at, unsourced, versioned, fielded, source_at, is_numeric, padded_to, put_sourced, put_element}
 use Rattle.lossless.proofs.Openers.{given_all}
 use Rattle.writer.proofs.BytesColumns.{text_long}
-use Rattle.writer.proofs.BytesTexts.{date_short}
 use Rattle.writer.proofs.BytesSections.{spec_bytes, or_nothing, option_text, version_within}
 use Rattle.writer.proofs.BytesSegments.{Bounded, nothing_bounded, text_bounded}
 use Rattle.writer.proofs.BytesDefined.{or_zero, code_of, Defined}
@@ -71,22 +69,11 @@ trim_length (b ∷ bs) = go (trim_end bs) (trim_length bs)
     go [] h = omega (arith, last (is_white b))
     go (x ∷ xs) h = omega arith
 
-century_short : (b : Bool) (o : Outcome) → length (without_century b o).text ≤ length o.text
-century_short true o = omega (arith, length-drop 2 o.text)
-century_short false o = omega arith
-
 envelope_date_lem : (d : ℤ) (max : Width) → length (envelope_date d max).text ≤ 8
-unfolding envelope_date
-envelope_date_lem d max = omega (arith, century_short (shorter max 8) (date_text d None), date_short d None)
+envelope_date_lem = envelope_date_length
 
 envelope_time_lem : (s : ℤ) (max : Width) → length (envelope_time s max).text ≤ 6
-unfolding envelope_time short_clock
-envelope_time_lem s max = go (within_day s) (or (eqb (nat_abs s % 60) 0) (shorter max 6)) (nat_abs s)
-  where
-    go : (b c : Bool) (n : ℕ) → length (R.pick b (R.pick c (gives (hours_minutes n)) (gives (hours_minutes_seconds n))) (refuses 3)).text ≤ 6
-    go false c n = omega arith
-    go true true n = omega arith
-    go true false n = omega arith
+envelope_time_lem = envelope_time_length
 
 abbrev pub envelope_bytes : Job → ℕ
 envelope_bytes j = length (envelope_c.enc j.envelope)

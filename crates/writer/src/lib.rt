@@ -4,13 +4,12 @@
 ghost use Rattle.std.specs.Prelude.{◌≡◌, ◌||◌, ◌+◌, ◌-◌, ◌*◌, ◌≤◌, ◌<◌, ◌/◌, [], ◌∷◌, length, get_or, ltb, MatchOption};
 ghost use Rattle.std.proofs.lemmas.List.Edits.{sets};
 ghost use Rattle.codec.specs.Codec.{pick};
-ghost use Rattle.lent.specs.Fit.{Noted};
 ghost use Rattle.format.specs.Passed.{Passed};
 ghost use Rattle.format.specs.Refusal.{rows_of_all};
 ghost use Rattle.nest.specs.Nest.{nest_array};
 ghost use Rattle.nest.specs.NestFindings.{nest_findings};
 ghost use Rattle.nest.specs.Rising.{rising_flags};
-ghost use Rattle.nest.specs.Ready.{Ready, outline_at, words};
+ghost use Rattle.nest.specs.Ready.{Ready, outline_at};
 ghost use Rattle.walk.specs.Nested.{Nested};
 ghost use Rattle.format.specs.Sections.{job_of};
 ghost use Rattle.walk.specs.Tour.{census};

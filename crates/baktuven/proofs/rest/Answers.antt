@@ -1,6 +1,6 @@
 use Rattle.std.proofs.Common.{◌≡◌, ◌+◌, ◌*◌, arith}
 use Rattle.baktuven.specs.Windows.{records_of}
-use Rattle.baktuven.proofs.Windows.{none_stored, turn_stored, last_stored}
+use Rattle.baktuven.proofs.Windows.{none_stored, turn_stored}
 use Rattle.baktuven.proofs.rest.Goals as goal
 
 pub loop-w-init : goal.loop-w-init
@@ -11,6 +11,3 @@ loop-w-preserved c =
     let w = c.loop-w.w in
     let next : (w + 1) * 64 ≡ w * 64 + 64 = omega arith in
     rw next (turn_stored _ _ _ _ _ (w * 64) _ _ (omega arith) (omega arith) c.requires.1 c.later.ensures c.in_window.ensures c.store.ensures c.loop-w.invariant)
-
-pub returns : goal.returns
-returns c = last_stored _ _ _ (c.loop-w.w * 64) c.args.end (omega arith) c.loop-w.invariant

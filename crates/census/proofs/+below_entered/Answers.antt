@@ -1,7 +1,7 @@
 use native.Mathlib.Omega.{arith}
 use mathlib.Core.Path.{sym, ap, ◌∙◌}
 use Rattle.plan.specs.Answers.{item_of}
-use Rattle.census.proofs.Small.{order_small}
+use Rattle.nest.proofs.Small.{order_small}
 use Rattle.census.proofs.Counting.{below_start, below_segment, below_loop, below_end, entered_deep, entered_past, entered_over, entered_next, entered_leaf}
 use Rattle.census.proofs.+below_entered.Goals as goal
 use Rattle.census.proofs.+below_entered.Goals.{below-in-Segment, below-in-Loop, entered-then-leaf, entered-else-leaf}

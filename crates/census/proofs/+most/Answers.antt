@@ -1,7 +1,7 @@
 use native.Mathlib.Omega.{arith}
 use mathlib.Core.Path.{sym, ap, ◌∙◌}
 use Rattle.plan.specs.Answers.{item_of}
-use Rattle.census.proofs.Small.{order_small}
+use Rattle.nest.proofs.Small.{order_small}
 use Rattle.census.proofs.Bounding.{most_deep, most_start, most_segment, most_loop, most_end}
 use Rattle.census.proofs.+most.Goals as goal
 use Rattle.census.proofs.+most.Goals.{in-Segment, in-Loop}

@@ -1,4 +1,4 @@
-use Rattle.census.proofs.Small.{root_small}
+use Rattle.nest.proofs.Small.{root_small}
 use Rattle.census.proofs.Bounding.{roots_most, roots_most_next, roots_most_end}
 use Rattle.census.proofs.bound.Goals as goal
 

@@ -1,4 +1,4 @@
-use Rattle.census.proofs.Small.{root_small}
+use Rattle.nest.proofs.Small.{root_small}
 use Rattle.census.proofs.Counting.{rooted, rooted_next, rooted_end, outside_sound}
 use Rattle.census.proofs.census.Goals as goal
 

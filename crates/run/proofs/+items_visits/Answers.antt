@@ -1,19 +1,20 @@
 use Prim.Native.Nat.{ℕ, ◌+◌, ◌-◌, ◌<◌}
-use mathlib.Core.Path.{ap}
+use mathlib.Core.Path.{sym, ap, ◌∙◌}
 use mathlib.Core.List.{[]}
 use native.Mathlib.Omega.{arith}
 use lib.ListN.{length}
 use Rattle.lent.specs.Fit.{cap}
+use Rattle.plan.specs.Answers.{item_of}
 use Rattle.nest.specs.Job.{outline_by}
+use Rattle.nest.proofs.Small.{order_small}
 use Rattle.walk.specs.Contexts.{context_by}
 use Rattle.walk.specs.Tour.{segments_in}
 use Rattle.walk.proofs.TourLaws.{steps_of}
 use Rattle.emit.specs.Did.{Fit}
 use Rattle.emit.proofs.DidLaws.{did_small, did_fit}
 use Rattle.instances.proofs.Cursors.{came_in, sound_in}
-use Rattle.run.proofs.Reading.{item_small}
 use Rattle.run.proofs.Along.{far_small}
-use Rattle.run.proofs.Walking.{items_within, instance_within, instance_took, within, loop_small, items_none, items_end, segment_within, segment_written, segment_next, loop_within, loop_written, loop_count, loop_next, visits_none, visits_low, visits_within, visits_end, instance_fits, fewer, sum_fits, visits_next, few_instances, few_children}
+use Rattle.run.proofs.Walking.{items_within, instance_within, instance_took, within, items_none, items_end, segment_within, segment_written, segment_next, loop_within, loop_written, loop_count, loop_next, visits_none, visits_low, visits_within, visits_end, instance_fits, fewer, sum_fits, visits_next, few_instances, few_children}
 use Rattle.run.proofs.+items_visits.Goals as goal
 use Rattle.run.proofs.+items_visits.Goals.{items-in-Segment, items-in-Loop, items-Start, visits-Start, visits-After-context_in-d}
 
@@ -47,7 +48,7 @@ items-visits-v-requires t c =
     let a = c.loop-k.invariant.along in
     let b = c.loop-k-test.true in
     let y = c.order_item-it.ensures _ order b in
-    let below = loop_small _ _ c.in-Loop.is (item_small _ c.args.nest.nested.ready.passed _ _ _ y (rw (← order.count) b)) in
+    let below = order_small _ c.args.nest.nested.ready.passed _ _ _ _ order.count b (sym (ap item_of c.in-Loop.is) ∙ y) in
     let room = loop_within _ _ _ _ _ _ order.count a c.order_item-it.result b y _ c.in-Loop.is c.requires.1 in
     (omega (arith, (goal.at.items-visits-v-requires t c).Start), (record { small = far_small a.far; sound = w.sound; loop = below }, room))
 

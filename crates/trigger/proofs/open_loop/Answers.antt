@@ -1,10 +1,21 @@
-use Rattle.trigger.proofs.Names.{did_opener}
-use mathlib.Core.Path.{refl}
-use Rattle.format.specs.Spec.{count_segments}
+use Rattle.trigger.proofs.Names.{trigger_long, did_opener}
+use mathlib.Core.Path.{refl, sym, ap, ◌∙◌}
+use Rattle.spec.specs.Answers.{rule_of}
+use Rattle.nest.specs.Finding.{number_from}
 use Rattle.trigger.proofs.open_loop.Goals as goal
 
-pub put_opener-put-requires : goal.put_opener-put-requires
-put_opener-put-requires c = record { loop = c.args.l.0; control = record { opener = c.args.opener; closer = 0; count = 0; counted = count_segments }; number = c.args.number; framed = c.frame_of-w.ensures _ refl }
+pub id_number-name-requires : goal.id_number-name-requires
+id_number-name-requires c = (trigger_long _ c.args.job.ready.passed _ _ c.trigger-id.ensures, c.trigger-id.ensures.within)
+
+pub invariant_of-w : goal.invariant_of-w
+invariant_of-w c = record {
+  sep_is = sym c.separators_of-sep.ensures;
+  delimiters_are = c.delimiters_of-delimiters.ensures;
+  id_is = c.trigger-id.ensures;
+  name_is = c.id_number-name.ensures ∙ ap (number_from 0) c.trigger-id.ensures.bytes;
+  depth_is = c.depth-depth.ensures;
+  control_is = c.control_in-control.ensures (rule_of c.args.rule) refl;
+}
 
 pub returns : goal.returns
-returns c = λ k p e f. did_opener _ _ k _ p f c.requires.0 (c.put_opener-put.ensures _ k _ (c.frame_of-w.ensures k e)) c.finish_segment.ensures
+returns c = λ p. did_opener _ _ (rule_of c.args.rule) _ p c.requires.2 c.requires.0 c.put_opener-put.ensures c.finish_segment.ensures

@@ -1,8 +1,5 @@
 use native.Mathlib.Omega.{arith}
-use Rattle.nest.specs.Nest.{nest_array}
-use Rattle.nest.specs.Ready.{outline_at}
-use Rattle.nest.specs.Rising.{rising_flags}
-use Rattle.writer.proofs.NestedLaws.{array_stored, array_long, both_stored}
+use Rattle.writer.proofs.NestedLaws.{array_stored, array_long}
 use Rattle.writer.proofs.hang_rows.Goals as goal
 
 pub mark_rising-requires : goal.mark_rising-requires

@@ -1,5 +1,5 @@
 use mathlib.Core.Path.{refl, sym, ◌∙◌}
-use borrow.Author.Tests.{ltb-true, ltb-false}
+use borrow.Author.Tests.{ltb-true}
 use Rattle.writer.proofs.AnswerLaws.{refused_6, passed_refusal, wrote_refused}
 use Rattle.writer.proofs.nested.Goals as goal
 

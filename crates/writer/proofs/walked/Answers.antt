@@ -1,7 +1,5 @@
-use mathlib.Core.Path.{sym}
 use native.Mathlib.Omega.{arith}
-use lib.Seq.{length-take-le}
-use Rattle.writer.proofs.FilledLaws.{started, wrote_filled}
+use Rattle.writer.proofs.FilledLaws.{wrote_filled}
 use Rattle.writer.proofs.walked.Goals as goal
 
 pub returns : goal.returns

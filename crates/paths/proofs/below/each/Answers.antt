@@ -5,9 +5,6 @@ use borrow.Author.Count.{below_more}
 use Rattle.paths.proofs.BelowLaws.{each_all, each_bad}
 use Rattle.paths.proofs.below.each.Goals as goal
 
-pub loop-k-init : goal.loop-k-init
-loop-k-init g c = λ p h i k. absurd (omega arith)
-
 pub returns-then-not-passes : goal.returns-then-not-passes
 returns-then-not-passes g c = λ p h. sym (each_bad p _ _ c.loop-k-test.true (sym (h _ _ c.loop-k-test.true c.passes.ensures) ∙ c.if-not-passes.true))
 

@@ -1,11 +1,5 @@
-use Rattle.paths.proofs.Answers.{up_start, up_on, up_yes, up_no, up_end}
+use Rattle.paths.proofs.Answers.{up_yes, up_no, up_end}
 use Rattle.paths.proofs.up.fits.Goals as goal
-
-pub loop-i-init : goal.loop-i-init
-loop-i-init c = up_start _ _ _ _ _ c.loops-n.ensures.0
-
-pub loop-i-preserved : goal.loop-i-preserved
-loop-i-preserved c = up_on _ _ _ _ _ _ _ _ c.loop-i.invariant _ c.loop-i-test.true c.step_up.ensures _ _ c.in-On.is
 
 pub returns-in-Top : goal.returns-in-Top
 returns-in-Top c = up_yes _ _ _ _ _ _ _ _ c.loop-i.invariant _ c.loop-i-test.true c.step_up.ensures c.in-Top.is

@@ -7,7 +7,7 @@ use Rattle.trigger.proofs.opener.put_opener.Goals as goal
 use Rattle.trigger.proofs.opener.put_opener.Goals.{Start}
 
 pub put_elements-drawn-requires : goal.put_elements-drawn-requires
-put_elements-drawn-requires c = let t = c.requires in (t.framed.id.within, opening _ _ _ t.loop t.control t.number t.framed c.elements_in-c.ensures)
+put_elements-drawn-requires c = opening c.args.w.now _ c.elements_in-c.ensures
 
 pub returns : goal.returns
-returns c = λ l k number F. let h : length c.args.doc.now ≤ cap = omega (arith, (goal.at.returns c).Start) in opened_all l k number F h c.elements_in-c.ensures c.begin-pen.ensures c.put_elements-drawn.ensures c.close-bytes.ensures
+returns c = let h : length c.args.doc.now ≤ cap = omega (arith, (goal.at.returns c).Start) in opened_all c.args.w.now h c.elements_in-c.ensures c.begin-pen.ensures c.put_elements-drawn.ensures c.close-bytes.ensures

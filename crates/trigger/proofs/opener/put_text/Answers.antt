@@ -3,5 +3,5 @@ use Rattle.trigger.proofs.Draws.{reach_one}
 use Rattle.trigger.proofs.opener.put_text.Goals as goal
 
 pub returns : goal.returns
-returns c = λ j trigger e q. let a = c.args in
-    record { drawn = rw c.sticks-stuck.ensures c.draw-pen.ensures; findings = c.note_text-noted.ensures j trigger e q; entries = rw c.entries_of.ensures at c.more-entries.ensures; last = reach_one a.at.last a.p _ (value_text a.job.now a.src.given.value) c.raised-last.ensures }
+returns c = let a = c.args in
+    record { drawn = rw c.sticks-stuck.ensures c.draw-pen.ensures; findings = c.note_text-noted.ensures; entries = rw c.entries_of.ensures at c.more-entries.ensures; last = reach_one a.at.last a.p _ (value_text a.w.now.job.at.bytes.now a.src.given.value) c.raised-last.ensures }
