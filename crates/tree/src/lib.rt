@@ -21,7 +21,8 @@ use codec::{Form, Section};
 use format::{Control, Item, Table};
 pub use loops::Loops;
 
-// ---- numbers that are no loop's, of n loops
+// ---- numbers that are no loop's, of n loops. The section and n go through these tests, and the place changes at each: a struct of the two would save a
+// parameter, and be no plainer.
 
 fn outside_at(s: Section, at: usize, n: usize) -> bool
     ensures { Says num_c s.entry.bytes.now s.entry.end at (outside n) result }
