@@ -1,7 +1,7 @@
 -- What stands at a place, taken apart: from a structure to its fields, from a list to its items.
 use Prim.Native.Nat.{ℕ, zero, suc, ◌+◌, ◌*◌, ◌≤◌, ◌<◌}
 use Rattle.std.proofs.Math.Path.{◌≡◌}
-use Rattle.std.specs.Prelude.{refl, List, [], ◌∷◌, ◌⊎◌, Bool, true, false, length, get_or, leb, None, Some}
+use Rattle.std.specs.Prelude.{refl, List, [], ◌∷◌, ◌⊎◌, Bool, true, false, length, get_or, leb, Option, None, Some}
 use Rattle.std.proofs.Common.{sym, ap, subst, ◌∙◌, inl, inr, arith, add-zero, mul-zero, mul-suc, mul_comm, leb-true, leb-false}
 use Rattle.codec.specs.Codec.{Got, got, bad, bind, pick, Codec, Cases, le, le_c, unit_c, dep_c, ◌⊗◌, map_c, when_c, enum_c, ◌⊕◌, end_c, list_c, items_read}
 use Rattle.codec.specs.Skip.{after, skip, skip_case, steps, count_at, Is, value_le, skip_le, skip_short, steps_end}
@@ -203,3 +203,54 @@ is_when {A} P C b e at v h = go (C.read b at e) h
     go : (r : Got A) → bind r (λ x n. pick (P x) (got x n) bad) ≡ got v (after e (bind r (λ x n. pick (P x) (got x n) bad))) → (r ≡ got v (after e r)) × (P v ≡ true)
     go (got x n) k = tested x n (P x) refl k
     go bad k = absurd (let z : ◌≡◌ {A = ℕ} 0 1 = cc in omega arith)
+
+-- some value stands at a place, within the bytes: what a reader asks that goes by place without a test
+pub record Stands {A : Type 0} (C : Codec A) (b : List ℕ) (at : ℕ) : Type 0 where
+  pub end : ℕ
+  pub value : A
+  pub within : end ≤ length b
+  pub is : Is C b end at value
+
+pub stands_le : (k : ℕ) (b : List ℕ) (at : ℕ) → Stands (le_c k) b at → at + k ≤ length b
+stands_le k b at s = omega (arith, s.within, (is_le k b s.end at s.value s.is).0)
+
+-- at the place p that was read, for the place q at which it is known to stand
+pub stands_at : {A : Type 0} (C : Codec A) (b : List ℕ) (p q e : ℕ) (v : A) → p ≡ q → e ≤ length b → Is C b e q v → Stands C b p
+stands_at C b p q e v h l i = record { end = e; value = v; within = l; is = is_at C b e p q v h i }
+
+-- an enum has the byte of its case
+pub stands_case : {A B : Type 0} (f : A → B) (g : B → A) (fg : (y : B) → f (g y) ≡ y) (gf : (x : A) → g (f x) ≡ x) (C : Cases A) (b : List ℕ) (at : ℕ) → Stands (map_c f g fg gf (enum_c C)) b at → at < length b
+stands_case f g fg gf C b at s = omega (arith, s.within, (is_enum C b s.end at _ (is_map f g fg gf (enum_c C) b s.end at s.value s.is)).room)
+
+module _ {A : Type 0} (C : Codec A) (b : List ℕ) (at : ℕ) where
+  pub stands_in : Stands C b at → at ≤ length b
+  stands_in s = omega (arith, s.within, is_in C b s.end at s.value s.is)
+
+  -- an option has its byte, and behind it what it holds
+  pub stands_opt : Stands (opt_c C) b at → at < length b
+  unfolding opt_c
+  stands_opt s = stands_case _ _ _ _ _ b at s
+
+  pub stands_some : Stands (opt_c C) b at → (get_or b at 0 ≡ 0 → ⊥) → Stands C b (at + 1)
+  stands_some s h = go s.value s.is
+    where
+      go : (v : Option A) → Is (opt_c C) b s.end at v → Stands C b (at + 1)
+      go None i = absurd (h (is_none C b s.end at i))
+      go (Some x) i = stands_at C b (at + 1) (at + 1) s.end x refl s.within (is_some C b s.end at x i).1
+
+  -- a list has its count
+  pub stands_list : Stands (list_c C) b at → at + 4 ≤ length b
+  stands_list s = omega (arith, s.within, (is_list C b s.end at s.value s.is).room)
+
+-- of two structures, one behind the other
+module _ {A B : Type 0} (C : Codec A) (D : Codec B) (b : List ℕ) (at : ℕ) (s : Stands (C ⊗ D) b at) where
+  pub stands_first : Stands C b at
+  stands_first = stands_at C b at at s.end s.value.0 refl s.within (is_pair C D b s.end at s.value s.is).0
+
+  pub stands_second : (p : ℕ) → ((e : ℕ) (v : A) → Is C b e at v → p ≡ skip C b at e) → Stands D b p
+  stands_second p f =
+      let t = is_pair C D b s.end at s.value s.is in
+      stands_at D b p (skip C b at s.end) s.end s.value.1 (f s.end s.value.0 t.0) s.within t.1
+
+pub stands_next : {A : Type 0} (k : ℕ) (C : Codec A) (b : List ℕ) (at : ℕ) → Stands (le_c k ⊗ C) b at → Stands C b (at + k)
+stands_next k C b at s = stands_second (le_c k) C b at s (at + k) (λ e v h. sym (skip_le k b at e (is_le k b e at v h).0))

@@ -76,9 +76,11 @@ impl<F: Form> Form for Opt<F> {
     ghost codec = { opt_c F.codec };
 
     fn ends_at(s: Section, at: usize) -> usize {
-        let t = s.le_at(1, at);
-        let p = F::ends_at(s, t);
-        s.opt_end(at, p)
+        match s.case(at) {
+            Some(0) => at + 1,
+            Some(1) => F::ends_at(s, at + 1),
+            _ => s.past(),
+        }
     }
 }
 

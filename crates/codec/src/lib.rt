@@ -39,27 +39,15 @@ pub fn le_at(b: &[u8], w: u8, at: usize, end: u32) -> usize
 }
 
 // The number in four bytes that are all there: the compiler makes one load of it.
-pub(crate) fn num_in(b: &[u8], at: usize) -> usize
+pub fn num_in(b: &[u8], at: usize) -> usize
     requires { at + 4 ≤ length b.now }
     ensures { (result ≡ le 4 b.now at) × (result < 4294967296) }
 {
     u32::from_le_bytes([b[at], b[at + 1], b[at + 2], b[at + 3]]) as usize
 }
 
-// The number in four bytes, those past the last being 0. By a sum: `from_le_bytes`, as in `num_in`, is no plainer, since each of the four that
-// `byte_at` gives is a usize, and would have to be made a byte again.
-fn num_past(b: &[u8], at: usize) -> usize
-    requires { at < 1152921504606846976 }
-    ensures { (result ≡ le 4 b.now at) × (result < 4294967296) }
-{
-    let b0 = byte_at(b, at);
-    let b1 = byte_at(b, at + 1);
-    let b2 = byte_at(b, at + 2);
-    let b3 = byte_at(b, at + 3);
-    b0 + 256 * (b1 + 256 * (b2 + 256 * b3))
-}
-
-// The number in the four bytes at a place.
+// The number in the four bytes at a place, those past the last being 0. The sum is no plainer by `from_le_bytes`, as in `num_in`, since each of the
+// four that `byte_at` gives is a usize, and would have to be made a byte again.
 pub fn num(b: &[u8], at: usize) -> usize
     requires { at < 1152921504606846976 }
     ensures { (result ≡ le 4 b.now at) × (result < 4294967296) }
@@ -67,21 +55,20 @@ pub fn num(b: &[u8], at: usize) -> usize
     if at + 4 <= b.len() {
         return num_in(b, at);
     }
-    num_past(b, at)
+    let b0 = byte_at(b, at);
+    let b1 = byte_at(b, at + 1);
+    let b2 = byte_at(b, at + 2);
+    let b3 = byte_at(b, at + 3);
+    b0 + 256 * (b1 + 256 * (b2 + 256 * b3))
 }
 
-// The number in the eight bytes at a place.
-pub fn long(b: &[u8], at: usize) -> u64
-    requires { at < 1152921504606846960 }
+// The number in eight bytes that are all there.
+pub fn long_in(b: &[u8], at: usize) -> u64
+    requires { at + 8 ≤ length b.now }
     ensures { result ≡ le 8 b.now at }
 {
-    if at + 8 <= b.len() {
-        let low = num_in(b, at) as u64;
-        let high = num_in(b, at + 4) as u64;
-        return low + 4294967296 * high;
-    }
-    let low = num_past(b, at) as u64;
-    let high = num_past(b, at + 4) as u64;
+    let low = num_in(b, at) as u64;
+    let high = num_in(b, at + 4) as u64;
     low + 4294967296 * high
 }
 

@@ -19,7 +19,6 @@ impl<'a> Section<'a> {
     ghost use Rattle.codec.specs.Codec.{le_c, list_c};
     ghost use Rattle.codec.specs.Skip.{count_at, case_of, case_end};
     ghost use Rattle.codec.specs.Forms.{num_c, bytes_c, opt_c};
-    ghost use Rattle.codec.specs.Ways.{opt_end};
     ghost use Rattle.codec.specs.Within.{ends};
 
     // One past the end: where nothing was read, as in `skip`.
@@ -75,17 +74,6 @@ impl<'a> Section<'a> {
             return None;
         }
         Some(self.bytes[at])
-    }
-
-    // The end of an option whose value, if it has one, ends at p.
-    pub fn opt_end(self, at: usize, p: usize) -> usize
-        ensures { result ≡ opt_end self.entry.bytes.now at self.entry.end p }
-    {
-        match self.case(at) {
-            Some(0) => at + 1,
-            Some(1) => p,
-            _ => self.past(),
-        }
     }
 
     // An enum of n cases that hold nothing.

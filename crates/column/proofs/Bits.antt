@@ -10,7 +10,7 @@ use lib.Dec.{eqb}
 use borrow.Author.Tests.{lt-ltb, le-ltb}
 use Rattle.codec.specs.Codec.{◌⊗◌, le, le_c}
 use Rattle.codec.specs.Skip.{skip, Is}
-use Rattle.codec.specs.Field.{is_pair, is_list, is_le}
+use Rattle.codec.specs.Field.{Stands, is_pair, is_list, is_le}
 use Rattle.codec.specs.Forms.{num_c, bytes_c}
 use Rattle.codec.specs.Answers.{skip_les, byte_item}
 use Rattle.column.specs.Cell.{bit_of}
@@ -27,9 +27,9 @@ split b e at n bytes count i h =
 counts : (b : List ℕ) (e at n k : ℕ) (bytes : List ℕ) (count : ℕ) → n ≡ le 4 b at → k ≡ le 4 b (at + 4 + n) → Is (bytes_c ⊗ num_c) b e at (bytes, count) → (length bytes ≡ n) × (count ≡ k)
 counts b e at n k bytes count i j h = let t = split b e at n bytes count i h in (t.0, (is_le 4 b e (at + 4 + n) count t.1).1 ∙ sym j)
 
--- nothing stands where it would pass the end
-pub bit_outside : {A : Type 0} (b : List ℕ) (at n : ℕ) → n ≡ le 4 b at → length b < at + 8 + n → (e : ℕ) (bytes : List ℕ) (count : ℕ) → e ≤ length b → Is (bytes_c ⊗ num_c) b e at (bytes, count) → A
-bit_outside b at n i h e bytes count l is = absurd (omega (arith, (is_le 4 b e (at + 4 + n) count (split b e at n bytes count i is).1).0))
+-- all its bytes are there
+pub bits_in : (b : List ℕ) (at n : ℕ) → n ≡ le 4 b at → Stands (bytes_c ⊗ num_c) b at → at + 8 + n ≤ length b
+bits_in b at n i s = omega (arith, s.within, (is_le 4 b s.end (at + 4 + n) s.value.1 (split b s.end at n s.value.0 s.value.1 i s.is).1).0)
 
 module _ (b : List ℕ) (at row n k : ℕ) (i : n ≡ le 4 b at) (j : k ≡ le 4 b (at + 4 + n)) where
   pub bit_past : k ≤ row → (e : ℕ) (bytes : List ℕ) (count : ℕ) → e ≤ length b → Is (bytes_c ⊗ num_c) b e at (bytes, count) → None ≡ bit_of bytes count row

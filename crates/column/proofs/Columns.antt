@@ -8,73 +8,75 @@ use Rattle.std.specs.Prelude.{Option, None, Some}
 use lib.ListN.{length, get_or}
 use Rattle.codec.specs.Codec.{◌⊗◌, le, le_c}
 use Rattle.codec.specs.Skip.{skip, Is, skip_map, skip_pair, skip_le}
-use Rattle.codec.specs.Field.{is_in, is_map, is_enum, is_pair, is_le, is_some, is_none}
+use Rattle.codec.specs.Field.{Stands, stands_at, stands_in, is_in, is_map, is_enum, is_pair, is_le, is_some, is_none}
 use Rattle.codec.specs.Forms.{num_c, bytes_c, opt_c}
 use Rattle.codec.specs.Ways.{tag_in, opt_none, opt_some, skip_opt}
 use Rattle.codec.specs.Answers.{skip_les}
 use Rattle.format.specs.Data.{Values, values_c, Column, column_c}
 use Rattle.column.specs.Cell.{Cell, bit_of, value_of, get, opt_get, validated, int64_of}
 use Rattle.column.specs.Answers.{Reads}
-use Rattle.column.specs.Parts.{ColumnIs, is_column}
+use Rattle.column.specs.Parts.{ColumnIs, ColumnOf, is_column}
 use Rattle.column.specs.declared.Cell.{Cell as Read}
 use Rattle.column.specs.declared.Cell.TheVariants.{None as NoAnswer, Null}
-use Rattle.column.proofs.Bits.{bit_outside}
 use Rattle.column.proofs.Read.{reads_none, reads_null}
 use Rattle.column.proofs.Values.{Reader, Ending, value_is, other_value, ending_room, ends_at}
 
-pub column_end : (b : List ℕ) (at p n : ℕ) → ((e : ℕ) (v : Values) → Is values_c b e at v → p ≡ skip values_c b at e) → n ≡ le 4 b p → (e : ℕ) (v : Column) → Is column_c b e at v → p + 4 + n + 4 ≡ skip column_c b at e
-unfolding column_c
-column_end b at p n f i e v is =
-    let h : ColumnIs b e at v = is_column b e at v is in
-    let q : p ≡ skip values_c b at e = f e v.values h.values in
-    let t = is_pair bytes_c num_c b e p (v.validity, v.length) (rw q h.validity) in
-    let o : p + 4 + le 4 b p * 1 ≡ p + 4 + n = omega (arith, i) in
-    let r : skip bytes_c b p e ≡ p + 4 + n = skip_les 1 b e p v.validity t.0 ∙ o in
-    let s : p + 4 + n + 4 ≤ e = rw r at (is_le 4 b e _ v.length t.1).0 in
-    sym (skip_map _ _ _ _ _ b at e ∙ skip_pair _ _ b at e ∙ rw (← q) (skip_pair bytes_c num_c b p e ∙ rw r (skip_le 4 b (p + 4 + n) e s)))
-
--- no column of kind k stands where its validity would pass the end
-pub column_outside : {A : Type 0} (b : List ℕ) (at n k p : ℕ) → n ≡ le 4 b (at + 1) → get_or b at 0 ≡ k → p ≡ Ending b at n k → length b < p + 8 → (e : ℕ) (v : Column) → e ≤ length b → Is column_c b e at v → A
-column_outside b at n k p i h j o e v l is =
-    let c : ColumnIs b e at v = is_column b e at v is in
-    let q : p ≡ skip values_c b at e = ends_at b at n k p i h j e v.values c.values in
-    bit_outside b p (le 4 b p) refl (omega arith) e v.validity v.length l (rw q c.validity)
-
--- ---- the cell of a row in a column of kind k, whose validity stands at p: its bit decides
-module _ (b : List ℕ) (at row n k p : ℕ) (i : n ≡ le 4 b (at + 1)) (h : get_or b at 0 ≡ k) (j : p ≡ Ending b at n k) (bit : Option Bool)
-    (g : (e : ℕ) (bytes : List ℕ) (count : ℕ) → e ≤ length b → Is (bytes_c ⊗ num_c) b e p (bytes, count) → bit ≡ bit_of bytes count row) where
-  told : (t : Option Bool) → bit ≡ t → (e : ℕ) (v : Column) → e ≤ length b → Is column_c b e at v → validated t (value_of v.values row) ≡ get v row
-  unfolding get
-  told t m e v l is =
+-- ---- p is the place behind the values: there stands the validity, and the column ends behind it
+module _ (b : List ℕ) (at p : ℕ) (f : (e : ℕ) (v : Values) → Is values_c b e at v → p ≡ skip values_c b at e) where
+  validity_is : (e : ℕ) (v : Column) → Is column_c b e at v → Is (bytes_c ⊗ num_c) b e p (v.validity, v.length)
+  validity_is e v is =
       let c : ColumnIs b e at v = is_column b e at v is in
-      let q : p ≡ skip values_c b at e = ends_at b at n k p i h j e v.values c.values in
-      rw ((sym m) ∙ g e v.validity v.length l (rw q c.validity))
+      let q : p ≡ skip values_c b at e = f e v.values c.values in
+      rw q c.validity
 
-  pub get_missing : bit ≡ None → (e : ℕ) (v : Column) → e ≤ length b → Is column_c b e at v → Reads b NoAnswer (get v row)
-  get_missing m e v l is = reads_none b (told None m e v l is)
+  pub validity_stands : Stands column_c b at → Stands (bytes_c ⊗ num_c) b p
+  validity_stands s = stands_at (bytes_c ⊗ num_c) b p p s.end (s.value.validity, s.value.length) refl s.within (validity_is s.end s.value s.is)
 
-  pub get_unset : bit ≡ Some false → (e : ℕ) (v : Column) → e ≤ length b → Is column_c b e at v → Reads b Null (get v row)
-  get_unset m e v l is = reads_null b (told (Some false) m e v l is)
+  pub column_end : (n : ℕ) → n ≡ le 4 b p → (e : ℕ) (v : Column) → Is column_c b e at v → p + 4 + n + 4 ≡ skip column_c b at e
+  unfolding column_c
+  column_end n i e v is =
+      let q : p ≡ skip values_c b at e = f e v.values (is_column b e at v is).values in
+      let t = is_pair bytes_c num_c b e p (v.validity, v.length) (validity_is e v is) in
+      let o : p + 4 + le 4 b p * 1 ≡ p + 4 + n = omega (arith, i) in
+      let r : skip bytes_c b p e ≡ p + 4 + n = skip_les 1 b e p v.validity t.0 ∙ o in
+      let s : p + 4 + n + 4 ≤ e = rw r at (is_le 4 b e _ v.length t.1).0 in
+      sym (skip_map _ _ _ _ _ b at e ∙ skip_pair _ _ b at e ∙ rw (← q) (skip_pair bytes_c num_c b p e ∙ rw r (skip_le 4 b (p + 4 + n) e s)))
 
-  pub get_set : bit ≡ Some true → (r : Read) → Reader b (at + 1) row r k → (e : ℕ) (v : Column) → e ≤ length b → Is column_c b e at v → Reads b r (get v row)
-  get_set m r f e v l is = rw (← told (Some true) m e v l is) (value_is b at row r k h f e v.values l (is_column b e at v is).values)
+-- its kind and the count of its first list are there
+pub column_in : {b : List ℕ} {at : ℕ} → Stands column_c b at → at + 5 ≤ length b
+column_in {b} {at} s = omega (arith, ending_room b at (le 4 b (at + 1)) (get_or b at 0), stands_in _ _ _ (validity_stands b at _ (ends_at b at _ _ _ refl refl refl) s))
+
+-- ---- a column of kind k
+module _ {b : List ℕ} {at k n : ℕ} (w : ColumnOf b at k n) where
+  ending_is : (p : ℕ) → p ≡ Ending b at n k → (e : ℕ) (v : Values) → Is values_c b e at v → p ≡ skip values_c b at e
+  ending_is p j = ends_at b at n k p w.count (sym w.kind) j
+
+  pub ending_stands : (p : ℕ) → p ≡ Ending b at n k → Stands (bytes_c ⊗ num_c) b p
+  ending_stands p j = validity_stands b at p (ending_is p j) w.stands
+
+  -- its values are all there
+  pub values_in : Ending b at n k ≤ length b
+  values_in = stands_in (bytes_c ⊗ num_c) b _ (ending_stands _ refl)
+
+  -- the cell of a row: its bit decides
+  module _ (row p : ℕ) (j : p ≡ Ending b at n k) (bit : Option Bool) (g : (e : ℕ) (bytes : List ℕ) (count : ℕ) → e ≤ length b → Is (bytes_c ⊗ num_c) b e p (bytes, count) → bit ≡ bit_of bytes count row) where
+    told : (t : Option Bool) → bit ≡ t → (e : ℕ) (v : Column) → e ≤ length b → Is column_c b e at v → validated t (value_of v.values row) ≡ get v row
+    unfolding get
+    told t m e v l is = rw ((sym m) ∙ g e v.validity v.length l (validity_is b at p (ending_is p j) e v is))
+
+    pub get_missing : bit ≡ None → (e : ℕ) (v : Column) → e ≤ length b → Is column_c b e at v → Reads b NoAnswer (get v row)
+    get_missing m e v l is = reads_none b (told None m e v l is)
+
+    pub get_unset : bit ≡ Some false → (e : ℕ) (v : Column) → e ≤ length b → Is column_c b e at v → Reads b Null (get v row)
+    get_unset m e v l is = reads_null b (told (Some false) m e v l is)
+
+    pub get_set : bit ≡ Some true → (r : Read) → Reader b (at + 1) row r k → (e : ℕ) (v : Column) → e ≤ length b → Is column_c b e at v → Reads b r (get v row)
+    get_set m r f e v l is = rw (← told (Some true) m e v l is) (value_is b at row r k (sym w.kind) f e v.values l (is_column b e at v is).values)
 
 -- ---- optional columns
-column_room : (b : List ℕ) (e at : ℕ) (v : Column) → Is column_c b e at v → at + 5 ≤ e
-column_room b e at v is =
-    let c : ColumnIs b e at v = is_column b e at v is in
-    let n = le 4 b (at + 1) in
-    let k = get_or b at 0 in
-    let q : Ending b at n k ≡ skip values_c b at e = ends_at b at n k _ refl refl refl e v.values c.values in
-    omega (arith, ending_room b at n k, is_in (bytes_c ⊗ num_c) b e (skip values_c b at e) _ c.validity)
-
 pub opt_zero : (b : List ℕ) (at : ℕ) → get_or b at 0 ≡ 0 → (e : ℕ) (o : Option Column) → e ≤ length b → Is (opt_c column_c) b e at o → o ≡ None
 opt_zero b at h e None l is = refl
 opt_zero b at h e (Some x) l is = absurd (omega (arith, (is_some column_c b e at x is).0))
-
-pub opt_short : (b : List ℕ) (at : ℕ) → length b < at + 6 → (e : ℕ) (o : Option Column) → e ≤ length b → Is (opt_c column_c) b e at o → o ≡ None
-opt_short b at h e None l is = refl
-opt_short b at h e (Some x) l is = absurd (omega (arith, column_room b e (at + 1) x (is_some column_c b e at x is).1))
 
 pub opt_absent : (b : List ℕ) (row : ℕ) (o : Option Column) → o ≡ None → Reads b NoAnswer (opt_get o row)
 unfolding opt_get

@@ -8,7 +8,7 @@ use lib.ListN.{length, get_or}
 use borrow.Author.Tests.{eq-eqb, ne_eqb}
 use Rattle.codec.specs.Codec.{Codec, ◌⊗◌, le}
 use Rattle.codec.specs.Skip.{skip, steps, Is, skip_pair, skip_le}
-use Rattle.codec.specs.Field.{ListIs, is_pair, is_list, is_le}
+use Rattle.codec.specs.Field.{Stands, stands_at, ListIs, is_pair, is_list, is_le}
 use Rattle.codec.specs.Forms.{num_c, opt_c}
 use Rattle.format.specs.Data.{Column, column_c}
 use Rattle.column.specs.Cell.{opt_get, int64_of, or_else, key_in, ref_column, reference_in}
@@ -49,6 +49,14 @@ module _ (b : List ℕ) (above : ℕ) where
       let t : ListIs (num_c ⊗ opt_c column_c) b e at refs = is_list _ b e at refs is in
       record { entries = refs; many = (let z = t.counted in omega arith); stand = items _ b e (at + 4) refs t.item; gives = refl }
 
+  -- the entry that the search has come to
+  pub rest_stands : (at left p : ℕ) → ((e : ℕ) (refs : List (ℕ × Option Column)) → e ≤ length b → Is refs_c b e at refs → Rest b above e left p (ref_column refs above)) → Stands refs_c b at → 0 < left → Stands (num_c ⊗ opt_c column_c) b p
+  rest_stands at left p f s h = let r = f s.end s.value s.within s.is in go r.entries r.many r.stand
+    where
+      go : (ws : List (ℕ × Option Column)) → length ws ≡ left → Items (num_c ⊗ opt_c column_c) b s.end p ws → Stands (num_c ⊗ opt_c column_c) b p
+      go [] m i = absurd (omega arith)
+      go (w ∷ ws) m i = stands_at (num_c ⊗ opt_c column_c) b p p s.end w refl s.within i.0
+
   module _ (e left p : ℕ) (o : Option Column) where
     entry : (r : ℕ × Option Column) → Is (num_c ⊗ opt_c column_c) b e p r → (r.0 ≡ le 4 b p) × (Is (opt_c column_c) b e (p + 4) r.1 × (skip (num_c ⊗ opt_c column_c) b p e ≡ skip (opt_c column_c) b (p + 4) e))
     entry r is =
@@ -56,13 +64,6 @@ module _ (b : List ℕ) (above : ℕ) where
         let u = is_le 4 b e p r.0 t.0 in
         let q : skip num_c b p e ≡ p + 4 = skip_le 4 b p e u.0 in
         (u.1, (rw q at t.1, skip_pair num_c (opt_c column_c) b p e ∙ rw q))
-
-    pub rest_broken : {A : Type 0} → Rest b above e left p o → 0 < left → e ≤ length b → length b < p + 4 → A
-    rest_broken r h l k = absurd (go r.entries r.many r.stand)
-      where
-        go : (ws : List (ℕ × Option Column)) → length ws ≡ left → Items (num_c ⊗ opt_c column_c) b e p ws → ⊥
-        go [] m s = omega arith
-        go (w ∷ ws) m s = omega (arith, (is_le 4 b e p w.0 (is_pair num_c (opt_c column_c) b e p w s.0).0).0)
 
     pub rest_found : Rest b above e left p o → 0 < left → (t : ℕ) → t ≡ le 4 b p → t ≡ above → Is (opt_c column_c) b e (p + 4) o
     unfolding ref_column
@@ -97,16 +98,21 @@ module _ (b : List ℕ) (above : ℕ) where
         go (w ∷ ws) m g = absurd (omega arith)
 
 -- ---- the reference of a row
-module _ (b : List ℕ) (at above row : ℕ) (found : Option ℕ) (f : (e : ℕ) (refs : List (ℕ × Option Column)) → e ≤ length b → Is refs_c b e at refs → OptColumnAt b e found (ref_column refs above)) where
-  pub reference_is : (p : ℕ) → found ≡ Some p → (x : Option ℕ) → ((e : ℕ) (o : Option Column) → e ≤ length b → Is (opt_c column_c) b e p o → x ≡ int64_of (opt_get o row))
+module _ (b : List ℕ) (at above : ℕ) (found : Option ℕ) (f : (e : ℕ) (refs : List (ℕ × Option Column)) → e ≤ length b → Is refs_c b e at refs → OptColumnAt b e found (ref_column refs above)) where
+  pub found_stands : (p : ℕ) → found ≡ Some p → Stands refs_c b at → Stands (opt_c column_c) b p
+  found_stands p q s =
+      let w : OptColumnAt b s.end (Some p) (ref_column s.value above) = rw q at (f s.end s.value s.within s.is) in
+      stands_at (opt_c column_c) b p p s.end (ref_column s.value above) refl s.within w
+
+  pub reference_is : (row p : ℕ) → found ≡ Some p → (x : Option ℕ) → ((e : ℕ) (o : Option Column) → e ≤ length b → Is (opt_c column_c) b e p o → x ≡ int64_of (opt_get o row))
       → (e : ℕ) (refs : List (ℕ × Option Column)) → e ≤ length b → Is refs_c b e at refs → x ≡ reference_in refs above row
   unfolding reference_in
-  reference_is p q x h e refs l is =
+  reference_is row p q x h e refs l is =
       let w : OptColumnAt b e (Some p) (ref_column refs above) = rw q at (f e refs l is) in
       h e (ref_column refs above) l w
 
-  pub reference_none : found ≡ None → (e : ℕ) (refs : List (ℕ × Option Column)) → e ≤ length b → Is refs_c b e at refs → None ≡ reference_in refs above row
+  pub reference_none : (row : ℕ) → found ≡ None → (e : ℕ) (refs : List (ℕ × Option Column)) → e ≤ length b → Is refs_c b e at refs → None ≡ reference_in refs above row
   unfolding reference_in opt_get
-  reference_none q e refs l is =
+  reference_none row q e refs l is =
       let w : OptColumnAt b e None (ref_column refs above) = rw q at (f e refs l is) in
       sym (rw w)

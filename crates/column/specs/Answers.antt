@@ -41,7 +41,3 @@ pub record Compares (b : List ℕ) (a c : Read) (v : Bool) : Type 0 where
 abbrev pub OptColumnAt : List ℕ → ℕ → Option ℕ → Option Column → Type 0
 OptColumnAt b e (Some p) o = Is (opt_c column_c) b e p o
 OptColumnAt b e None o = o ≡ None
-
-abbrev pub place_of : Option ℕ → ℕ
-place_of (Some p) = p
-place_of None = 0

@@ -1,11 +1,11 @@
 -- Where the parts of a column and of a table's data stand, and what stands there.
 use Rattle.std.specs.Prelude.{ℕ, ◌+◌, ◌≤◌, ◌<◌, ◌≡◌, refl, List, length, get_or, Option, None}
 use Rattle.std.proofs.Math.ListN.{get_or-eq_default}
-use Rattle.codec.specs.Codec.{Codec, ◌⊗◌, list_c}
+use Rattle.codec.specs.Codec.{Codec, ◌⊗◌, le, list_c}
 use Rattle.codec.specs.Skip.{skip, steps, Is, skip_le}
-use Rattle.codec.specs.Field.{is_map, is_pair, is_list, is_le}
+use Rattle.codec.specs.Field.{Stands, is_map, is_pair, is_list, is_le}
 use Rattle.codec.specs.Forms.{num_c, bytes_c, opt_c}
-use Rattle.format.specs.Data.{values_c, Column, column_c, TableData, table_data_c, no_table_data}
+use Rattle.format.specs.Data.{values_c, Column, column_c, TableData, table_data_c}
 use Rattle.column.specs.Cell.{Cell, opt_get, cell_in, cell_of, key_in}
 
 pub record ColumnIs (b : List ℕ) (e at : ℕ) (v : Column) : Type 0 where
@@ -15,6 +15,14 @@ pub record ColumnIs (b : List ℕ) (e at : ℕ) (v : Column) : Type 0 where
 pub is_column : (b : List ℕ) (e at : ℕ) (v : Column) → Is column_c b e at v → ColumnIs b e at v
 unfolding column_c
 is_column b e at v h = let t = is_pair _ _ b e at _ (is_map _ _ _ _ _ b e at v h) in record { values = t.0; validity = t.1 }
+
+-- a column of kind k, whose first list has n numbers
+pub record ColumnOf (b : List ℕ) (at k n : ℕ) : Type 0 where
+  pub stands : Stands column_c b at
+  pub room : at + 5 ≤ length b
+  pub kind : k ≡ get_or b at 0
+  pub count : n ≡ le 4 b (at + 1)
+  pub few : n < 4294967296
 
 -- ---- a table's data: the number of rows stands first, the row column behind it
 abbrev pub refs_c : Codec (List (ℕ × Option Column))
@@ -64,10 +72,6 @@ is_table_data b e at v h = go t (skip_le 4 b at e (is_le 4 b e at v.rows t.0).0)
           columns = x.1;
           column = λ i k. (is_list (opt_c column_c) b e (columns_place b e at) v.columns x.1).item i None k;
         }
-
--- table i of a job's data
-pub is_data : (b : List ℕ) (e at : ℕ) (ts : List TableData) → Is (list_c table_data_c) b e at ts → (i : ℕ) → i < length ts → TableDataIs b e (steps table_data_c b e i (at + 4)) (get_or ts i no_table_data)
-is_data b e at ts h i k = is_table_data b e _ _ ((is_list table_data_c b e at ts h).item i no_table_data k)
 
 -- ---- what is not there
 pub absent_cell : (row : ℕ) → cell_in None row ≡ Cell.null

@@ -1,18 +1,28 @@
 // The cell of a row in the column that stands at a place.
-ghost use Rattle.std.specs.Prelude.{◌≡◌, List, ℕ, ◌+◌, ◌≤◌, ◌<◌, length, get_or};
+ghost use Rattle.std.specs.Prelude.{◌≡◌, List, ℕ, ◌≤◌, ◌<◌, length};
 ghost use Rattle.codec.specs.Codec.{le};
 ghost use Rattle.codec.specs.Skip.{skip, Is};
+ghost use Rattle.codec.specs.Field.{Stands};
 ghost use Rattle.codec.specs.Forms.{bytes_c};
 ghost use Rattle.format.specs.Data.{Values, values_c, Column, column_c};
 ghost use Rattle.column.specs.Cell.{between, get as getOf};
 ghost use Rattle.column.specs.Answers.{Reads};
+ghost use Rattle.column.specs.Parts.{ColumnOf};
 
 use crate::Cell;
-use crate::bitmap::{bit_at, bit_in};
+use crate::bitmap::bit_at;
+
+// The kind of the column that stands at a place, and how many numbers its first list has.
+pub fn head(job: &[u8], at: usize) -> (u8, usize)
+    requires { Stands column_c job.now at }
+    ensures { ColumnOf job.now at result.0 result.1 }
+{
+    (job[at], codec::num_in(job, at + 1))
+}
 
 // The bytes from one offset up to another of the n bytes whose count stands at a place.
 pub fn stretch(at: usize, n: usize, from: u32, to: u32) -> Cell
-    requires { at < 8796093022208 }
+    requires { at < 9223372036854775808 }
     ensures { (b : List ℕ) (e : ℕ) (bytes : List ℕ) → n ≡ le 4 b at → e ≤ length b → Is bytes_c b e at bytes → Reads b result (between bytes from to) }
 {
     if 2147483648 <= to {
@@ -27,21 +37,14 @@ pub fn stretch(at: usize, n: usize, from: u32, to: u32) -> Cell
     Cell::Bytes(at + 4 + from as usize, (to - from) as usize)
 }
 
-// The cell of a row in the column of bytes, with n offsets, that stands at a place. Behind the offsets stand three counts.
+// The cell of a row in the column of bytes, with n offsets, that stands at a place.
 pub fn bytes_cell(job: &[u8], at: usize, n: usize, row: u32) -> Cell
-    requires { (at < 2199023255552) × (n < 4294967296) × (get_or job.now at 0 ≡ 0) × (n ≡ le 4 job.now (at + 1)) }
+    requires { ColumnOf job.now at 0 n }
     ensures { (e : ℕ) (v : Column) → e ≤ length job.now → Is column_c job.now e at v → Reads job.now result (getOf v row) }
 {
     let data = at + 5 + n * 4;
-    if job.len() < data + 12 {
-        return Cell::None;
-    }
-    let room = job.len() - (data + 12);
-    let m = codec::num(job, data);
-    if room < m {
-        return Cell::None;
-    }
-    let bit = bit_in(job, data + m + 4, room - m, row);
+    let m = codec::num_in(job, data);
+    let bit = bit_at(job, data + m + 4, row);
     match bit {
         None => Cell::None,
         Some(false) => Cell::Null,
@@ -50,8 +53,8 @@ pub fn bytes_cell(job: &[u8], at: usize, n: usize, row: u32) -> Cell
             if data <= next {
                 return Cell::None;
             }
-            let from = codec::num(job, next - 4);
-            let to = codec::num(job, next);
+            let from = codec::num_in(job, next - 4);
+            let to = codec::num_in(job, next);
             stretch(data, m, from as u32, to as u32)
         }
     }
@@ -66,7 +69,7 @@ pub fn bytes_cell(job: &[u8], at: usize, n: usize, row: u32) -> Cell
 
 // The cell of a row in the column of n numbers of 64 bits that stands at a place.
 pub fn int_cell(job: &[u8], at: usize, n: usize, row: u32) -> Cell
-    requires { (at < 2199023255552) × (n < 4294967296) × (get_or job.now at 0 ≡ 1) × (n ≡ le 4 job.now (at + 1)) }
+    requires { ColumnOf job.now at 1 n }
     ensures { (e : ℕ) (v : Column) → e ≤ length job.now → Is column_c job.now e at v → Reads job.now result (getOf v row) }
 {
     let bit = bit_at(job, at + 5 + n * 8 + 1, row);
@@ -77,14 +80,14 @@ pub fn int_cell(job: &[u8], at: usize, n: usize, row: u32) -> Cell
             if n <= row as usize {
                 return Cell::None;
             }
-            Cell::Int(codec::long(job, at + 5 + row as usize * 8))
+            Cell::Int(codec::long_in(job, at + 5 + row as usize * 8))
         }
     }
 }
 
 // The cell of a row in the column of n numbers of 128 bits that stands at a place.
 pub fn wide_cell(job: &[u8], at: usize, n: usize, row: u32) -> Cell
-    requires { (at < 2199023255552) × (n < 4294967296) × (get_or job.now at 0 ≡ 2) × (n ≡ le 4 job.now (at + 1)) }
+    requires { ColumnOf job.now at 2 n }
     ensures { (e : ℕ) (v : Column) → e ≤ length job.now → Is column_c job.now e at v → Reads job.now result (getOf v row) }
 {
     let bit = bit_at(job, at + 5 + n * 16 + 1, row);
@@ -95,17 +98,17 @@ pub fn wide_cell(job: &[u8], at: usize, n: usize, row: u32) -> Cell
             if n <= row as usize {
                 return Cell::None;
             }
-            let low = codec::long(job, at + 5 + row as usize * 16);
-            let high = codec::long(job, at + 5 + row as usize * 16 + 8);
-            let scale = codec::byte_at(job, at + 5 + n * 16);
-            Cell::Wide(low, high, scale as u8)
+            let low = codec::long_in(job, at + 5 + row as usize * 16);
+            let high = codec::long_in(job, at + 5 + row as usize * 16 + 8);
+            Cell::Wide(low, high, job[at + 5 + n * 16])
         }
     }
 }
 
 // The cell of a row in the column of n days, which are of kind 3, or seconds that stands at a place.
-pub fn short_cell(job: &[u8], at: usize, kind: usize, n: usize, row: u32) -> Cell
-    requires { (at < 2199023255552) × (n < 4294967296) × (2 < kind) × (get_or job.now at 0 ≡ kind) × (n ≡ le 4 job.now (at + 1)) }
+pub fn short_cell(job: &[u8], at: usize, kind: u8, n: usize, row: u32) -> Cell
+    requires of { ColumnOf job.now at kind n }
+    requires short { 2 < kind }
     ensures { (e : ℕ) (v : Column) → e ≤ length job.now → Is column_c job.now e at v → Reads job.now result (getOf v row) }
 {
     let bit = bit_at(job, at + 5 + n * 4, row);
@@ -116,7 +119,7 @@ pub fn short_cell(job: &[u8], at: usize, kind: usize, n: usize, row: u32) -> Cel
             if n <= row as usize {
                 return Cell::None;
             }
-            let x = codec::num(job, at + 5 + row as usize * 4) as u32;
+            let x = codec::num_in(job, at + 5 + row as usize * 4) as u32;
             if kind == 3 {
                 return Cell::Days(x);
             }
@@ -127,11 +130,10 @@ pub fn short_cell(job: &[u8], at: usize, kind: usize, n: usize, row: u32) -> Cel
 
 // The cell of a row in the column that stands at a place. Asked for in this order, the compiler tests for bytes first.
 pub fn get(job: &[u8], at: usize, row: u32) -> Cell
-    requires { at < 2199023255552 }
+    requires { Stands column_c job.now at }
     ensures { (e : ℕ) (v : Column) → e ≤ length job.now → Is column_c job.now e at v → Reads job.now result (getOf v row) }
 {
-    let kind = codec::byte_at(job, at);
-    let n = codec::num(job, at + 1);
+    let (kind, n) = head(job, at);
     if kind == 2 {
         return wide_cell(job, at, n, row);
     }
@@ -144,15 +146,14 @@ pub fn get(job: &[u8], at: usize, row: u32) -> Cell
     short_cell(job, at, kind, n, row)
 }
 
-// The place behind the values that stand at a place.
+// The place behind the values of the column that stands at a place. It asks for the whole column, where its values would do, since `head` does.
 pub fn after_values(job: &[u8], at: usize) -> usize
-    requires { at < 2199023255552 }
-    ensures { ((e : ℕ) (v : Values) → Is values_c job.now e at v → result ≡ skip values_c job.now at e) × (result < at + 137438953472) }
+    requires { Stands column_c job.now at }
+    ensures { (e : ℕ) (v : Values) → Is values_c job.now e at v → result ≡ skip values_c job.now at e }
 {
-    let kind = codec::byte_at(job, at);
-    let n = codec::num(job, at + 1);
+    let (kind, n) = head(job, at);
     if kind == 0 {
-        let m = codec::num(job, at + 5 + n * 4);
+        let m = codec::num_in(job, at + 5 + n * 4);
         return at + 5 + n * 4 + 4 + m;
     }
     if kind == 1 {
@@ -166,10 +167,10 @@ pub fn after_values(job: &[u8], at: usize) -> usize
 
 // The place behind the column that stands at a place.
 pub fn after_column(job: &[u8], at: usize) -> usize
-    requires { at < 2199023255552 }
-    ensures { ((e : ℕ) (v : Column) → Is column_c job.now e at v → result ≡ skip column_c job.now at e) × (result < at + 274877906944) }
+    requires { Stands column_c job.now at }
+    ensures { (e : ℕ) (v : Column) → Is column_c job.now e at v → result ≡ skip column_c job.now at e }
 {
     let p = after_values(job, at);
-    let n = codec::num(job, p);
+    let n = codec::num_in(job, p);
     p + 4 + n + 4
 }

@@ -1,6 +1,6 @@
-// The cells of a job's columns, read where they stand. Each reader says what its answer is of whatever stands at the place that
-// it is given. It asks only that the place is small (below 2^40; the inner readers, which are called further on, take more), so
-// that sums fit; a reader of one kind of column also takes the count that was read with the kind.
+// The cells of a job's columns, read where they stand. A reader asks that what it reads stands at the place that it is given, so that all bytes are
+// there, and says what its answer is of it; `stretch` reads no byte, and asks a bound alone. A reader of one kind of column also takes the count that
+// was read with the kind; `short_cell`, which serves two, takes the kind as well.
 #![tactic(auto)]
 
 pub mod bitmap;

@@ -73,25 +73,24 @@ module _ (b : List ℕ) (s : Stretch) (h : s.start + s.len ≤ length b) where
   unfolding stretch_of
   name_none e = rw e
 
-  pub name_one : {x : ℕ} → s.len ≡ 1 → x ≡ get_or b s.start 0 → x ≡ number_from 0 (stretch_of b s)
+  pub name_one : s.len ≡ 1 → get_or b s.start 0 ≡ number_from 0 (stretch_of b s)
   unfolding stretch_of
-  name_one e f =
+  name_one e =
       let k : s.start < length b = omega arith in
-      rw (e, stretch_next b s.start 0 k) (omega (arith, f))
+      rw (e, stretch_next b s.start 0 k) (omega arith)
 
-  pub name_two : {x y : ℕ} → s.len ≡ 2 → x ≡ get_or b s.start 0 → y ≡ get_or b (s.start + 1) 0 → x * 256 + y ≡ number_from 0 (stretch_of b s)
+  pub name_two : s.len ≡ 2 → get_or b s.start 0 * 256 + get_or b (s.start + 1) 0 ≡ number_from 0 (stretch_of b s)
   unfolding stretch_of
-  name_two e f g =
+  name_two e =
       let k : s.start < length b = omega arith in
       let l : s.start + 1 < length b = omega arith in
-      rw (e, stretch_next b s.start 1 k, stretch_next b (s.start + 1) 0 l) (omega (arith, f, g))
+      rw (e, stretch_next b s.start 1 k, stretch_next b (s.start + 1) 0 l) (omega arith)
 
-  pub name_three : {x y z : ℕ} → s.len ≡ 3 → x ≡ get_or b s.start 0 → y ≡ get_or b (s.start + 1) 0 → z ≡ get_or b (s.start + 2) 0
-      → (x * 256 + y) * 256 + z ≡ number_from 0 (stretch_of b s)
+  pub name_three : s.len ≡ 3 → (get_or b s.start 0 * 256 + get_or b (s.start + 1) 0) * 256 + get_or b (s.start + 2) 0 ≡ number_from 0 (stretch_of b s)
   unfolding stretch_of
-  name_three e f g i =
+  name_three e =
       let k : s.start < length b = omega arith in
       let l : s.start + 1 < length b = omega arith in
       let m : s.start + 1 + 1 < length b = omega arith in
       let o : s.start + 1 + 1 ≡ s.start + 2 = omega arith in
-      rw (e, stretch_next b s.start 2 k, stretch_next b (s.start + 1) 1 l, stretch_next b (s.start + 1 + 1) 0 m, o) (omega (arith, f, g, i))
+      rw (e, stretch_next b s.start 2 k, stretch_next b (s.start + 1) 1 l, stretch_next b (s.start + 1 + 1) 0 m, o) (omega arith)

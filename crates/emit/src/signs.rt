@@ -67,15 +67,15 @@ pub fn id_number(job: &[u8], id: Stretch) -> u64
     if len == 0 {
         return 0;
     }
-    let x = codec::byte_at(job, start) as u64;
+    let x = job[start] as u64;
     if len == 1 {
         return x;
     }
-    let y = codec::byte_at(job, start + 1) as u64;
+    let y = job[start + 1] as u64;
     if len == 2 {
         return x * 256 + y;
     }
-    let z = codec::byte_at(job, start + 2) as u64;
+    let z = job[start + 2] as u64;
     (x * 256 + y) * 256 + z
 }
 

@@ -6,11 +6,11 @@ use mathlib.Core.List.{List, [], ◌∷◌, ◌++◌, foldr}
 use native.Mathlib.Numerals.{sub-one}
 use native.Mathlib.Omega.{arith}
 use Rattle.std.specs.Prelude.{Option, None, Some}
-use lib.ListN.{length, drop, get_or, drop_of_length-le}
+use lib.ListN.{length, drop, get_or, get_or-eq_default, drop_of_length-le}
 use lib.Dec.{eqb}
 use borrow.Author.Tests.{eqb-true, eqb-false, eq-eqb, ne_eqb, le-leb, lt-leb}
 use Rattle.nest.specs.Lists.{each, on, All}
-use Rattle.nest.specs.Outline.{Outline, Kind, absent, envelope, implied, rows, inside, groups, row_table, kind_of, parent_of, table_of}
+use Rattle.nest.specs.Outline.{Outline, Loop, Kind, absent, envelope, implied, rows, inside, groups, row_table, no_loop, loop_of, kind_of, parent_of, table_of}
 use Rattle.nest.specs.Nest.{Anchor, depth, depth_of, anchor_at, insert, anchors, claim_on, claim_in}
 use Rattle.nest.proofs.Alls.{all_append, all_weaker}
 use Rattle.nest.proofs.Scan.{drop_next}
@@ -21,6 +21,11 @@ pub depth_top : (j : Outline) (h l : ℕ) → parent_of j l ≡ None → depth j
 unfolding depth
 depth_top j zero l e = refl
 depth_top j (suc h) l e = rw e
+
+-- a loop that is not there
+pub depth_nowhere : (j : Outline) (h l : ℕ) → length j.loops ≤ l → depth j h l ≡ 0
+unfolding parent_of loop_of
+depth_nowhere j h l q = depth_top j h l (ap (λ (v : Loop). v.parent) (get_or-eq_default j.loops no_loop {n = l} q))
 
 pub depth_up : (j : Outline) (h l p : ℕ) → 0 < h → parent_of j l ≡ Some p → depth j h l ≡ suc (depth j (h - 1) p)
 unfolding depth

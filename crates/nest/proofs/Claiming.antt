@@ -1,10 +1,11 @@
 -- The ways through the search for a repeat row's anchor.
-use Prim.Native.Nat.{ℕ, suc, ◌+◌, ◌-◌, ◌≤◌, ◌<◌}
+use Prim.Native.Nat.{ℕ, zero, suc, ◌+◌, ◌-◌, ◌≤◌, ◌<◌}
 use mathlib.Core.Path.{◌≡◌, refl, sym, ap, ◌∙◌}
 use mathlib.Core.Bool.{Bool, true, false, cond}
 use mathlib.Core.List.{List, [], ◌∷◌}
+use native.Mathlib.Decide.{dec_lt}
 use native.Mathlib.Omega.{arith}
-use lib.ListN.{length, get_or, get_or-eq_default}
+use lib.ListN.{length, get_or, replicate, get_or-eq_default}
 use lib.Dec.{eqb, ltb}
 use borrow.Author.Count.{below_more}
 use borrow.Author.Tests.{eq-eqb, eqb-true, eqb-false, ltb-true, ltb-false, leb-false}
@@ -22,9 +23,9 @@ use Rattle.nest.specs.Nest.{Anchor, depth_of, anchors, claim_in}
 use Rattle.nest.specs.Lists.{All}
 use Rattle.nest.specs.NestFindings.{last_table}
 use Rattle.nest.specs.Claims.{claim_by, anchor_table}
-use Rattle.nest.specs.Keys.{Within}
+use Rattle.nest.specs.Keys.{Deep, Within}
 use Rattle.nest.specs.OfJob.{outline_of, kind_in}
-use Rattle.nest.proofs.Anchors.{depth_small, left, left_all, left_other, left_no_rows, left_anchor, shallower, left_start, left_down, left_end, claim_here, claim_next, claim_none}
+use Rattle.nest.proofs.Anchors.{depth_small, depth_nowhere, left, left_all, left_other, left_no_rows, left_anchor, shallower, left_start, left_down, left_end, claim_here, claim_next, claim_none}
 use Rattle.nest.proofs.Bridge.{kind_is, loops_is, loop_count_is}
 
 abbrev mark : Option ℕ → ℕ
@@ -52,10 +53,27 @@ loop_small b w t k n l c h e = go (ltb t (length (job_of b).spec.tables)) refl
         let z : length (get_or (job_of b).spec.tables t S.no_table).loops ≡ 0 = ap (λ (s : S.Table). length s.loops) (get_or-eq_default (job_of b).spec.tables S.no_table {n = t} (ltb-false _ _ q)) in
         absurd (omega (arith, z, c'))
 
--- ---- the depths of all loops: those of the first n
+-- ---- the depths of all loops: those of the first n, and 0 for the others
 pub record Sounded (j : Outline) (n : ℕ) (ds : List ℕ) : Type 0 where
   pub done : (p : ℕ) → p < n → get_or ds p 0 ≡ depth_of j p
+  pub rest : (p : ℕ) → n ≤ p → get_or ds p 0 ≡ 0
   pub size : length ds ≡ 32
+
+zeros : (n p : ℕ) → get_or (replicate {A = ℕ} n 0) p 0 ≡ 0
+zeros zero p = refl
+zeros (suc n) zero = refl
+zeros (suc n) (suc p) = zeros n p
+
+pub sounded_zeros : (j : Outline) → Sounded j 0 (replicate 32 0)
+sounded_zeros j = record { done = λ p h. absurd (omega (arith, h)); rest = λ p h. zeros 32 p; size = refl }
+
+-- past the spec's loops 0 is the depth
+pub sounded_all : (j : Job) (n m : ℕ) (ds : List ℕ) → Sounded (outline_of j) n ds → m ≡ length j.spec.loops → m ≤ n → Deep (outline_of j) ds
+sounded_all j n m ds s h q = record { of = λ l k. go l (dec_lt l n) }
+  where
+    go : (l : ℕ) → Dec (l < n) → get_or ds l 0 ≡ depth_of (outline_of j) l
+    go l (yes i) = s.done l i
+    go l (no i) = s.rest l (omega (arith, i)) ∙ sym (depth_nowhere (outline_of j) _ l (omega (arith, i, loop_count_is j, h, q)))
 
 -- a depth is small
 pub depth_fits : (j : Job) (l d : ℕ) → length j.spec.loops ≤ 32 → d ≡ depth_of (outline_of j) l → d ≤ 32

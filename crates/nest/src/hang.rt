@@ -88,7 +88,9 @@ pub fn all_depths(job: Job) -> [u8; 32]
     ensures { Deep (outline_by job.entry) result }
 {
     let mut depths = [0u8; 32];
-    for l in 0..32 {
+    let n = spec::loops::loop_count(job.at);
+    // above a loop past the spec's stands none
+    for l in 0..n {
         depths[l as usize] = depth(job, LoopId(l)) as u8;
     }
     depths

@@ -16,6 +16,7 @@ use Rattle.format.specs.Layout.{segment_item, loop_item}
 use Rattle.format.specs.Job.{Job}
 use Rattle.format.specs.Sections.{job_of}
 use Rattle.format.specs.Ask as A
+use Rattle.spec.specs.Region.{listed_room}
 use Rattle.plan.specs.Index.{PlanIndexed}
 use Rattle.nest.specs.Lists.{on, is, sum, times, All}
 use Rattle.nest.specs.Outline.{Outline, Table, Planned, Kind, row_table, loop_of, table_of, kind_of, order_of, segment_of, table_parent, plain, repeated, item_loops, item_segments}
@@ -194,12 +195,25 @@ module _ (b idx : List ℕ) (x : PlanIndexed b idx) (n : ℕ) where
   pub capacity_count : n ≡ le 4 b (get_or idx 1189 0) → n ≡ length (job_of b).layout.capacity
   capacity_count e = count_of b _ n (get_or idx 1189 0) (get_or idx 1189 0) _ _ e refl x.capacity
 
+-- the lists that have one entry a loop
+abbrev pub loop_lists : List ℕ
+loop_lists = 1024 ∷ 1057 ∷ 1090 ∷ 1123 ∷ 1156 ∷ []
+
+-- their counts are there
+pub counts_there : (b idx : List ℕ) → PlanIndexed b idx → (i k : ℕ) → i < length loop_lists → k ≡ get_or loop_lists i k → get_or idx k 0 + 4 ≤ length b
+counts_there b idx x zero k h q = rw q (listed_room _ b _ idx 1024 _ x.plan_end x.plan)
+counts_there b idx x (suc zero) k h q = rw q (listed_room _ b _ idx 1057 _ x.layout_end x.order)
+counts_there b idx x (suc (suc zero)) k h q = rw q (listed_room _ b _ idx 1090 _ x.layout_end x.forced)
+counts_there b idx x (suc (suc (suc zero))) k h q = rw q (listed_room _ b _ idx 1123 _ x.layout_end x.columns)
+counts_there b idx x (suc (suc (suc (suc zero)))) k h q = rw q (listed_room _ b _ idx 1156 _ x.layout_end x.depth)
+counts_there b idx x (suc (suc (suc (suc (suc i))))) k h q = absurd (omega (arith, h))
+
 pub decides_eq : (P : Type 0) (a b : ℕ) → (a ≡ b → P) → (P → a ≡ b) → Decides (eqb a b) P
 decides_eq P a b f g = ((λ e. f (eqb-true a b e)), (λ e p. true≢false (sym (eq-eqb a b (g p)) ∙ e)))
 
--- the counts of the lists that have one entry a loop
+-- whether each of those lists has n items
 abbrev pub counts_fit : List ℕ → List ℕ → ℕ → List Bool
-counts_fit b idx n = map (λ k. eqb (le 4 b (get_or idx k 0)) n) (1024 ∷ 1057 ∷ 1090 ∷ 1123 ∷ 1156 ∷ [])
+counts_fit b idx n = map (λ k. eqb (le 4 b (get_or idx k 0)) n) loop_lists
 
 module _ (b idx : List ℕ) (x : PlanIndexed b idx) (n : ℕ) (c : n ≡ length (job_of b).spec.loops) where
   pub lists_right : all_pass (counts_fit b idx n) ≡ true

@@ -9,23 +9,24 @@ use lib.ListN.{length, get_or, get_or-eq_default}
 use lib.Dec.{leb, ltb, eqb}
 use borrow.Author.Tests.{le-leb, lt-leb, le-ltb, lt-ltb, leb-true, leb-false, ltb-true, ltb-false}
 use Rattle.codec.specs.Codec.{Codec, le, list_c}
-use Rattle.codec.specs.Skip.{skip, Is}
+use Rattle.codec.specs.Skip.{Is}
 use Rattle.codec.specs.Forms.{num_c, opt_c, flag_c}
-use Rattle.codec.specs.Field.{is_at, is_list, count_of}
+use Rattle.codec.specs.Field.{is_at, is_le, is_list, count_of}
 use Rattle.format.specs.Plan.{LoopPlan, no_loop_plan, loop_plan_c, SegmentPlan, no_segment_plan, segment_plan_c, source_c, element_plan_c}
 use Rattle.format.specs.Layout.{item_c}
 use Rattle.format.specs.Sections.{job_of, layout_start, envelope_start}
-use Rattle.format.specs.Fields.{LoopPlanIs, is_loop_plan, SegmentPlanIs, is_segment_plan}
+use Rattle.format.specs.Fields.{LoopPlanIs, is_loop_plan}
 use Rattle.format.specs.Ask.{on, plan_of, planned_of, order_of, forced_of, group_columns_of, depth_of, capacity_of}
 use Rattle.plan.specs.Answers.{no_item}
-use Rattle.spec.specs.Region.{Listed}
-use Rattle.spec.specs.Reads.{Reads, stands}
+use Rattle.spec.specs.Region.{Listed, ItemAt, listed_is, listed_room}
+use Rattle.spec.specs.Standing.{next_place}
+use Rattle.spec.specs.Reads.{num_reads}
 use Rattle.plan.specs.Index.{PlanIndexed, segments_at, inner_count}
 use Rattle.plan.specs.Elements.{run_none}
 use Rattle.plan.specs.declared.answers.Planned.{Planned}
 use Rattle.plan.specs.declared.answers.Order.{Order}
 use Rattle.plan.specs.Planned.{unplanned, SegmentIs, SegmentRead, PlannedIs, OrderIs}
-use Rattle.plan.proofs.Reading.{number_is, wide_item, skip_number, wide_order, wide_flag, flag_is}
+use Rattle.plan.proofs.Reading.{source_behind, wide_item, wide_order, wide_flag, flag_room, flag_is}
 
 -- past the last item
 past : {A : Type 0} (vs : List A) (d : A) (k n : ℕ) → n ≡ length vs → n ≤ k → d ≡ get_or vs k d
@@ -56,6 +57,12 @@ module _ {A : Type 0} (C : Codec A) (b : List ℕ) (e : ℕ) (idx : List ℕ) (k
           let o : l < length vss = rw n (leb-false _ _ q) in
           rw q (sym (is_list C b e _ _ (x.item l [] o m)).counted)
 
+  -- an inner list's count is there
+  inner_room : e ≤ length b → (p : ℕ) → l < le 4 b (get_or idx k 0) → p ≡ get_or idx (k + 1 + l) 0 → p + 4 ≤ length b
+  inner_room h p q i =
+      let o : l < length vss = rw (← (is_list (list_c C) b e (get_or idx k 0) vss x.list).counted) at q in
+      omega (arith, h, (is_list C b e p _ (is_at (list_c C) b e p _ _ i (x.item l [] o m))).room)
+
   -- an inner list that has an item is there
   inner_is : (i p : ℕ) → i < length (get_or vss l []) → p ≡ get_or idx (k + 1 + l) 0 → Is (list_c C) b e p (get_or vss l [])
   inner_is i p q h = go (ltb l (length vss)) refl
@@ -81,6 +88,9 @@ module _ (b idx : List ℕ) (x : PlanIndexed b idx) where
     pub planned_are : (q r : ℕ) → l < n → l < 32 → q ≡ get_or idx (1222 + l * 33) 0 → r ≡ le 4 b q → r ≡ length (plan_of (job_of b) l).segments
     planned_are q r m o s t = count_of b (layout_start b) r q (get_or idx (segments_at l) 0) segment_plan_c _ t s (x.segments l (rw (← plan_count) m) o).list
 
+    pub planned_room : l < n → l < 32 → get_or idx (1222 + l * 33) 0 + 4 ≤ length b
+    planned_room m o = listed_room segment_plan_c b (layout_start b) idx (segments_at l) _ x.plan_end (x.segments l (rw (← plan_count) m) o)
+
   module _ (l i n : ℕ) (h : n ≡ length (plan_of (job_of b) l).segments) where
     pub planned_lacks : n ≤ i → no_segment_plan ≡ planned_of (job_of b) l i
     unfolding planned_of
@@ -105,16 +115,16 @@ module _ (b idx : List ℕ) (x : PlanIndexed b idx) where
           go false r = absurd (let z : length (plan_of (job_of b) l).segments ≡ 0 = ap (λ (s : LoopPlan). length s.segments) (get_or-eq_default (job_of b).plan no_loop_plan {n = l} (ltb-false _ _ r)) in omega arith)
 
       pub source_is : Is source_c b (layout_start b) (p + 4) (planned_of (job_of b) l i).source
-      source_is =
-          let f : SegmentPlanIs b (layout_start b) p (planned_of (job_of b) l i) = is_segment_plan b (layout_start b) p _ planned_is in
-          let s : skip num_c b p (layout_start b) ≡ p + 4 = skip_number b (layout_start b) p _ f.occurrence in
-          rw s at f.source
+      source_is = source_behind b p (layout_start b) _ planned_is
 
   -- ---- the layout
   module _ (l : ℕ) (m : l < 32) where
     pub order_count : (n : ℕ) → n ≡ inner_count b idx 1057 l → n ≡ length (order_of (job_of b) l)
     unfolding order_of
     order_count n h = h ∙ inner_count_lem item_c b (envelope_start b) idx 1057 _ x.order l m
+
+    pub order_room : (p : ℕ) → l < le 4 b (get_or idx 1057 0) → p ≡ get_or idx (1058 + l) 0 → p + 4 ≤ length b
+    order_room = inner_room item_c b (envelope_start b) idx 1057 _ x.order l m x.layout_end
 
     pub order_lacks : (k n : ℕ) → n ≡ length (order_of (job_of b) l) → n ≤ k → no_item ≡ get_or (order_of (job_of b) l) k no_item
     order_lacks k n h q = past (order_of (job_of b) l) no_item k n h q
@@ -123,31 +133,44 @@ module _ (b idx : List ℕ) (x : PlanIndexed b idx) where
     unfolding order_of
     order_is k n p h q i = wide_item item_c 5 b (envelope_start b) p _ k no_item (wide_order b (envelope_start b)) (inner_is item_c b (envelope_start b) idx 1057 _ x.order l m k p (rw h at q) i) (rw h at q)
 
-    pub order_at : (r : Order) (n p : ℕ) → n ≡ length (order_of (job_of b) l) → p ≡ get_or idx (1058 + l) 0 → p < 4294967296 → r.count ≡ n → r.first ≡ p + 4 → OrderIs b l r
-    order_at r n p h i s c f = record { count = c ∙ h; low = omega arith; within = x.layout_end; item = λ k q. rw f (order_is k n p h (rw c at q) i) }
+    pub order_at : (r : Order) (n p : ℕ) → n ≡ length (order_of (job_of b) l) → p ≡ get_or idx (1058 + l) 0 → r.count ≡ n → r.first ≡ p + 4 → OrderIs b l r
+    order_at r n p h i c f = record { count = c ∙ h; within = x.layout_end; item = λ k q. rw f (order_is k n p h (rw c at q) i) }
+
+    pub forced_room : (p : ℕ) → l < le 4 b (get_or idx 1090 0) → p ≡ get_or idx (1091 + l) 0 → p + 4 ≤ length b
+    forced_room = inner_room flag_c b (envelope_start b) idx 1090 _ x.forced l m x.layout_end
 
     pub forced_lacks : (i n : ℕ) → n ≡ inner_count b idx 1090 l → n ≤ i → false ≡ forced_of (job_of b) l i
     unfolding forced_of
     forced_lacks i n h q = past (get_or (job_of b).layout.forced l []) false i n (h ∙ inner_count_lem flag_c b (envelope_start b) idx 1090 _ x.forced l m) q
 
-    pub forced_is : (i n p t : ℕ) → n ≡ inner_count b idx 1090 l → i < n → p ≡ get_or idx (1091 + l) 0 → t ≡ get_or b (p + 4 + i) 0 → eqb t 1 ≡ forced_of (job_of b) l i
-    unfolding forced_of
-    forced_is i n p t h q r s =
-        let o : i < length (get_or (job_of b).layout.forced l []) = rw (← inner_count_lem flag_c b (envelope_start b) idx 1090 _ x.forced l m, ← h) q in
-        let w : p + 4 + i * 1 ≡ p + 4 + i = omega arith in
-        flag_is b (envelope_start b) (p + 4 + i) t _ s (rw w at (wide_item flag_c 1 b (envelope_start b) p _ i false (wide_flag b (envelope_start b)) (inner_is flag_c b (envelope_start b) idx 1090 _ x.forced l m i p o r) o))
+    module _ (i n p : ℕ) (h : n ≡ inner_count b idx 1090 l) (q : i < n) (r : p ≡ get_or idx (1091 + l) 0) where
+      flag_here : Is flag_c b (envelope_start b) (p + 4 + i) (forced_of (job_of b) l i)
+      unfolding forced_of
+      flag_here =
+          let o : i < length (get_or (job_of b).layout.forced l []) = rw (← inner_count_lem flag_c b (envelope_start b) idx 1090 _ x.forced l m, ← h) q in
+          let w : p + 4 + i * 1 ≡ p + 4 + i = omega arith in
+          rw w at (wide_item flag_c 1 b (envelope_start b) p _ i false (wide_flag b (envelope_start b)) (inner_is flag_c b (envelope_start b) idx 1090 _ x.forced l m i p o r) o)
+
+      pub forced_there : p + 4 + i < length b
+      forced_there = omega (arith, x.layout_end, flag_room b (envelope_start b) _ _ flag_here)
+
+      pub forced_is : eqb (get_or b (p + 4 + i) 0) 1 ≡ forced_of (job_of b) l i
+      forced_is = flag_is b (envelope_start b) _ _ _ refl flag_here
 
     pub column_count : (n : ℕ) → n ≡ inner_count b idx 1123 l → n ≡ length (group_columns_of (job_of b) l)
     unfolding group_columns_of
     column_count n h = h ∙ inner_count_lem num_c b (envelope_start b) idx 1123 _ x.columns l m
 
+    pub column_room : (p : ℕ) → l < le 4 b (get_or idx 1123 0) → p ≡ get_or idx (1124 + l) 0 → p + 4 ≤ length b
+    column_room = inner_room num_c b (envelope_start b) idx 1123 _ x.columns l m x.layout_end
+
     pub column_lacks : (k : ℕ) → le 4 b (get_or idx 1123 0) ≤ l → 0 ≡ get_or (group_columns_of (job_of b) l) k 0
     unfolding group_columns_of
     column_lacks k q = rw (get_or-eq_default (job_of b).layout.group_columns [] {n = l} (rw (← count_of b (envelope_start b) _ _ _ (list_c num_c) (job_of b).layout.group_columns refl refl x.columns.list) q)) refl
 
-    pub column_is : (p : ℕ) → l < le 4 b (get_or idx 1123 0) → p ≡ get_or idx (1124 + l) 0 → Reads (list_c num_c) b (envelope_start b) p [] (group_columns_of (job_of b) l)
+    pub column_is : (p : ℕ) → ItemAt b idx 1123 l (Some p) → Is (list_c num_c) b (envelope_start b) p (group_columns_of (job_of b) l)
     unfolding group_columns_of
-    column_is p q i = stands x.layout_end (is_at (list_c num_c) b (envelope_start b) p _ _ i (x.columns.item l [] (rw (← count_of b (envelope_start b) _ _ _ (list_c num_c) (job_of b).layout.group_columns refl refl x.columns.list) q) m))
+    column_is p q = listed_is (list_c num_c) b (envelope_start b) idx 1123 _ x.columns l p [] m q
 
     depth_count : le 4 b (get_or idx 1156 0) ≡ length (job_of b).layout.depth
     depth_count = count_of b (envelope_start b) _ _ _ (opt_c num_c) (job_of b).layout.depth refl refl x.depth.list
@@ -156,13 +179,16 @@ module _ (b idx : List ℕ) (x : PlanIndexed b idx) where
     unfolding depth_of
     depth_lacks q = rw (get_or-eq_default (job_of b).layout.depth None {n = l} (rw (← depth_count) q))
 
-    pub depth_is : (p : ℕ) → l < le 4 b (get_or idx 1156 0) → p ≡ get_or idx (1157 + l) 0 → (r : Option ℕ) → (Reads (opt_c num_c) b (envelope_start b) p None (get_or (job_of b).layout.depth l None) → r ≡ get_or (job_of b).layout.depth l None) → unwrap_or r 0 ≡ depth_of (job_of b) l
+    pub depth_is : (p : ℕ) → ItemAt b idx 1156 l (Some p) → (r : Option ℕ) → (Is (opt_c num_c) b (envelope_start b) p (get_or (job_of b).layout.depth l None) → r ≡ get_or (job_of b).layout.depth l None) → unwrap_or r 0 ≡ depth_of (job_of b) l
     unfolding depth_of
-    depth_is p q i r f = rw (f (stands x.layout_end (is_at (opt_c num_c) b (envelope_start b) p _ _ i (x.depth.item l None (rw (← depth_count) q) m)))) (either (get_or (job_of b).layout.depth l None))
+    depth_is p q r f = rw (f (listed_is (opt_c num_c) b (envelope_start b) idx 1156 _ x.depth l p None m q)) (either (get_or (job_of b).layout.depth l None))
       where
         either : (d : Option ℕ) → unwrap_or d 0 ≡ on d (λ c. c) 0
         either None = refl
         either (Some c) = refl
+
+  pub capacity_room : (p : ℕ) → p ≡ get_or idx 1189 0 → p + 4 ≤ length b
+  capacity_room p h = omega (arith, x.layout_end, (is_list num_c b (envelope_start b) p _ (is_at (list_c num_c) b (envelope_start b) p _ _ h x.capacity)).room)
 
   module _ (t p n : ℕ) (h : p ≡ get_or idx 1189 0) (i : n ≡ le 4 b p) where
     capacity_count : n ≡ length (job_of b).layout.capacity
@@ -172,6 +198,13 @@ module _ (b idx : List ℕ) (x : PlanIndexed b idx) where
     unfolding capacity_of
     capacity_lacks q = past (job_of b).layout.capacity 1 t n capacity_count q
 
-    pub capacity_is : (r : ℕ) → t < n → r ≡ le 4 b (p + 4 + t * 4) → r ≡ capacity_of (job_of b) t
-    unfolding capacity_of
-    capacity_is r q s = number_is b (envelope_start b) (p + 4 + t * 4) r _ s (wide_item num_c 4 b (envelope_start b) p _ t 1 (skip_number b (envelope_start b)) (is_at (list_c num_c) b (envelope_start b) p _ _ h x.capacity) (rw (← capacity_count) q))
+    module _ (q : t < n) where
+      capacity_here : Is num_c b (envelope_start b) (p + 4 + t * 4) (capacity_of (job_of b) t)
+      unfolding capacity_of
+      capacity_here = wide_item num_c 4 b (envelope_start b) p _ t 1 (next_place b (envelope_start b)) (is_at (list_c num_c) b (envelope_start b) p _ _ h x.capacity) (rw (← capacity_count) q)
+
+      pub capacity_there : p + 4 + t * 4 + 4 ≤ length b
+      capacity_there = omega (arith, x.layout_end, (is_le 4 b (envelope_start b) _ _ capacity_here).0)
+
+      pub capacity_is : (r : ℕ) → r ≡ le 4 b (p + 4 + t * 4) → r ≡ capacity_of (job_of b) t
+      capacity_is r s = num_reads b (p + 4 + t * 4) r s (envelope_start b) _ capacity_here

@@ -27,6 +27,12 @@ source_of EnvelopeSource = from_envelope
 source_of (Row t) = from_row t.0
 source_of (Repeat t) = from_repeat t.0
 
+-- how many bytes a source has
+abbrev pub source_len : SourceIn → ℕ
+source_len from_envelope = 1
+source_len (from_row t) = 5
+source_len (from_repeat t) = 5
+
 -- a code is a stretch of the job b
 abbrev pub value_of : List ℕ → ValueSource → ValueIn
 value_of b (Column n) = from_column n

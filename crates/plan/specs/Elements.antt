@@ -1,11 +1,12 @@
 -- Items that stand one after the other, as the planned elements of a segment do, and how to step through them.
+use mathlib.Core.Path.{refl}
 use Prim.Native.Nat.{ℕ, zero, suc, ◌+◌, ◌≤◌, ◌<◌}
 use Rattle.std.specs.Prelude.{◌≡◌, length, get_or, drop}
 use mathlib.Core.List.{List, [], ◌∷◌}
 use Rattle.std.proofs.Common.{arith, add-one, drop-cons}
 use Rattle.codec.specs.Codec.{Codec, list_c}
 use Rattle.codec.specs.Skip.{skip, steps, Is}
-use Rattle.codec.specs.Field.{is_in, is_list}
+use Rattle.codec.specs.Field.{Stands, stands_at, is_list}
 use Rattle.format.specs.Plan.{ElementPlan as ElementPlanIn, element_plan_c, no_element_plan}
 use Rattle.format.specs.Sections.{layout_start}
 use Rattle.plan.specs.declared.answers.ElementPlan.{ElementPlan}
@@ -43,9 +44,9 @@ module _ {A : Type 0} (C : Codec A) (b : List ℕ) (e : ℕ) where
   pub run_next : (p k q : ℕ) (vs : List A) (d : A) → k < length vs → q ≡ skip C b p e → Run C b e p (drop k vs) → Run C b e q (drop (k + 1) vs)
   run_next p k q vs d m w h = rw (w, add-one) (run_first p _ _ (rw (drop-cons vs k d m) at h)).1
 
-  -- where an item is left, the place is within the end
-  pub run_in : (p k : ℕ) (vs : List A) (d : A) → k < length vs → Run C b e p (drop k vs) → p ≤ e
-  run_in p k vs d q h = is_in C b e p _ (run_here p k vs d q h)
+  -- where an item is left, one stands at the place
+  pub run_stands : e ≤ length b → (p k : ℕ) (vs : List A) (d : A) → k < length vs → Run C b e p (drop k vs) → Stands C b p
+  run_stands m p k vs d q h = stands_at C b p p e _ refl m (run_here p k vs d q h)
 
   -- k steps lead to item k
   pub run_steps : (k p : ℕ) (vs : List A) → k ≤ length vs → Run C b e p vs → Run C b e (steps C b e k p) (drop k vs)
@@ -66,8 +67,8 @@ pub record ElementStep (b : List ℕ) (k : ℕ) (vs : List ElementPlanIn) (r : E
 
 module _ (b idx : List ℕ) (x : PlanIndexed b idx) (p k : ℕ) (vs : List ElementPlanIn) (q : k < length vs) (h : Elements b p (drop k vs)) where
   -- what read::element_at requires
-  pub element_place : p < 4294967296
-  element_place = let m : p ≤ layout_start b = run_in element_plan_c b (layout_start b) p k vs no_element_plan q h in omega (arith, x.plan_end, x.short)
+  pub element_stands : Stands element_plan_c b p
+  element_stands = run_stands element_plan_c b (layout_start b) x.plan_end p k vs no_element_plan q h
 
   -- what it ensures, of element k
   pub element_step : (r : ElementPlan) → ((e : ℕ) (v : ElementPlanIn) → e ≤ length b → Is element_plan_c b e p v → ElementRead b e p v r) → ElementStep b k vs r

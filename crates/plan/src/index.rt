@@ -1,5 +1,5 @@
 // The region of the index that belongs to plan and layout, and how it is filled.
-ghost use Rattle.std.specs.Prelude.{◌≡◌, List, ℕ, ◌+◌, get_or};
+ghost use Rattle.std.specs.Prelude.{◌≡◌, List, ℕ, ◌+◌, ◌≤◌, length, get_or};
 ghost use Rattle.codec.specs.Codec.{le};
 ghost use Rattle.format.specs.Passed.{Passed};
 ghost use Rattle.plan.specs.Index.{PlanFilled};
@@ -75,8 +75,9 @@ pub fn fill(job: &[u8], index: &mut [u16])
 
 // How many items the list has whose place is number k of the index.
 pub fn list_count(job: Indexed, k: usize) -> u32
+    requires there { get_or job.index.now k 0 + 4 ≤ length job.bytes.now }
     ensures { result ≡ le 4 job.entry.bytes.now (get_or job.entry.index.now k 0) }
 {
     let p = codec::place(job.index, k);
-    codec::num(job.bytes, p) as u32
+    codec::num_in(job.bytes, p) as u32
 }

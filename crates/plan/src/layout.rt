@@ -1,5 +1,7 @@
 // What is asked of the layout.
-ghost use Rattle.std.specs.Prelude.{◌≡◌, ℕ, ◌<◌, false, length, get_or};
+ghost use Rattle.std.specs.Prelude.{◌≡◌, ℕ, ◌+◌, ◌*◌, ◌<◌, false, length, get_or};
+ghost use Rattle.codec.specs.Field.{Stands};
+ghost use Rattle.format.specs.Layout.{item_c};
 ghost use Rattle.format.specs.Sections.{job_of};
 ghost use Rattle.format.specs.Ask.{order_of, forced_of, group_columns_of, depth_of, capacity_of};
 ghost use Rattle.plan.specs.Answers.{item_of, no_item};
@@ -22,7 +24,7 @@ pub fn order(job: Indexed, l: LoopId) -> Order
     match item_place(job, ORDER, l.0) {
         None => Order { count: 0, first: 0 },
         Some(p) => Order {
-            count: codec::num(job.bytes, p) as u32,
+            count: codec::num_in(job.bytes, p) as u32,
             first: p + 4,
         },
     }
@@ -38,7 +40,7 @@ pub fn order_count(job: Indexed, l: LoopId) -> u32
 
 // Item k of an order.
 pub fn order_item(job: &[u8], o: Order, k: u32) -> Item
-    requires { o.first < 4294967300 }
+    requires { Stands item_c job.now (o.first + k * 5) }
     ensures { (l : ℕ) → OrderIs job.now l o → k < o.count → item_of result ≡ get_or (order_of (job_of job.now) l) k no_item }
 {
     read::item_at(job, o.first + k as usize * 5)
@@ -65,9 +67,8 @@ pub fn forced(job: Indexed, l: LoopId, i: u32) -> bool
     match item_place(job, FORCED, l.0) {
         None => false,
         Some(p) => {
-            let n = codec::num(job.bytes, p);
-            let mark = codec::byte_at(job.bytes, p + 4 + i as usize);
-            (i as usize) < n && mark == 1
+            let n = codec::num_in(job.bytes, p);
+            (i as usize) < n && job.bytes[p + 4 + i as usize] == 1
         }
     }
 }
@@ -77,7 +78,10 @@ pub fn group_column_count(job: Indexed, l: LoopId) -> u32
     requires { PlanIndexed job.bytes.now job.index.now × (l.0 < 32) }
     ensures { result ≡ length (group_columns_of (job_of job.entry.bytes.now) l.0) }
 {
-    read::inner_count(job, COLUMNS, l.0)
+    match item_place(job, COLUMNS, l.0) {
+        None => 0,
+        Some(p) => codec::num_in(job.bytes, p) as u32,
+    }
 }
 
 // Group column k of a loop, 0 past the last, as `get_or` tells it.
@@ -108,9 +112,9 @@ pub fn capacity(job: Indexed, t: TableId) -> u32
     ensures { result ≡ capacity_of (job_of job.entry.bytes.now) t.0 }
 {
     let list = codec::place(job.index, CAPACITY);
-    let n = codec::num(job.bytes, list);
+    let n = codec::num_in(job.bytes, list);
     if n <= t.0 as usize {
         return 1;
     }
-    codec::num(job.bytes, list + 4 + t.0 as usize * 4) as u32
+    codec::num_in(job.bytes, list + 4 + t.0 as usize * 4) as u32
 }

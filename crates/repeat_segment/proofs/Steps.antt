@@ -7,11 +7,12 @@ use native.Mathlib.Numerals.{add-one}
 use lib.ListN.{length, get_or, take}
 use lib.Seq.{take-suc, take_all}
 use Rattle.codec.specs.Skip.{Is}
+use Rattle.codec.specs.Field.{Stands}
 use Rattle.format.specs.Plan.{ElementPlan, element_plan_c, no_element_plan}
 use Rattle.format.specs.Sections.{layout_start}
 use Rattle.plan.specs.declared.answers.ElementPlan.{ElementPlan as Element}
 use Rattle.plan.specs.Answers.{element_of, ElementRead}
-use Rattle.plan.specs.Elements.{run_here, run_next, run_in}
+use Rattle.plan.specs.Elements.{run_here, run_next, run_stands}
 use Rattle.segment.specs.Parts.{Part}
 use Rattle.nest.specs.Finding.{Finding}
 use Rattle.emit.specs.Puts.{Put, nothing, and_put, put_all, chunk_put}
@@ -27,8 +28,8 @@ module _ (b : List ℕ) (s : Planned) (o : Of b s) where
     there : i < length (plans_of b s)
     there = rw (← o.counted) h
 
-    pub place_small : at < 4294967296
-    place_small = let m : at ≤ layout_start b = run_in element_plan_c b (layout_start b) at i (plans_of b s) no_element_plan there a.elements in omega (arith, o.size, o.plan_end)
+    pub stands_here : Stands element_plan_c b at
+    stands_here = run_stands element_plan_c b (layout_start b) o.plan_end at i (plans_of b s) no_element_plan there a.elements
 
     pub read_step : (r : Element) → ((e : ℕ) (v : ElementPlan) → e ≤ length b → Is element_plan_c b e at v → ElementRead b e at v r) → Read b s i r
     read_step r f =

@@ -9,6 +9,7 @@ use lib.ListN.{length}
 use Rattle.lent.specs.Fit.{base, cap, wide, more, stretch, Stored, StoredAt}
 use Rattle.lent.proofs.Laws.{stored_none, stored_append, stored_length, stored_small}
 use Rattle.codec.specs.Skip.{Is}
+use Rattle.codec.specs.Field.{Stands as StandsIn}
 use Rattle.format.specs.Plan.{ElementPlan as ElementPlanIn, element_plan_c}
 use Rattle.format.specs.Sections.{job_of}
 use Rattle.spec.specs.Answers.{stretch_of}
@@ -31,7 +32,7 @@ use Rattle.row_segment.specs.declared.feed.Behind.{Behind as Put-behind}
 use Rattle.row_segment.specs.Stream.{id_of, Lined, element_put, puts, part_put, Stands, look_put}
 use Rattle.row_segment.specs.Notes.{Totals}
 use Rattle.row_segment.specs.Feed.{Stood, AllStood}
-use Rattle.row_segment.proofs.StreamLaws.{puts_end, nothing_then, through_start, through_place, looked, stood, part_by, part_is}
+use Rattle.row_segment.proofs.StreamLaws.{puts_end, nothing_then, through_start, through_stands, looked, stood, part_by, part_is}
 use Rattle.row_segment.proofs.NoteLaws.{puts_few}
 
 -- ---- one planned element
@@ -40,8 +41,8 @@ pub stands_first : (b : List ℕ) (x : Line) → Lined b x → Stands b x 0 x.fi
 stands_first b x w = record { place = w.first; within = omega arith }
 
 module _ {b idx : List ℕ} (r : PlanIndexed b idx) (x : Line) (w : Lined b x) (k p : ℕ) (q : Stands b x k p) (h : k < x.count) where
-  pub place_low : p < 4294967296
-  place_low = through_place r x w k k p (through_start b x k p q) h
+  pub stands_here : StandsIn element_plan_c b p
+  stands_here = through_stands r x w k k p (through_start b x k p q) h
 
   module _ (e : ElementPlan) (f : (n : ℕ) (v : ElementPlanIn) → n ≤ length b → Is element_plan_c b n p v → ElementRead b n p v e)
       (o : Option Planned) (s : (b : List ℕ) (x : Line) → look_put b x o ≡ element_put b x (element_of b e)) where

@@ -8,6 +8,7 @@ use native.Mathlib.Nat.{zero-add}
 use native.Mathlib.Omega.{arith}
 use lib.ListN.{length, get_or}
 use Rattle.codec.specs.Skip.{Is}
+use Rattle.codec.specs.Field.{Stands as StandsIn}
 use Rattle.format.specs.Plan.{ElementPlan as ElementPlanIn, element_plan_c, no_element_plan}
 use Rattle.format.specs.Passed.{Passed}
 use Rattle.format.specs.Sections.{job_of}
@@ -17,7 +18,7 @@ use Rattle.spec.specs.Answers.{Holds}
 use Rattle.plan.specs.declared.answers.ElementPlan.{ElementPlan}
 use Rattle.plan.specs.Answers.{element_of, ElementRead}
 use Rattle.plan.specs.Index.{PlanIndexed}
-use Rattle.plan.specs.Elements.{Elements, ElementStep, element_place, element_step}
+use Rattle.plan.specs.Elements.{Elements, ElementStep, element_stands, element_step}
 use Rattle.segment.specs.Parts.{Part}
 use Rattle.emit.specs.Puts.{Put, nothing, and_put, part_at, put_cell, row_put}
 use Rattle.emit.proofs.PutLaws.{put_next, put_end}
@@ -63,8 +64,8 @@ module _ {b idx : List ℕ} (r : PlanIndexed b idx) (x : Line) (w : Lined b x) (
   inside : i < x.count → i < length (plans b x)
   inside h = omega (arith, w.count)
 
-  pub through_place : i < x.count → p < 4294967296
-  through_place h = element_place b idx r p i (plans b x) (inside h) q.stands.place
+  pub through_stands : i < x.count → StandsIn element_plan_c b p
+  through_stands h = element_stands b idx r p i (plans b x) (inside h) q.stands.place
 
   module _ (h : i < x.count) (e : ElementPlan) (f : (n : ℕ) (v : ElementPlanIn) → n ≤ length b → Is element_plan_c b n p v → ElementRead b n p v e)
       (o : Option Planned) (s : (b : List ℕ) (x : Line) → look_put b x o ≡ element_put b x (element_of b e)) where

@@ -1,26 +1,25 @@
 -- Looking a key up in a map: where its value stands.
 use Prim.Native.Nat.{ℕ, zero, suc, ◌+◌, ◌*◌, ◌-◌, ◌≤◌, ◌<◌}
-use Rattle.std.specs.Prelude.{◌≡◌, refl, List, [], ◌∷◌, Bool, true, cond, length, get_or, drop, eqb, Option, None, Some}
+use Rattle.std.specs.Prelude.{◌≡◌, refl, List, [], ◌∷◌, Bool, true, cond, length, get_or, take, drop, eqb, Option, None, Some}
+use Rattle.std.specs.Cmp.Lexicographic.{pointwise}
 use Rattle.std.proofs.Math.Path.{sym, subst}
-use Rattle.std.proofs.Common.{ap, ◌∙◌, add-zero, sub-one}
-use Rattle.std.proofs.Math.Bool.{false}
+use Rattle.std.proofs.Common.{◌∙◌}
+use mathlib.Core.Bool.{false, ◌&&◌}
 use native.Mathlib.Omega.{arith}
-use Rattle.std.proofs.Math.ListN.{length-drop}
-use Rattle.std.proofs.Math.Seq.{get_or-take, get_or-drop, length-take-le}
 use borrow.Author.Tests.{eq-eqb, ne_eqb, eqb-true, eqb-false}
-use Rattle.codec.specs.Codec.{Codec, pick, le, le_c, ◌⊗◌}
+use Rattle.codec.specs.Codec.{Codec, le, le_c, ◌⊗◌}
 use Rattle.codec.specs.Skip.{Is, skip, steps, count_at, steps_last as last_step}
 use Rattle.codec.specs.Ways.{count_is}
-use Rattle.codec.specs.Forms.{num_c, byte_c, bytes_c, opt_c}
+use Rattle.codec.specs.Forms.{num_c, bytes_c, opt_c}
 use Rattle.codec.specs.Maps.{num_map_c, is_num_map}
-use Rattle.codec.specs.Field.{is_list, is_pair, is_le, is_in}
-use Rattle.codec.specs.Answers.{byte_item, skip_les}
+use Rattle.codec.specs.Field.{Stands, is_list, is_pair, is_le, is_in, stands_at}
+use Rattle.codec.specs.Answers.{skip_les}
 use Rattle.format.specs.Ask.{on, found, same_bytes, segment_def, element_def, max_of, min_of}
 use Rattle.format.specs.Spec.{SegmentDef, segment_c, ElementDef, element_c, ComponentDef, component_c, kind_c}
-use Rattle.format.specs.Fields.{is_element, is_component, element_components}
+use Rattle.format.specs.Fields.{is_element, is_component, element_min, element_max, element_components}
 use Rattle.format.specs.Job.{Job}
 use Rattle.format.specs.Sections.{plan_start, job_of}
-use Rattle.spec.specs.Answers.{stretch_of}
+use Rattle.spec.specs.Answers.{stretch_of, Holds}
 use Rattle.spec.specs.Segments.{SegmentsIndexed, no_entry}
 use Rattle.spec.specs.declared.ids.Stretch.{Stretch}
 
@@ -94,79 +93,23 @@ module _ {A : Type 0} (C : Codec A) (b : List ℕ) (e at number : ℕ) where
       let m : length (x ∷ xs) ≡ n = l.counted ∙ sym (count_is b at e l.room) ∙ sym c in
       found_none (eqb number) (x ∷ xs) x (λ i u. o (x ∷ xs) x h i (omega arith) u)
 
--- ---- the same bytes at two places
-unfoldable pub same_at : List ℕ → ℕ → ℕ → ℕ → Bool
-same_at b p q zero = true
-same_at b p q (suc n) = pick (eqb (get_or b p 0) (get_or b q 0)) (same_at b (p + 1) (q + 1) n) false
-
-module _ (b : List ℕ) (a : Bool) (p q n : ℕ) (h : a ≡ same_at b p q n) where
-  pub same_again : (x y : ℕ) → 0 < n → x ≡ get_or b p 0 → y ≡ get_or b q 0 → x ≡ y → a ≡ same_at b (p + 1) (q + 1) (n - 1)
-  unfolding same_at
-  same_again x y r i j k = h ∙ go n r
-    where
-      go : (n : ℕ) → 0 < n → same_at b p q n ≡ same_at b (p + 1) (q + 1) (n - 1)
-      go zero r = absurd (omega arith)
-      go (suc n) r = rw (sub-one, ← i, ← j, eq-eqb _ _ k)
-
-  pub same_not : (x y : ℕ) → 0 < n → x ≡ get_or b p 0 → y ≡ get_or b q 0 → (x ≡ y → ⊥) → false ≡ a
-  unfolding same_at
-  same_not x y r i j k = sym (h ∙ go n r)
-    where
-      go : (n : ℕ) → 0 < n → same_at b p q n ≡ false
-      go zero r = absurd (omega arith)
-      go (suc n) r = rw (← i, ← j, ne_eqb _ _ k)
-
-  pub same_done : n ≤ 0 → true ≡ a
-  unfolding same_at
-  same_done r = let z : n ≡ 0 = omega arith in sym (h ∙ rw z)
-
-pub same_lists : (b v w : List ℕ) (p q : ℕ) → length v ≡ length w → ((i : ℕ) → i < length v → get_or v i 0 ≡ get_or b (p + i) 0) → ((i : ℕ) → i < length w → get_or w i 0 ≡ get_or b (q + i) 0) → same_at b p q (length v) ≡ same_bytes v w
-unfolding same_at
-same_lists b [] [] p q n h k = refl
-same_lists b [] (y ∷ w) p q n h k = absurd (omega arith)
-same_lists b (x ∷ v) [] p q n h k = absurd (omega arith)
-same_lists b (x ∷ v) (y ∷ w) p q n h k =
-    let i : x ≡ get_or b p 0 = rw add-zero at (h 0 (omega arith)) in
-    let j : y ≡ get_or b q 0 = rw add-zero at (k 0 (omega arith)) in
-    rw (i, j) (go (eqb (get_or b p 0) (get_or b q 0)) (same_lists b v w (p + 1) (q + 1) (omega arith) (λ m r. let s : p + 1 + m ≡ p + suc m = omega arith in rw s (h (suc m) (omega arith))) (λ m r. let s : q + 1 + m ≡ q + suc m = omega arith in rw s (k (suc m) (omega arith)))))
+-- ---- a stretch against a byte string that stands at a place
+pub bytes_pointwise : (v w : List ℕ) → pointwise eqb v w ≡ same_bytes v w
+bytes_pointwise [] [] = refl
+bytes_pointwise [] (y ∷ w) = refl
+bytes_pointwise (x ∷ v) [] = refl
+bytes_pointwise (x ∷ v) (y ∷ w) = go (eqb x y) (bytes_pointwise v w)
   where
-    go : (t : Bool) → same_at b (p + 1) (q + 1) (length v) ≡ same_bytes v w → pick t (same_at b (p + 1) (q + 1) (length v)) false ≡ cond t (same_bytes v w) false
-    go true ih = ih
-    go false ih = refl
+    go : (t : Bool) {r q : Bool} → r ≡ q → (t && r) ≡ cond t q false
+    go true i = i
+    go false i = refl
 
-pub same_lengths : (v w : List ℕ) → (length v ≡ length w → ⊥) → false ≡ same_bytes v w
-same_lengths [] [] h = absurd (h refl)
-same_lengths [] (y ∷ w) h = refl
-same_lengths (x ∷ v) [] h = refl
-same_lengths (x ∷ v) (y ∷ w) h = go (eqb x y) (same_lengths v w (λ q. h (ap suc q)))
-  where
-    go : (t : Bool) → false ≡ same_bytes v w → false ≡ cond t (same_bytes v w) false
-    go true ih = ih
-    go false ih = refl
-
-module _ (b : List ℕ) (s : Stretch) (in_b : s.start + s.len ≤ length b) where
-  pub stretch_long : length (stretch_of b s) ≡ s.len
-  unfolding stretch_of
-  stretch_long = length-take-le s.len (drop s.start b) (rw length-drop (omega arith))
-
-  pub stretch_byte : (i : ℕ) → i < s.len → get_or (stretch_of b s) i 0 ≡ get_or b (s.start + i) 0
-  unfolding stretch_of
-  stretch_byte i h = get_or-take s.len (drop s.start b) i 0 h ∙ get_or-drop s.start b i 0
-
-  -- the stretch against a byte string that stands at a place
-  module _ (n p : ℕ) (c : n ≡ le 4 b p) where
-    pub key_long : (n ≡ s.len → ⊥) → (e : ℕ) (k : List ℕ) → Is bytes_c b e p k → false ≡ same_bytes (stretch_of b s) k
-    key_long h e k i =
-        let l : length k ≡ le 4 b p = (is_list byte_c b e p k i).counted in
-        let m = stretch_long in
-        same_lengths (stretch_of b s) k (λ q. h (c ∙ sym l ∙ sym q ∙ m))
-
-    pub key_same : (r : Bool) → n ≡ s.len → r ≡ same_at b s.start (p + 4) n → (e : ℕ) (k : List ℕ) → Is bytes_c b e p k → r ≡ same_bytes (stretch_of b s) k
-    key_same r h q e k i =
-        let l : length k ≡ le 4 b p = (is_list byte_c b e p k i).counted in
-        let m = stretch_long in
-        let z : n ≡ length (stretch_of b s) = h ∙ sym m in
-        q ∙ rw z (same_lists b (stretch_of b s) k s.start (p + 4) (omega (arith, l, m)) (λ j y. stretch_byte j (omega (arith, m))) (λ j y. byte_item b e p k j i y))
+pub key_same : (b : List ℕ) (s t : Stretch) (r : Bool) (k : List ℕ) → r ≡ pointwise eqb (take (s.start + s.len - s.start) (drop s.start b)) (take (t.start + t.len - t.start) (drop t.start b)) → Holds b t k → r ≡ same_bytes (stretch_of b s) k
+unfolding stretch_of
+key_same b s t r k h w =
+    let i : s.start + s.len - s.start ≡ s.len = omega arith in
+    let j : t.start + t.len - t.start ≡ t.len = omega arith in
+    (rw (i, j, w.bytes) at h) ∙ bytes_pointwise (take s.len (drop s.start b)) k
 
 -- ---- a segment by its identifier
 abbrev segs : List ℕ → List (List ℕ × SegmentDef)
@@ -184,21 +127,24 @@ module _ (b idx : List ℕ) (w : SegmentsIndexed b idx) (id : List ℕ) where
     name_at : Is bytes_c b (plan_start b) p (get_or (segs b) k no_entry).0 × Is segment_c b (plan_start b) (skip bytes_c b p (plan_start b)) (get_or (segs b) k no_entry).1
     name_at = is_pair bytes_c segment_c b (plan_start b) p (get_or (segs b) k no_entry) (rw q (w.entry k r))
 
-    pub names_more : (t : Bool) → OtherNames b id k → ((e : ℕ) (v : List ℕ) → Is bytes_c b e p v → t ≡ same_bytes id v) → t ≡ false → OtherNames b id (k + 1)
+    pub name_stands : Stands bytes_c b p
+    name_stands = stands_at bytes_c b p p (plan_start b) _ refl w.within name_at.0
+
+    pub names_more : (t : Bool) → OtherNames b id k → ((e : ℕ) (v : List ℕ) → e ≤ length b → Is bytes_c b e p v → t ≡ same_bytes id v) → t ≡ false → OtherNames b id (k + 1)
     names_more t o h f i u v = go (eqb i k) refl
       where
         go : (y : Bool) → eqb i k ≡ y → same_bytes id (get_or (segs b) i no_entry).0 ≡ false
-        go true m = let s : i ≡ k = eqb-true _ _ m in rw s (sym (h (plan_start b) _ name_at.0) ∙ f)
+        go true m = let s : i ≡ k = eqb-true _ _ m in rw s (sym (h (plan_start b) _ w.within name_at.0) ∙ f)
         go false m = let s : i ≡ k → ⊥ = eqb-false _ _ m in o i (omega arith) v
 
-    pub name_found : (t : Bool) (n : ℕ) → OtherNames b id k → ((e : ℕ) (v : List ℕ) → Is bytes_c b e p v → t ≡ same_bytes id v) → t ≡ true → n ≡ le 4 b p → StandsAt segment_c b (plan_start b) (p + 4 + n) (segment_def (job_of b) id)
+    pub name_found : (t : Bool) (n : ℕ) → OtherNames b id k → ((e : ℕ) (v : List ℕ) → e ≤ length b → Is bytes_c b e p v → t ≡ same_bytes id v) → t ≡ true → n ≡ le 4 b p → StandsAt segment_c b (plan_start b) (p + 4 + n) (segment_def (job_of b) id)
     unfolding segment_def
     name_found t n o h f c =
         let s : skip bytes_c b p (plan_start b) ≡ p + 4 + le 4 b p * 1 = skip_les 1 b (plan_start b) p (get_or (segs b) k no_entry).0 name_at.0 in
         let z : p + 4 + n ≡ skip bytes_c b p (plan_start b) = omega (arith, s, c) in
         record {
           value = (get_or (segs b) k no_entry).1;
-          there = found_first (same_bytes id) (segs b) k no_entry r (λ i u. o i u (omega arith)) (sym (h (plan_start b) _ name_at.0) ∙ f);
+          there = found_first (same_bytes id) (segs b) k no_entry r (λ i u. o i u (omega arith)) (sym (h (plan_start b) _ w.within name_at.0) ∙ f);
           is = rw z name_at.1;
         }
 
@@ -258,8 +204,32 @@ component_none c d h = rw h
 pub component_there : (b : List ℕ) (e p c : ℕ) (r : Option ℕ) (d : ElementDef) → StandsAt component_c b e p (found (eqb c) d.components) → ((k : ComponentDef) → Is component_c b e p k → r ≡ k.max) → r ≡ max_in d (Some c)
 component_there b e p c r d s h = rw s.there (h s.value s.is)
 
+-- some element stands at a place, as far as it is read up to e. `Stands` leaves the end open, but the places of its fields go by a section's end
+pub record ElementAt (b : List ℕ) (e at : ℕ) : Type 0 where
+  pub def : ElementDef
+  pub is : Is element_c b e at def
+
+-- the least and the most of an element or a component stand behind its kind
+pub record Sized (b : List ℕ) (e at : ℕ) : Type 0 where
+  pub least : Option ℕ
+  pub most : Option ℕ
+  pub min : Is (opt_c num_c) b e (element_min b e at) least
+  pub max : Is (opt_c num_c) b e (element_max b e at) most
+
+pub element_sized : (b : List ℕ) (e at : ℕ) → ElementAt b e at → Sized b e at
+element_sized b e at h = let t = is_element b e at h.def h.is in record { least = h.def.min; most = h.def.max; min = t.min; max = t.max }
+
+pub component_sized : (b : List ℕ) (e at : ℕ) (d : ComponentDef) → Is component_c b e at d → Sized b e at
+component_sized b e at d h = let t = is_component b e at d h in record { least = d.min; most = d.max; min = t.min; max = t.max }
+
+pub element_found : (b : List ℕ) (e e' at : ℕ) (v : Option ElementDef) → e' ≡ e → StandsAt element_c b e at v → ElementAt b e' at
+element_found b e e' at v i s = record { def = s.value; is = rw i s.is }
+
 -- ---- the fields of an element that stands at a place, by the places that were read on the way
 module _ (b : List ℕ) (e at kind min : ℕ) (i : kind ≡ skip kind_c b at e) (j : min ≡ skip (opt_c num_c) b kind e) where
+  pub sized_max : (z : Sized b e at) → Is (opt_c num_c) b e min z.most
+  sized_max z = rw (j, i) z.max
+
   pub element_max_at : (d : ElementDef) → Is element_c b e at d → Is (opt_c num_c) b e min d.max
   element_max_at d h = rw (j, i) (is_element b e at d h).max
 
@@ -269,10 +239,3 @@ module _ (b : List ℕ) (e at kind min : ℕ) (i : kind ≡ skip kind_c b at e) 
 -- where an element's components stand
 pub components_at : (b : List ℕ) (e at p : ℕ) → p ≡ element_components b e at → (d : ElementDef) → Is element_c b e at d → Is (num_map_c component_c) b e p d.components
 components_at b e at p i d h = rw i (is_element b e at d h).components
-
--- which definition's most is asked
-pub max_in_none : (o : Option ℕ) (r : Option ℕ) (d : ElementDef) → o ≡ None → r ≡ d.max → r ≡ max_in d o
-max_in_none o r d i h = rw i h
-
-pub max_in_is : (o : Option ℕ) (c : ℕ) (r : Option ℕ) (d : ElementDef) → o ≡ Some c → r ≡ max_in d (Some c) → r ≡ max_in d o
-max_in_is o c r d i h = rw i h

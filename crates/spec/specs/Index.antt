@@ -1,17 +1,16 @@
 -- The index over the spec: at each place that it holds stands the part of the job that it is for.
-use Rattle.std.specs.Prelude.{ℕ, ◌+◌, ◌*◌, ◌≤◌, ◌<◌, ◌≡◌, List, Bool, true, false, get_or, ltb}
+use Rattle.std.specs.Prelude.{ℕ, ◌+◌, ◌*◌, ◌≤◌, ◌<◌, ◌≡◌, List, Bool, true, false, get_or, ltb, Option, None, Some}
 use Rattle.std.proofs.Math.Path.{refl}
-use Rattle.std.proofs.Common.{◌∙◌, arith, mul-le-mul_left}
+use Rattle.std.proofs.Common.{ap, arith}
 use Rattle.std.proofs.Math.ListN.{length, get_or-eq_default}
 use borrow.Author.Tests.{ltb-true, ltb-false, lt-ltb, le-ltb}
 use Rattle.codec.specs.Codec.{Codec, pick, le, list_c}
 use Rattle.codec.specs.Skip.{Is}
 use Rattle.codec.specs.Forms.{num_c, bytes_c, opt_c, flag_c}
-use Rattle.codec.specs.Field.{is_list, is_at}
+use Rattle.codec.specs.Field.{is_list, is_at, Stands, stands_at}
 use Rattle.format.specs.Spec.{Loop, no_loop, loop_c, Table, no_table, table_c, usage_c, control_c, repeat_c, version_c}
 use Rattle.format.specs.Sections.{plan_start, job_of}
 use Rattle.format.specs.Ask.{loop_of, table_of}
-use Rattle.spec.specs.Reads.{Reads, stands, past}
 
 -- From 0 the places of the lists of loops, of roots and of tables, and of the version; from 8 seven numbers a loop, from 232 six a table.
 -- a field of every loop
@@ -80,48 +79,61 @@ module _ (b idx idx' : List ℕ) (x : SpecIndexed b idx) (same : (i : ℕ) → i
     ancestors = at_table (list_c num_c) (λ v. v.ancestors) 5 (omega arith) x.ancestors;
   }
 
--- ---- the place of field f of row i: the list's own place is number `list`, its rows of `width` numbers begin at `from`; past every job for a row that is not there
-unfoldable pub row_place : List ℕ → List ℕ → ℕ → ℕ → ℕ → ℕ → ℕ → ℕ
-row_place b idx list from width i f = pick (ltb i (le 4 b (get_or idx list 0))) (get_or idx (from + i * width + f) 0) 65536
+-- ---- the place of field f of row i: the list's own place is number `list`, its rows of `width` numbers begin at `from`; none for a row that is not there
+unfoldable pub row_place : List ℕ → List ℕ → ℕ → ℕ → ℕ → ℕ → ℕ → Option ℕ
+row_place b idx list from width i f = pick (ltb i (le 4 b (get_or idx list 0))) (Some (get_or idx (from + i * width + f) 0)) None
 
 module _ (b idx : List ℕ) (list from width i f p n : ℕ) (q : p ≡ get_or idx list 0) (c : n ≡ le 4 b p) where
-  pub row_past : n ≤ i → 65536 ≡ row_place b idx list from width i f
+  pub row_none : n ≤ i → None ≡ row_place b idx list from width i f
   unfolding row_place
-  row_past h = rw (← q, ← c, le-ltb _ _ h)
+  row_none h = rw (← q, ← c, le-ltb _ _ h)
 
-  pub row_is : (x : ℕ) → i < n → x ≡ get_or idx (from + i * width + f) 0 → x ≡ row_place b idx list from width i f
+  pub row_is : (x : ℕ) → i < n → x ≡ get_or idx (from + i * width + f) 0 → Some x ≡ row_place b idx list from width i f
   unfolding row_place
-  row_is x h j = rw (← q, ← c, lt-ltb _ _ h) j
+  row_is x h j = rw (← q, ← c, lt-ltb _ _ h) (ap Some j)
 
-module _ {A R : Type 0} (C : Codec A) (D : Codec R) (field : R → A) (d : R) (b idx : List ℕ) (e : ℕ) where
-  row_reads : (list from width i f p : ℕ) (rs : List R) → length b ≤ 65536 → e ≤ length b → Is (list_c D) b e (get_or idx list 0) rs
-      → ((k : ℕ) → k < length rs → Is C b e (get_or idx (from + k * width + f) 0) (field (get_or rs k d)))
-      → p ≡ row_place b idx list from width i f → Reads C b e p (field d) (field (get_or rs i d))
+module _ {R : Type 0} (D : Codec R) (d : R) (b idx : List ℕ) (e list from width i f : ℕ) (rs : List R) (l : Is (list_c D) b e (get_or idx list 0) rs) (r : Option ℕ) (q : r ≡ row_place b idx list from width i f) where
+  counted : length rs ≡ le 4 b (get_or idx list 0)
+  counted = (is_list D b e (get_or idx list 0) rs l).counted
+
+  row_lacks : r ≡ None → get_or rs i d ≡ d
   unfolding row_place
-  row_reads list from width i f p rs s r l h q = go (ltb i (le 4 b (get_or idx list 0))) refl
+  row_lacks h = go (ltb i (le 4 b (get_or idx list 0))) refl q
     where
-      n : length rs ≡ le 4 b (get_or idx list 0)
-      n = (is_list D b e (get_or idx list 0) rs l).counted
+      go : (t : Bool) → ltb i (le 4 b (get_or idx list 0)) ≡ t → r ≡ pick t (Some (get_or idx (from + i * width + f) 0)) None → get_or rs i d ≡ d
+      go true m u = absurd (let z : ◌≡◌ {A = ℕ} 0 1 = cc in omega arith)
+      go false m u = get_or-eq_default rs d (rw counted (ltb-false _ _ m))
 
-      go : (t : Bool) → ltb i (le 4 b (get_or idx list 0)) ≡ t → Reads C b e p (field d) (field (get_or rs i d))
-      go true m =
-          let j : i < length rs = rw n (ltb-true _ _ m) in
-          let u : p ≡ get_or idx (from + i * width + f) 0 = q ∙ rw m in
-          stands r (rw u (h i j))
-      go false m =
-          let j : length rs ≤ i = rw n (ltb-false _ _ m) in
-          let u : p ≡ 65536 = q ∙ rw m in
-          past (omega arith) (rw (get_or-eq_default rs d j))
+  row_there : {A : Type 0} (C : Codec A) (field : R → A) → ((k : ℕ) → k < length rs → Is C b e (get_or idx (from + k * width + f) 0) (field (get_or rs k d))) → (p : ℕ) → r ≡ Some p → Is C b e p (field (get_or rs i d))
+  unfolding row_place
+  row_there C field h p k = go (ltb i (le 4 b (get_or idx list 0))) refl q
+    where
+      go : (t : Bool) → ltb i (le 4 b (get_or idx list 0)) ≡ t → r ≡ pick t (Some (get_or idx (from + i * width + f) 0)) None → Is C b e p (field (get_or rs i d))
+      go true m u =
+          let j : i < length rs = rw counted (ltb-true _ _ m) in
+          let w : p ≡ get_or idx (from + i * width + f) 0 = cc in
+          rw w (h i j)
+      go false m u = absurd (let z : ◌≡◌ {A = ℕ} 0 1 = cc in omega arith)
 
-module _ {A : Type 0} (b idx : List ℕ) (x : SpecIndexed b idx) where
-  pub loop_reads : (C : Codec A) (field : Loop → A) (f i p : ℕ) → LoopField b idx f C field → p ≡ row_place b idx 0 8 7 i f → Reads C b (plan_start b) p (field no_loop) (field (loop_of (job_of b) i))
+module _ (b idx : List ℕ) (x : SpecIndexed b idx) (i f : ℕ) (r : Option ℕ) where
+  pub loop_lacks : r ≡ row_place b idx 0 8 7 i f → r ≡ None → loop_of (job_of b) i ≡ no_loop
   unfolding loop_of
-  loop_reads C field f i p h q = row_reads C loop_c field no_loop b idx (plan_start b) 0 8 7 i f p (job_of b).spec.loops x.short x.within x.loops h q
+  loop_lacks q h = row_lacks loop_c no_loop b idx (plan_start b) 0 8 7 i f (job_of b).spec.loops x.loops r q h
 
-  pub table_reads : (C : Codec A) (field : Table → A) (f i p : ℕ) → TableField b idx f C field → p ≡ row_place b idx 2 232 6 i f → Reads C b (plan_start b) p (field no_table) (field (table_of (job_of b) i))
+  pub loop_is : {A : Type 0} (C : Codec A) (field : Loop → A) → LoopField b idx f C field → r ≡ row_place b idx 0 8 7 i f → (p : ℕ) → r ≡ Some p → Is C b (plan_start b) p (field (loop_of (job_of b) i))
+  unfolding loop_of
+  loop_is C field g q p h = row_there loop_c no_loop b idx (plan_start b) 0 8 7 i f (job_of b).spec.loops x.loops r q C field g p h
+
+  pub loop_stands : {A : Type 0} (C : Codec A) (field : Loop → A) → LoopField b idx f C field → r ≡ row_place b idx 0 8 7 i f → (p : ℕ) → r ≡ Some p → Stands C b p
+  loop_stands C field g q p h = stands_at C b p p (plan_start b) _ refl x.within (loop_is C field g q p h)
+
+  pub table_lacks : r ≡ row_place b idx 2 232 6 i f → r ≡ None → table_of (job_of b) i ≡ no_table
   unfolding table_of
-  table_reads C field f i p h q = row_reads C table_c field no_table b idx (plan_start b) 2 232 6 i f p (job_of b).spec.tables x.short x.within x.tables h q
+  table_lacks q h = row_lacks table_c no_table b idx (plan_start b) 2 232 6 i f (job_of b).spec.tables x.tables r q h
 
--- a product that a machine word holds
-pub small_row : (i w : ℕ) → i < 4294967296 → w < 256 → i * w < 1099511627776
-small_row i w h k = let q : i * w ≤ i * 256 = mul-le-mul_left i (omega arith) in omega arith
+  pub table_is : {A : Type 0} (C : Codec A) (field : Table → A) → TableField b idx f C field → r ≡ row_place b idx 2 232 6 i f → (p : ℕ) → r ≡ Some p → Is C b (plan_start b) p (field (table_of (job_of b) i))
+  unfolding table_of
+  table_is C field g q p h = row_there table_c no_table b idx (plan_start b) 2 232 6 i f (job_of b).spec.tables x.tables r q C field g p h
+
+  pub table_stands : {A : Type 0} (C : Codec A) (field : Table → A) → TableField b idx f C field → r ≡ row_place b idx 2 232 6 i f → (p : ℕ) → r ≡ Some p → Stands C b p
+  table_stands C field g q p h = stands_at C b p p (plan_start b) _ refl x.within (table_is C field g q p h)

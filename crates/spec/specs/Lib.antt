@@ -10,4 +10,5 @@ pub mod Reads
 pub mod Region
 pub mod Rows
 pub mod Segments
+pub mod Standing
 pub mod VersionIs

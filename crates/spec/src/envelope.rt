@@ -62,7 +62,7 @@ pub fn date(job: Indexed) -> u32
     ensures { result ≡ (job_of job.entry.bytes.now).envelope.date }
 {
     let p = codec::place(job.index, 2566);
-    codec::num(job.bytes, p) as u32
+    codec::num_in(job.bytes, p) as u32
 }
 
 // The 32 bits of the time, a signed number.
@@ -71,7 +71,7 @@ pub fn time(job: Indexed) -> u32
     ensures { result ≡ (job_of job.entry.bytes.now).envelope.time }
 {
     let p = codec::place(job.index, 2567);
-    codec::num(job.bytes, p) as u32
+    codec::num_in(job.bytes, p) as u32
 }
 
 pub fn usage_indicator(job: Indexed) -> Stretch
@@ -87,7 +87,7 @@ pub fn control_number(job: Indexed) -> u64
     ensures { result ≡ (job_of job.entry.bytes.now).envelope.control_number }
 {
     let p = codec::place(job.index, 2569);
-    codec::long(job.bytes, p)
+    codec::long_in(job.bytes, p)
 }
 
 pub fn element_separator(job: Indexed) -> u8
@@ -95,7 +95,7 @@ pub fn element_separator(job: Indexed) -> u8
     ensures { result ≡ (job_of job.entry.bytes.now).envelope.element }
 {
     let p = codec::place(job.index, 2570);
-    codec::byte_at(job.bytes, p) as u8
+    job.bytes[p]
 }
 
 pub fn component_separator(job: Indexed) -> u8
@@ -103,7 +103,7 @@ pub fn component_separator(job: Indexed) -> u8
     ensures { result ≡ (job_of job.entry.bytes.now).envelope.component }
 {
     let p = codec::place(job.index, 2571);
-    codec::byte_at(job.bytes, p) as u8
+    job.bytes[p]
 }
 
 pub fn segment_terminator(job: Indexed) -> u8
@@ -111,7 +111,7 @@ pub fn segment_terminator(job: Indexed) -> u8
     ensures { result ≡ (job_of job.entry.bytes.now).envelope.segment }
 {
     let p = codec::place(job.index, 2572);
-    codec::byte_at(job.bytes, p) as u8
+    job.bytes[p]
 }
 
 pub fn repetition(job: Indexed) -> Option<u32>

@@ -17,7 +17,7 @@ pub fn loop_count(job: Indexed) -> u32
     ensures { result ≡ length (job_of job.entry.bytes.now).spec.loops }
 {
     let p = codec::place(job.index, 0);
-    codec::num(job.bytes, p) as u32
+    codec::num_in(job.bytes, p) as u32
 }
 
 pub fn root_count(job: Indexed) -> u32
@@ -25,7 +25,7 @@ pub fn root_count(job: Indexed) -> u32
     ensures { result ≡ length (job_of job.entry.bytes.now).spec.roots }
 {
     let p = codec::place(job.index, 1);
-    codec::num(job.bytes, p) as u32
+    codec::num_in(job.bytes, p) as u32
 }
 
 pub fn root(job: Indexed, k: u32) -> LoopId
@@ -36,9 +36,10 @@ pub fn root(job: Indexed, k: u32) -> LoopId
     LoopId(item_at(job.bytes, p, k))
 }
 
-// Where field f of a loop stands.
-pub fn loop_field(job: Indexed, l: LoopId, f: u32) -> usize
-    ensures { (result ≡ row_place job.entry.bytes.now job.entry.index.now 0 8 7 l.0 f) × (result < 4294967296) }
+// Where field f of a loop stands, if the loop is there.
+pub fn loop_field(job: Indexed, l: LoopId, f: u32) -> Option<usize>
+    requires { SpecIndexed job.bytes.now job.index.now }
+    ensures { result ≡ row_place job.entry.bytes.now job.entry.index.now 0 8 7 l.0 f }
 {
     row_place(job, 0, 8, 7, l.0, f)
 }
@@ -47,7 +48,7 @@ pub fn loop_parent(job: Indexed, l: LoopId) -> Option<u32>
     requires { SpecIndexed job.bytes.now job.index.now }
     ensures { result ≡ (loop_of (job_of job.entry.bytes.now) l.0).parent }
 {
-    let p = loop_field(job, l, 0);
+    let p = loop_field(job, l, 0)?;
     number_at(job.bytes, p)
 }
 
@@ -55,7 +56,9 @@ pub fn trigger(job: Indexed, l: LoopId) -> Stretch
     requires { SpecIndexed job.bytes.now job.index.now }
     ensures { Holds job.entry.bytes.now result (loop_of (job_of job.entry.bytes.now) l.0).trigger }
 {
-    let p = loop_field(job, l, 1);
+    let Some(p) = loop_field(job, l, 1) else {
+        return Stretch { start: 0, len: 0 };
+    };
     stretch_at(job.bytes, p)
 }
 
@@ -63,8 +66,10 @@ pub fn occurrence_count(job: Indexed, l: LoopId) -> u32
     requires { SpecIndexed job.bytes.now job.index.now }
     ensures { result ≡ length (loop_of (job_of job.entry.bytes.now) l.0).occurrences }
 {
-    let p = loop_field(job, l, 2);
-    codec::num(job.bytes, p) as u32
+    let Some(p) = loop_field(job, l, 2) else {
+        return 0;
+    };
+    codec::num_in(job.bytes, p) as u32
 }
 
 // The identifier of segment k of a loop, empty past its last.
@@ -72,8 +77,10 @@ pub fn occurrence(job: Indexed, l: LoopId, k: u32) -> Stretch
     requires { SpecIndexed job.bytes.now job.index.now }
     ensures { Holds job.entry.bytes.now result (get_or (loop_of (job_of job.entry.bytes.now) l.0).occurrences k []) }
 {
-    let p = loop_field(job, l, 2);
-    let n = codec::num(job.bytes, p);
+    let Some(p) = loop_field(job, l, 2) else {
+        return Stretch { start: 0, len: 0 };
+    };
+    let n = codec::num_in(job.bytes, p);
     if n <= k as usize {
         return Stretch { start: 0, len: 0 };
     }
@@ -85,7 +92,9 @@ pub fn required(job: Indexed, l: LoopId) -> bool
     requires { SpecIndexed job.bytes.now job.index.now }
     ensures { result ≡ is_required (loop_of (job_of job.entry.bytes.now) l.0).usage }
 {
-    let p = loop_field(job, l, 3);
+    let Some(p) = loop_field(job, l, 3) else {
+        return true;
+    };
     !flag_at(job.bytes, p)
 }
 
@@ -93,7 +102,7 @@ pub fn loop_end(job: Indexed, l: LoopId) -> Option<Stretch>
     requires { SpecIndexed job.bytes.now job.index.now }
     ensures { HoldsText job.entry.bytes.now result (loop_of (job_of job.entry.bytes.now) l.0).end }
 {
-    let p = loop_field(job, l, 4);
+    let p = loop_field(job, l, 4)?;
     text_at(job.bytes, p)
 }
 
@@ -101,7 +110,7 @@ pub fn control(job: Indexed, l: LoopId) -> Option<ControlRule>
     requires { SpecIndexed job.bytes.now job.index.now }
     ensures { control_of result ≡ (loop_of (job_of job.entry.bytes.now) l.0).control }
 {
-    let p = loop_field(job, l, 5);
+    let p = loop_field(job, l, 5)?;
     control_at(job.bytes, p)
 }
 
@@ -109,14 +118,18 @@ pub fn child_count(job: Indexed, l: LoopId) -> u32
     requires { SpecIndexed job.bytes.now job.index.now }
     ensures { result ≡ length (loop_of (job_of job.entry.bytes.now) l.0).children }
 {
-    let p = loop_field(job, l, 6);
-    codec::num(job.bytes, p) as u32
+    let Some(p) = loop_field(job, l, 6) else {
+        return 0;
+    };
+    codec::num_in(job.bytes, p) as u32
 }
 
 pub fn child(job: Indexed, l: LoopId, k: u32) -> LoopId
     requires { SpecIndexed job.bytes.now job.index.now }
     ensures { result.0 ≡ get_or (loop_of (job_of job.entry.bytes.now) l.0).children k 0 }
 {
-    let p = loop_field(job, l, 6);
+    let Some(p) = loop_field(job, l, 6) else {
+        return LoopId(0);
+    };
     LoopId(item_at(job.bytes, p, k))
 }

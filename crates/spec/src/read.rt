@@ -1,16 +1,16 @@
-// Readers by place. Past the job's end every byte reads as 0, so that a place there reads as none, empty, false or 0.
-// The bound on a place is each function's own (a byte string may stand further on than a number): a type for one bound would ask of every caller that
-// it makes such a place. How long the bytes are (24 to 65,536) is asked where a sum or a cast needs it: bytes with that in their type would be one more
-// struct round those of `Indexed`, made wherever bytes come in.
-ghost use Rattle.std.specs.Prelude.{ℕ, ◌+◌, ◌-◌, ◌*◌, ◌<◌, ◌≤◌, ◌≡◌, List, [], get_or, length, Option, None};
+// Readers by place. All but `string_at` and `start` ask that what they read stands there, and so go without a test.
+// How long the bytes are (24 to 65,536) is asked where a sum or a cast needs it: bytes with that in their type would be one more struct round those of
+// `Indexed`, made wherever bytes come in.
+ghost use Rattle.std.specs.Prelude.{ℕ, ◌+◌, ◌-◌, ◌*◌, ◌<◌, ◌≤◌, ◌≡◌, List, get_or, length, Option};
 ghost use Rattle.codec.specs.Codec.{le, list_c};
-ghost use Rattle.codec.specs.Skip.{steps};
+ghost use Rattle.codec.specs.Skip.{Is, steps};
+ghost use Rattle.codec.specs.Field.{Stands};
 ghost use Rattle.codec.specs.Forms.{num_c, byte_c, bytes_c, opt_c};
 ghost use Rattle.format.specs.Spec.{Control, control_c, Repeat, repeat_c};
 ghost use Rattle.format.specs.Sections.{plan_start};
 ghost use Rattle.format.specs.Ask.{on};
 ghost use Rattle.spec.specs.Answers.{Holds, HoldsByte, HoldsText, control_of};
-ghost use Rattle.spec.specs.Reads.{Reads, ByteSays};
+ghost use Rattle.spec.specs.Reads.{ByteSays};
 ghost use Rattle.spec.specs.Index.{row_place};
 
 use crate::Indexed;
@@ -19,70 +19,76 @@ use codec::Section;
 
 // Whether a flag is set, or an option holds something: of either, what stands there is the byte 0 if not.
 pub fn flag_at(b: &[u8], at: usize) -> bool
+    requires { at < length b.now }
     ensures { ByteSays b.now at result }
 {
-    codec::byte_at(b, at) != 0
+    b[at] != 0
 }
 
 pub fn number_at(b: &[u8], at: usize) -> Option<u32>
-    requires { at < 4294967296 }
-    ensures { (e : ℕ) (v : Option ℕ) → Reads (opt_c num_c) b.now e at None v → result ≡ v }
+    requires { Stands (opt_c num_c) b.now at }
+    ensures { (e : ℕ) (v : Option ℕ) → Is (opt_c num_c) b.now e at v → result ≡ v }
 {
-    flag_at(b, at).then(|| codec::num(b, at + 1) as u32)
+    if !flag_at(b, at) {
+        return None;
+    }
+    Some(codec::num_in(b, at + 1) as u32)
 }
 
 // Number k of a list, 0 past its last: the definition is `get_or` with 0, so that an Option would be taken apart at once.
 pub fn item_at(b: &[u8], at: usize, k: u32) -> u32
-    requires { at < 4294967296 }
-    ensures { (e : ℕ) (vs : List ℕ) → Reads (list_c num_c) b.now e at [] vs → result ≡ get_or vs k 0 }
+    requires { Stands (list_c num_c) b.now at }
+    ensures { (e : ℕ) (vs : List ℕ) → Is (list_c num_c) b.now e at vs → result ≡ get_or vs k 0 }
 {
-    let n = codec::num(b, at);
+    let n = codec::num_in(b, at);
     if n <= k as usize {
         return 0;
     }
-    codec::num(b, at + 4 + k as usize * 4) as u32
+    codec::num_in(b, at + 4 + k as usize * 4) as u32
 }
 
 pub fn stretch_at(b: &[u8], at: usize) -> Stretch
-    requires { at < 17179869184 }
-    ensures { (e : ℕ) (v : List ℕ) → Reads bytes_c b.now e at [] v → Holds b.now result v }
+    requires { Stands bytes_c b.now at }
+    ensures { (e : ℕ) (v : List ℕ) → e ≤ length b.now → Is bytes_c b.now e at v → Holds b.now result v }
 {
-    let n = codec::num(b, at);
-    if n == 0 {
-        return Stretch { start: 0, len: 0 };
-    }
     Stretch {
         start: at + 4,
-        len: n,
+        len: codec::num_in(b, at),
     }
 }
 
 pub fn text_at(b: &[u8], at: usize) -> Option<Stretch>
-    requires { at < 4294967296 }
-    ensures { (e : ℕ) (v : Option (List ℕ)) → Reads (opt_c bytes_c) b.now e at None v → HoldsText b.now result v }
+    requires { Stands (opt_c bytes_c) b.now at }
+    ensures { (e : ℕ) (v : Option (List ℕ)) → e ≤ length b.now → Is (opt_c bytes_c) b.now e at v → HoldsText b.now result v }
 {
-    flag_at(b, at).then_some(stretch_at(b, at + 1))
+    if !flag_at(b, at) {
+        return None;
+    }
+    Some(stretch_at(b, at + 1))
 }
 
 // The step of a repeat segment, 0 where there is none: the definition is `on` with 0, so that an Option would be taken apart at once.
 pub fn step_at(b: &[u8], at: usize) -> u32
-    requires { at < 4294967296 }
-    ensures { (e : ℕ) (v : Option Repeat) → Reads (opt_c repeat_c) b.now e at None v → result ≡ on v (λ (s : Repeat). s.step) 0 }
+    requires { Stands (opt_c repeat_c) b.now at }
+    ensures { (e : ℕ) (v : Option Repeat) → Is (opt_c repeat_c) b.now e at v → result ≡ on v (λ (s : Repeat). s.step) 0 }
 {
     if flag_at(b, at) {
-        return codec::num(b, at + 5) as u32;
+        return codec::num_in(b, at + 5) as u32;
     }
     0
 }
 
 pub fn control_at(b: &[u8], at: usize) -> Option<ControlRule>
-    requires { at < 4294967296 }
-    ensures { (e : ℕ) (v : Option Control) → Reads (opt_c control_c) b.now e at None v → control_of result ≡ v }
+    requires { Stands (opt_c control_c) b.now at }
+    ensures { (e : ℕ) (v : Option Control) → Is (opt_c control_c) b.now e at v → control_of result ≡ v }
 {
-    flag_at(b, at).then(|| ControlRule {
-        opener: codec::num(b, at + 1) as u32,
-        closer: codec::num(b, at + 5) as u32,
-        count: codec::num(b, at + 9) as u32,
+    if !flag_at(b, at) {
+        return None;
+    }
+    Some(ControlRule {
+        opener: codec::num_in(b, at + 1) as u32,
+        closer: codec::num_in(b, at + 5) as u32,
+        count: codec::num_in(b, at + 9) as u32,
         children: flag_at(b, at + 13),
     })
 }
@@ -127,26 +133,28 @@ pub fn spec_of(b: &[u8]) -> Section<'_>
     section(b, 4)
 }
 
-// The place of field f of row i, past every job where the list has no such row. No Option: a place past the job reads as none, empty, false or 0,
-// which is the answer for a row that is not there, so that an Option would make each caller say it again.
-pub fn row_place(job: Indexed, list: u32, from: u32, width: u8, i: u32, f: u32) -> usize
-    ensures { (result ≡ row_place job.entry.bytes.now job.entry.index.now list from width i f) × (result < 4294967296) }
+// The place of field f of row i, if the list has the row.
+pub fn row_place(job: Indexed, list: u32, from: u32, width: u8, i: u32, f: u32) -> Option<usize>
+    requires { get_or job.index.now list 0 + 4 ≤ length job.bytes.now }
+    ensures { result ≡ row_place job.entry.bytes.now job.entry.index.now list from width i f }
 {
     let p = codec::place(job.index, list as usize);
-    let n = codec::num(job.bytes, p);
-    if n <= i as usize {
-        return 65536;
+    if codec::num_in(job.bytes, p) <= i as usize {
+        return None;
     }
-    codec::place(
+    Some(codec::place(
         job.index,
         from as usize + i as usize * width as usize + f as usize,
-    )
+    ))
 }
 
 // A byte that may be absent.
 pub fn byte_number_at(b: &[u8], at: usize) -> Option<u32>
-    requires { at < 4294967296 }
-    ensures { (e : ℕ) (v : Option ℕ) → Reads (opt_c byte_c) b.now e at None v → HoldsByte result v }
+    requires { Stands (opt_c byte_c) b.now at }
+    ensures { (e : ℕ) (v : Option ℕ) → Is (opt_c byte_c) b.now e at v → HoldsByte result v }
 {
-    flag_at(b, at).then(|| codec::byte_at(b, at + 1) as u32)
+    if !flag_at(b, at) {
+        return None;
+    }
+    Some(b[at + 1] as u32)
 }

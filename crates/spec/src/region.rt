@@ -1,5 +1,5 @@
 // Lists in the index. A list takes 33 numbers of it: its place, then the places of its first 32 items.
-ghost use Rattle.std.specs.Prelude.{◌≡◌, ◌+◌, ◌<◌};
+ghost use Rattle.std.specs.Prelude.{◌≡◌, length, get_or, ◌+◌, ◌<◌, ◌≤◌};
 ghost use Rattle.codec.specs.Codec.{list_c};
 ghost use Rattle.codec.specs.Skip.{skip};
 ghost use Rattle.spec.specs.Kept.{Kept};
@@ -36,11 +36,12 @@ pub fn list_into<F: Form>(s: Section, index: &mut [u16], k: usize, at: usize) ->
 
 // Where item i stands of the list whose numbers begin at k, if the list has it.
 pub fn item_place(job: Indexed, k: usize, i: u32) -> Option<usize>
-    requires { k < 1152921504606846976 }
+    requires small { k < 1152921504606846976 }
+    requires there { get_or job.index.now k 0 + 4 ≤ length job.bytes.now }
     ensures { ItemAt job.entry.bytes.now job.entry.index.now k i result }
 {
     let list = codec::place(job.index, k);
-    if codec::num(job.bytes, list) <= i as usize {
+    if codec::num_in(job.bytes, list) <= i as usize {
         return None;
     }
     Some(codec::place(job.index, k + 1 + i as usize))

@@ -1,43 +1,29 @@
 // The segment map of the spec: definitions of segments, elements and components.
 ghost use Rattle.std.specs.Prelude.{ℕ, ◌+◌, ◌<◌, ◌≤◌, ◌≡◌, List, length, eqb, Option, Some};
 ghost use Rattle.codec.specs.Skip.{Is};
-ghost use Rattle.codec.specs.Forms.{bytes_c, num_c, opt_c};
+ghost use Rattle.codec.specs.Field.{Stands};
+ghost use Rattle.codec.specs.Forms.{bytes_c};
 ghost use Rattle.codec.specs.Maps.{num_map_c};
 ghost use Rattle.format.specs.Spec.{ElementDef, element_c, ComponentDef, component_c, segment_c};
 ghost use Rattle.format.specs.Sections.{job_of, plan_start};
 ghost use Rattle.format.specs.Ask.{found, same_bytes, segment_def, element_def, max_of, min_of};
 ghost use Rattle.spec.specs.Answers.{stretch_of};
 ghost use Rattle.spec.specs.Segments.{SegmentsIndexed};
-ghost use Rattle.spec.specs.Found.{PlaceOf, max_in, same_at};
+ghost use Rattle.spec.specs.Found.{PlaceOf, max_in, Sized, ElementAt};
 
 use crate::Indexed;
 use crate::ids::Stretch;
-use crate::read::{number_at, spec_of};
+use crate::read::{number_at, spec_of, stretch_at};
 use codec::{Form, Section};
 use format::{Component, Element, Kind, sizes_end};
 
-// Whether the n bytes at p are those at q. No slices: either may reach past the last byte, where a byte reads as 0.
-pub fn same_at(b: &[u8], p: usize, q: usize, n: usize) -> bool
-    requires { (p < 8589934592) × (q < 8589934592) × (n < 8589934592) }
-    ensures { result ≡ same_at b.now p q n }
-{
-    for i in 0..n {
-        let x = codec::byte_at(b, p + i);
-        let y = codec::byte_at(b, q + i);
-        if x != y {
-            return false;
-        }
-    }
-    true
-}
-
 // Whether a stretch holds the byte string that stands at p.
 pub fn key_is(b: &[u8], s: Stretch, p: usize) -> bool
-    requires { (s.start + s.len ≤ length b.now) × (length b.now ≤ 65536) × (p < 4294967296) }
-    ensures { (e : ℕ) (k : List ℕ) → Is bytes_c b.now e p k → result ≡ same_bytes (stretch_of b.now s) k }
+    requires { (s.start + s.len ≤ length b.now) × Stands bytes_c b.now p }
+    ensures { (e : ℕ) (k : List ℕ) → e ≤ length b.now → Is bytes_c b.now e p k → result ≡ same_bytes (stretch_of b.now s) k }
 {
-    let n = codec::num(b, p);
-    n == s.len && same_at(b, s.start, p + 4, n)
+    let key = stretch_at(b, p);
+    &b[s.start..s.start + s.len] == &b[key.start..key.start + key.len]
 }
 
 // Where the definition of a number stands in the map of elements or components at a place. The map is gone through one by one: its entries differ in
@@ -65,11 +51,11 @@ pub fn elements_of(job: Indexed, identifier: Stretch) -> Option<usize>
     ensures { PlaceOf segment_c job.entry.bytes.now (plan_start job.entry.bytes.now) result (segment_def (job_of job.entry.bytes.now) (stretch_of job.entry.bytes.now identifier)) }
 {
     let m = codec::place(job.index, 4096);
-    let n = codec::num(job.bytes, m);
+    let n = codec::num_in(job.bytes, m);
     for k in 0..n {
         let p = codec::place(job.index, 4097 + k);
         if key_is(job.bytes, identifier, p) {
-            return Some(p + 4 + codec::num(job.bytes, p));
+            return Some(p + 4 + codec::num_in(job.bytes, p));
         }
     }
     None
@@ -85,47 +71,38 @@ pub fn element_of(job: Indexed, identifier: Stretch, element: u32) -> Option<usi
     map_place::<Element>(s, at, element)
 }
 
-// A number that may be absent, at a place within the end.
-pub fn number_in(s: Section, at: usize) -> Option<u32>
-    ensures { (v : Option ℕ) → Is (opt_c num_c) s.entry.bytes.now s.entry.end at v → result ≡ v }
-{
-    if (s.end as usize) < at {
-        return None;
-    }
-    number_at(s.bytes, at)
-}
-
 pub fn element_min(s: Section, at: usize) -> Option<u32>
+    requires { Sized s.bytes.now s.end at }
     ensures { (d : ElementDef) → Is element_c s.entry.bytes.now s.entry.end at d → result ≡ d.min }
 {
     let min = Kind::ends_at(s, at);
-    number_in(s, min)
+    number_at(s.bytes, min)
 }
 
 // The most that the element or the component at a place takes: both begin with the same fields.
 pub fn max_at(s: Section, at: usize) -> Option<u32>
+    requires { Sized s.bytes.now s.end at }
     ensures element { (d : ElementDef) → Is element_c s.entry.bytes.now s.entry.end at d → result ≡ d.max }
     ensures component { (d : ComponentDef) → Is component_c s.entry.bytes.now s.entry.end at d → result ≡ d.max }
 {
     let min = Kind::ends_at(s, at);
     let max = s.opt_num_at(min);
-    number_in(s, max)
+    number_at(s.bytes, max)
 }
 
 // The most that a component of the element at a place takes.
 pub fn max_of_component(s: Section, at: usize, component: u32) -> Option<u32>
+    requires { ElementAt s.bytes.now s.end at }
     ensures { (d : ElementDef) → Is element_c s.entry.bytes.now s.entry.end at d → result ≡ max_in d (Some component) }
 {
     let components = sizes_end(s, at);
-    if (s.end as usize) < components {
-        return None;
-    }
     let place = map_place::<Component>(s, components, component)?;
     max_at(s, place)
 }
 
 // The most that the element at a place takes, or its component.
 pub fn max_in(s: Section, at: usize, component: Option<u32>) -> Option<u32>
+    requires { ElementAt s.bytes.now s.end at }
     ensures { (d : ElementDef) → Is element_c s.entry.bytes.now s.entry.end at d → result ≡ max_in d component }
 {
     match component {

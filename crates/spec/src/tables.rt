@@ -14,12 +14,13 @@ pub fn table_count(job: Indexed) -> u32
     ensures { result ≡ length (job_of job.entry.bytes.now).spec.tables }
 {
     let p = codec::place(job.index, 2);
-    codec::num(job.bytes, p) as u32
+    codec::num_in(job.bytes, p) as u32
 }
 
-// Where field f of a table stands.
-pub fn table_field(job: Indexed, t: TableId, f: u32) -> usize
-    ensures { (result ≡ row_place job.entry.bytes.now job.entry.index.now 2 232 6 t.0 f) × (result < 4294967296) }
+// Where field f of a table stands, if the table is there.
+pub fn table_field(job: Indexed, t: TableId, f: u32) -> Option<usize>
+    requires { SpecIndexed job.bytes.now job.index.now }
+    ensures { result ≡ row_place job.entry.bytes.now job.entry.index.now 2 232 6 t.0 f }
 {
     row_place(job, 2, 232, 6, t.0, f)
 }
@@ -28,15 +29,19 @@ pub fn table_loop_count(job: Indexed, t: TableId) -> u32
     requires { SpecIndexed job.bytes.now job.index.now }
     ensures { result ≡ length (table_of (job_of job.entry.bytes.now) t.0).loops }
 {
-    let p = table_field(job, t, 0);
-    codec::num(job.bytes, p) as u32
+    let Some(p) = table_field(job, t, 0) else {
+        return 0;
+    };
+    codec::num_in(job.bytes, p) as u32
 }
 
 pub fn table_loop(job: Indexed, t: TableId, k: u32) -> LoopId
     requires { SpecIndexed job.bytes.now job.index.now }
     ensures { result.0 ≡ get_or (table_of (job_of job.entry.bytes.now) t.0).loops k 0 }
 {
-    let p = table_field(job, t, 0);
+    let Some(p) = table_field(job, t, 0) else {
+        return LoopId(0);
+    };
     LoopId(item_at(job.bytes, p, k))
 }
 
@@ -45,7 +50,9 @@ pub fn repeats(job: Indexed, t: TableId) -> bool
     requires { SpecIndexed job.bytes.now job.index.now }
     ensures { result ≡ (table_of (job_of job.entry.bytes.now) t.0).segment }
 {
-    let p = table_field(job, t, 1);
+    let Some(p) = table_field(job, t, 1) else {
+        return false;
+    };
     flag_at(job.bytes, p)
 }
 
@@ -53,7 +60,9 @@ pub fn step(job: Indexed, t: TableId) -> u32
     requires { SpecIndexed job.bytes.now job.index.now }
     ensures { result ≡ step_of (job_of job.entry.bytes.now) t.0 }
 {
-    let p = table_field(job, t, 2);
+    let Some(p) = table_field(job, t, 2) else {
+        return 0;
+    };
     step_at(job.bytes, p)
 }
 
@@ -61,15 +70,17 @@ pub fn column_count(job: Indexed, t: TableId) -> u32
     requires { SpecIndexed job.bytes.now job.index.now }
     ensures { result ≡ (table_of (job_of job.entry.bytes.now) t.0).columns }
 {
-    let p = table_field(job, t, 3);
-    codec::num(job.bytes, p) as u32
+    let Some(p) = table_field(job, t, 3) else {
+        return 0;
+    };
+    codec::num_in(job.bytes, p) as u32
 }
 
 pub fn table_parent(job: Indexed, t: TableId) -> Option<u32>
     requires { SpecIndexed job.bytes.now job.index.now }
     ensures { result ≡ (table_of (job_of job.entry.bytes.now) t.0).parent }
 {
-    let p = table_field(job, t, 4);
+    let p = table_field(job, t, 4)?;
     number_at(job.bytes, p)
 }
 
@@ -77,8 +88,10 @@ pub fn ancestor_count(job: Indexed, t: TableId) -> u32
     requires { SpecIndexed job.bytes.now job.index.now }
     ensures { result ≡ length (table_of (job_of job.entry.bytes.now) t.0).ancestors }
 {
-    let p = table_field(job, t, 5);
-    codec::num(job.bytes, p) as u32
+    let Some(p) = table_field(job, t, 5) else {
+        return 0;
+    };
+    codec::num_in(job.bytes, p) as u32
 }
 
 // The number of ancestor k, which may be no table's.
@@ -86,6 +99,8 @@ pub fn ancestor(job: Indexed, t: TableId, k: u32) -> u32
     requires { SpecIndexed job.bytes.now job.index.now }
     ensures { result ≡ get_or (table_of (job_of job.entry.bytes.now) t.0).ancestors k 0 }
 {
-    let p = table_field(job, t, 5);
+    let Some(p) = table_field(job, t, 5) else {
+        return 0;
+    };
     item_at(job.bytes, p, k)
 }

@@ -1,27 +1,27 @@
 // The version of the spec.
-ghost use Rattle.std.specs.Prelude.{ℕ, ◌<◌, None};
+ghost use Rattle.std.specs.Prelude.{ℕ, ◌≤◌, length};
+ghost use Rattle.codec.specs.Skip.{Is};
+ghost use Rattle.codec.specs.Field.{Stands};
 ghost use Rattle.codec.specs.Forms.{opt_c};
 ghost use Rattle.format.specs.Spec.{version_c};
 ghost use Rattle.format.specs.Sections.{job_of};
 ghost use Rattle.spec.specs.VersionIs.{HoldsVersion, OptVersion};
-ghost use Rattle.spec.specs.Reads.{Reads};
 ghost use Rattle.spec.specs.Index.{SpecIndexed};
 
 use crate::Indexed;
 use crate::ids::VersionRule;
 use crate::read::{flag_at, stretch_at};
 
-// `then`, as in `read`, is no plainer: its closure would need a contract of two stretches and a number, where three readers' contracts do.
 pub fn version_at(b: &[u8], at: usize) -> Option<VersionRule>
-    requires { at < 4294967296 }
-    ensures { (e : ℕ) (v : OptVersion) → Reads (opt_c version_c) b.now e at None v → HoldsVersion b.now result v }
+    requires { Stands (opt_c version_c) b.now at }
+    ensures { (e : ℕ) (v : OptVersion) → e ≤ length b.now → Is (opt_c version_c) b.now e at v → HoldsVersion b.now result v }
 {
     if !flag_at(b, at) {
         return None;
     }
-    let n = codec::num(b, at + 1);
+    let n = codec::num_in(b, at + 1);
     let segment = stretch_at(b, at + 1);
-    let element = codec::num(b, at + 5 + n) as u32;
+    let element = codec::num_in(b, at + 5 + n) as u32;
     let first = stretch_at(b, at + 9 + n);
     Some(VersionRule {
         segment,

@@ -8,10 +8,10 @@ use Rattle.std.specs.Prelude.{Option, None, Some}
 use lib.ListN.{length, get_or, get_or-eq_default}
 use lib.Dec.{ltb}
 use borrow.Author.Tests.{ltb-true, ltb-false}
-use Rattle.codec.specs.Codec.{le}
+use Rattle.codec.specs.Codec.{Codec, le}
 use Rattle.codec.specs.Forms.{opt_c}
 use Rattle.codec.specs.Skip.{skip, Is}
-use Rattle.codec.specs.Field.{is_list, is_le}
+use Rattle.codec.specs.Field.{Stands, stands_at, is_list, is_le}
 use Rattle.format.specs.Data.{Column, column_c, TableData, table_data_c, no_table_data}
 use Rattle.format.specs.Sections.{job_of, trailer}
 use Rattle.format.specs.Refusal.{rows_of_all}
@@ -21,7 +21,7 @@ use Rattle.column.specs.Answers.{Reads, Within, cell_at}
 use Rattle.column.specs.declared.Cell.TheVariants as cell
 use Rattle.column.specs.Parts.{TableDataIs, is_table_data, absent_cell, absent_key, past_cell}
 use Rattle.tables.specs.Parts.{TableAt, rows_before}
-use Rattle.spec.specs.Region.{ItemAt}
+use Rattle.spec.specs.Region.{ItemAt, listed_is}
 use Rattle.tables.specs.Index.{TablesIndexed, columns_at}
 
 before_past : (ts : List TableData) (t : ℕ) → length ts ≤ t → rows_before ts (length ts) ≡ rows_before ts t
@@ -53,7 +53,7 @@ module _ (b idx : List ℕ) (x : TablesIndexed b idx) where
       let l = x.columns t h in
       let c = (is_list (opt_c column_c) b (trailer b) _ _ l.list).counted in
       let f = x.few_columns t in
-      rw q.1 (l.item i None (omega (arith, q.0, c)) (omega (arith, q.0, c, f)))
+      listed_is (opt_c column_c) b (trailer b) idx (columns_at t) _ l i p None (omega (arith, q.0, c, f)) q
 
   pub column_past : (t i row : ℕ) → t < length (job_of b).tables → ItemAt b idx (columns_at t) i None → Reads b cell.Null (Some (cell_of (data_of (job_of b) t) i row))
   unfolding cell_at Within
@@ -63,6 +63,10 @@ module _ (b idx : List ℕ) (x : TablesIndexed b idx) where
       record { cell = ap Some (sym (past_cell (data_of (job_of b) t) i row (omega (arith, m, c)))); within = search }
 
 -- ---- a table's data at a place
+-- what is read up to the trailer stands within the job
+pub stands_before : {A : Type 0} {C : Codec A} {b : List ℕ} {p : ℕ} {v : A} → Is C b (trailer b) p v → Stands C b p
+stands_before {C = C} {b} {p} {v} h = stands_at C b p p (trailer b) v refl (omega arith) h
+
 pub at_num : (b : List ℕ) (r : Option ℕ) (p : ℕ) (v : TableData) → r ≡ Some p → TableAt b r v → Is table_data_c b (trailer b) p v
 at_num b r p v e h = rw e at h
 
@@ -72,6 +76,9 @@ at_nothing b r v e h = rw e at h
 module _ (b : List ℕ) (p : ℕ) (v : TableData) (h : Is table_data_c b (trailer b) p v) where
   all : TableDataIs b (trailer b) p v
   all = is_table_data b (trailer b) p v h
+
+  pub rows_there : p + 4 ≤ length b
+  rows_there = omega (arith, (is_le 4 b (trailer b) _ _ all.rows).0)
 
   pub rows_is : (n : ℕ) → n ≡ le 4 b p → n ≡ v.rows
   rows_is n q = q ∙ sym (is_le 4 b (trailer b) _ _ all.rows).1

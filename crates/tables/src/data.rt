@@ -3,7 +3,7 @@ ghost use Rattle.std.specs.Prelude.{◌≡◌, ◌<◌, length, Some};
 ghost use Rattle.format.specs.Sections.{job_of};
 ghost use Rattle.format.specs.Ask.{data_of};
 ghost use Rattle.column.specs.Cell.{cell_of, segment_cell, key_of, reference_of};
-ghost use Rattle.column.specs.Answers.{Reads, place_of};
+ghost use Rattle.column.specs.Answers.{Reads};
 ghost use Rattle.tables.specs.Parts.{TableAt, rows_before};
 ghost use Rattle.tables.specs.Index.{TablesIndexed};
 
@@ -24,7 +24,7 @@ pub fn data_count(job: Indexed) -> u32
 // Where a table stands.
 pub fn table_at(job: Indexed, t: TableId) -> Option<usize>
     requires { TablesIndexed job.bytes.now job.index.now }
-    ensures { TableAt job.entry.bytes.now result (data_of (job_of job.entry.bytes.now) t.0) × (place_of result < 4294967296) }
+    ensures { TableAt job.entry.bytes.now result (data_of (job_of job.entry.bytes.now) t.0) }
 {
     let n = data_count(job);
     if n <= t.0 {
@@ -38,7 +38,7 @@ pub fn row_count(job: Indexed, t: TableId) -> u32
     ensures { result ≡ (data_of (job_of job.entry.bytes.now) t.0).rows }
 {
     match table_at(job, t) {
-        Some(p) => codec::num(job.bytes, p) as u32,
+        Some(p) => codec::num_in(job.bytes, p) as u32,
         None => 0,
     }
 }

@@ -77,7 +77,7 @@ pub fn fill(job: &[u8], index: &mut [u16])
     ensures { TablesFilled job.now index.old index.new }
 {
     let t = job.len() - 24;
-    let start = codec::num(job, t + 16);
+    let start = codec::num_in(job, t + 16);
     let s = Section {
         bytes: job,
         end: t as u32,

@@ -17,7 +17,8 @@ use Rattle.format.specs.Ask.{found, segment_def, element_def, min_of}
 use Rattle.format.specs.Spec.{element_c, segment_c}
 use Rattle.codec.specs.Skip.{Is}
 use Rattle.codec.specs.Maps.{is_num_map}
-use Rattle.spec.specs.Found.{PlaceOf, place_nowhere, place_at, stands_low}
+use Rattle.codec.specs.Field.{Stands, stands_at}
+use Rattle.spec.specs.Found.{PlaceOf, place_nowhere, place_at}
 use Rattle.spec.specs.Answers.{stretch_of, rule_of}
 use Rattle.segment.specs.Pen.{Penned, opened}
 use Rattle.segment.proofs.Runs.{run_stored}
@@ -27,7 +28,7 @@ use Rattle.trigger.specs.declared.frame.Frame.{Frame}
 use Rattle.lent.specs.Fit.{cap, wide, more, Stored, Noted}
 use Rattle.spec.specs.declared.ids.Element.{Element}
 use Rattle.spec.specs.declared.ids.Elements.{Elements}
-use Rattle.spec.specs.Cursor.{Entries, ElementSays}
+use Rattle.spec.specs.Cursor.{Entries, EntryAt, ElementSays, entry_left}
 use Rattle.segment.specs.declared.Separators.{Separators}
 use Rattle.segment.specs.declared.Pen.{Pen}
 use Rattle.segment.specs.Parts.{Part, highest, last_element, last_component, here, after, component_text}
@@ -182,13 +183,12 @@ module _ {b : List ℕ} {j : Job} {s : Separators} {trigger : List ℕ} {g : ℕ
   }
 
   module _ {d f : List ℕ} {r : Drawn} {c : Elements} (S : SoFar b j s trigger g xs pen at d₀ f₀ d f r c) where
+    pub still_left : 0 < c.left → EntryAt b c
+    still_left h = entry_left b c S.rest S.place h
+
     -- an element is left
     pub still_known : {x : Element} → 0 < c.left → ((y : ℕ × ElementDef) (ys : SegmentDef) → Entries b c (y ∷ ys) → ElementSays b x y) → Known b x
-    still_known {x} h says = go S.rest S.place
-      where
-        go : (ys : SegmentDef) → Entries b c ys → Known b x
-        go [] e = absurd (let m = e.counted in omega arith)
-        go (y ∷ ys) e = record { def = y; says = says y ys e }
+    still_known h says = let e = still_left h in record { def = e.entry; says = says e.entry e.rest e.entries }
 
     pub one_less : {c' : Elements} → 0 < c.left → ((y : ℕ × ElementDef) (ys : SegmentDef) → Entries b c (y ∷ ys) → Entries b c' ys) → c'.left < c.left
     one_less {c'} h moves = go S.rest S.place
@@ -254,8 +254,8 @@ pub nowhere_entries : (b : List ℕ) (e : ℕ) (r : Option ℕ) (v : Option Segm
 nowhere_entries b e r v h q = rw (place_nowhere segment_c b e r v h q) (record { counted = refl; item = λ i d k. absurd (omega arith) }, refl)
 
 module _ (b : List ℕ) (r : Option ℕ) (v : Option SegmentDef) (h : PlaceOf segment_c b (plan_start b) r v) (p : ℕ) (q : r ≡ Some p) where
-  pub place_low : p ≤ plan_start b
-  place_low = stands_low segment_c b (plan_start b) p v (place_at segment_c b (plan_start b) r v h p q)
+  pub place_stands : plan_start b ≤ length b → Stands segment_c b p
+  place_stands w = let s = place_at segment_c b (plan_start b) r v h p q in stands_at segment_c b p p (plan_start b) s.value refl w s.is
 
   pub place_entries : (c : Elements) → ((xs : SegmentDef) → Is segment_c b (plan_start b) p xs → Entries b c xs) → Entries b c (defined v) × (rises_from 0 (defined v) ≡ true)
   place_entries c f =

@@ -69,7 +69,7 @@ fn of_byte(field: Option<u8>, b: u8) -> Source
 
 // ---- the fields
 
-fn is_white(b: usize) -> bool
+fn is_white(b: u8) -> bool
     ensures { result ≡ is_white b }
 {
     b == 32 || (9 <= b && b <= 13)
@@ -82,7 +82,7 @@ fn trim_end(job: &[u8], s: Stretch) -> Stretch
 {
     let start = s.start;
     for n in (0..s.len).rev() {
-        if !is_white(codec::byte_at(job, start + n)) {
+        if !is_white(job[start + n]) {
             return Stretch { start, len: n + 1 };
         }
     }

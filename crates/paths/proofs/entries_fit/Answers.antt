@@ -1,7 +1,13 @@
-use mathlib.Core.Path.{sym, ◌∙◌}
+use mathlib.Core.Path.{refl, sym, ◌∙◌}
 use mathlib.Core.Bool.{true≢false}
+use Rattle.codec.specs.Field.{stands_at, stands_list}
+use Rattle.codec.specs.Forms.{num_c}
+use Rattle.codec.specs.Codec.{list_c}
 use Rattle.paths.proofs.Answers.{decides_no, decides_eq, capacity_count, lists_right, lists_pass}
 use Rattle.paths.proofs.entries_fit.Goals as goal
+
+pub list_count-capacity-requires : goal.list_count-capacity-requires
+list_count-capacity-requires c = let x = c.args.job.ready.plan in record { there = stands_list num_c _ _ (stands_at (list_c num_c) _ _ _ _ _ refl x.layout_end x.capacity) }
 
 pub returns-then-not-fit : goal.returns-then-not-fit
 returns-then-not-fit c = decides_no _ (λ E. true≢false (sym (lists_pass _ _ c.args.job.ready.plan _ c.loop_count-n.ensures E) ∙ sym c.lists_fit-fit.ensures ∙ c.if-not-fit.true))

@@ -13,6 +13,7 @@ use Rattle.walk.proofs.TourLaws.{steps_of}
 use Rattle.emit.specs.Did.{Fit}
 use Rattle.emit.proofs.DidLaws.{did_small, did_fit}
 use Rattle.instances.proofs.Cursors.{came_in, sound_in}
+use Rattle.plan.specs.Planned.{order_stands}
 use Rattle.run.proofs.Along.{far_small}
 use Rattle.run.proofs.Walking.{items_within, instance_within, instance_took, within, items_none, items_end, segment_within, segment_written, segment_next, loop_within, loop_written, loop_count, loop_next, visits_none, visits_low, visits_within, visits_end, instance_fits, fewer, sum_fits, visits_next, few_instances, few_children}
 use Rattle.run.proofs.+items_visits.Goals as goal
@@ -25,6 +26,9 @@ items-fit t c = record { document = omega arith; segments = omega arith; finding
 
 pub items-loop-k-init : goal.items-loop-k-init
 items-loop-k-init t c = record { in_order = omega arith; along = items_none _ _ _ _ c.requires.0.small }
+
+pub items-order_item-it-requires : goal.items-order_item-it-requires
+items-order_item-it-requires t c = order_stands c.order-order.ensures c.loop-k-test.true
 
 pub items-write_planned-written-requires : goal.items-write_planned-written-requires
 items-write_planned-written-requires t c =

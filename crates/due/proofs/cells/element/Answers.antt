@@ -1,8 +1,8 @@
-use Rattle.plan.specs.Elements.{element_place, element_step}
+use Rattle.plan.specs.Elements.{element_stands, element_step}
 use Rattle.due.proofs.cells.element.Goals as goal
 
 pub element_at-requires : goal.element_at-requires
-element_at-requires c = element_place _ _ c.args.job.ready.plan _ _ _ c.requires.0 c.requires.1
+element_at-requires c = element_stands _ _ c.args.job.ready.plan _ _ _ c.requires.0 c.requires.1
 
 pub returns : goal.returns
 returns c = element_step _ _ c.args.job.ready.plan _ _ _ c.requires.0 c.requires.1 _ c.element_at.ensures

@@ -1,6 +1,6 @@
 use Rattle.lent.proofs.Laws.{stored_length}
 use Rattle.repeat_segment.proofs.FillLaws.{fill_start, fill_next, fill_passed, fill_end}
-use Rattle.repeat_segment.proofs.Steps.{place_small, read_step}
+use Rattle.repeat_segment.proofs.Steps.{stands_here, read_step}
 use Rattle.lent.specs.Fit.{wide}
 use lib.ListN.{length}
 use mathlib.Core.Path.{sym}
@@ -13,7 +13,7 @@ pub loop-i-init : goal.loop-i-init
 loop-i-init c = let a = c.args in fill_start _ _ c.requires.0 a.k a.r.0 a.state _ c.requires.3 c.more-entries.ensures
 
 pub element_at-e-requires : goal.element_at-e-requires
-element_at-e-requires c = place_small _ _ c.requires.0 _ _ c.loop-i.invariant.along c.loop-i-test.true
+element_at-e-requires c = stands_here _ _ c.requires.0 _ _ c.loop-i.invariant.along c.loop-i-test.true
 
 pub note_element-requires : goal.note_element-requires
 note_element-requires c = let p = c.requires in (p.0, p.1, (read_step _ _ p.0 _ _ c.loop-i.invariant.along c.loop-i-test.true _ c.element_at-e.ensures).low, p.2)

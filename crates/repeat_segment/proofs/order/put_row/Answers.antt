@@ -1,12 +1,12 @@
 use Rattle.repeat_segment.proofs.OrderLaws.{fed_start, fed_next, fed_end, fed_long}
-use Rattle.repeat_segment.proofs.Steps.{place_small, read_step}
+use Rattle.repeat_segment.proofs.Steps.{stands_here, read_step}
 use Rattle.repeat_segment.proofs.order.put_row.Goals as goal
 
 pub loop-i-init : goal.loop-i-init
 loop-i-init c = fed_start _ _ c.requires.0 _ _
 
 pub element_at-e-requires : goal.element_at-e-requires
-element_at-e-requires c = place_small _ _ c.requires.0 _ _ c.loop-i.invariant.along c.loop-i-test.true
+element_at-e-requires c = stands_here _ _ c.requires.0 _ _ c.loop-i.invariant.along c.loop-i-test.true
 
 pub put_element-t-requires : goal.put_element-t-requires
 put_element-t-requires c = let p = c.requires in (p.0, (read_step _ _ p.0 _ _ c.loop-i.invariant.along c.loop-i-test.true _ c.element_at-e.ensures).low, p.1)

@@ -1,7 +1,7 @@
 use Prim.Native.Nat.{◌+◌}
 use mathlib.Core.Path.{refl, ap}
 use Rattle.row_segment.proofs.StreamLaws.{part_by}
-use Rattle.row_segment.proofs.OrderLaws.{ordering_start, ordering_part, ordering_none, ordering_end, place_low, stands_next, puts_some, puts_none}
+use Rattle.row_segment.proofs.OrderLaws.{ordering_start, ordering_part, ordering_none, ordering_end, stands_here, stands_next, puts_some, puts_none}
 use Rattle.row_segment.proofs.order.in_order.Goals as goal
 use Rattle.row_segment.proofs.order.in_order.Goals.{in-Some+else-not-behind, in_default}
 
@@ -9,7 +9,7 @@ pub loop-k-init : goal.loop-k-init
 loop-k-init c = ordering_start _ _ c.requires
 
 pub element_at-e-requires : goal.element_at-e-requires
-element_at-e-requires c = place_low c.args.job.ready.plan _ c.requires _ _ c.loop-k.invariant.stands c.loop-k-test.true
+element_at-e-requires c = stands_here c.args.job.ready.plan _ c.requires _ _ c.loop-k.invariant.stands c.loop-k-test.true
 
 pub loop-k-preserved : goal.loop-k-preserved
 loop-k-preserved c = let w = c.requires in

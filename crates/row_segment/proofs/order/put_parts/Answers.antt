@@ -2,7 +2,7 @@ use Prim.Native.Nat.{◌≤◌}
 use native.Mathlib.Omega.{arith}
 use lib.ListN.{length}
 use Rattle.lent.specs.Fit.{wide}
-use Rattle.row_segment.proofs.OrderLaws.{feeding_start, feeding_few, feeding_part, feeding_none, feeding_end, place_low, stands_next, puts_some, puts_none}
+use Rattle.row_segment.proofs.OrderLaws.{feeding_start, feeding_few, feeding_part, feeding_none, feeding_end, stands_here, stands_next, puts_some, puts_none}
 use Rattle.row_segment.proofs.order.put_parts.Goals as goal
 use Rattle.row_segment.proofs.order.put_parts.Goals.{in-Some, in_default}
 use Rattle.row_segment.proofs.order.put_parts.Goals.{Start}
@@ -11,7 +11,7 @@ pub loop-k-init : goal.loop-k-init
 loop-k-init c = feeding_start _ _ _ _ _ _ _ c.requires.0 c.requires.2
 
 pub element_at-e-requires : goal.element_at-e-requires
-element_at-e-requires c = place_low c.args.job.ready.plan _ c.requires.0 _ _ c.loop-k.invariant.stands c.loop-k-test.true
+element_at-e-requires c = stands_here c.args.job.ready.plan _ c.requires.0 _ _ c.loop-k.invariant.stands c.loop-k-test.true
 
 pub put_part-g-requires : goal.put_part-g-requires
 put_part-g-requires c = (c.requires.0, c.requires.1, feeding_few c.loop-k.invariant c.requires.0 (omega (arith, (goal.at.put_part-g-requires c).Start)))

@@ -3,6 +3,7 @@ use Rattle.std.proofs.lemmas.Bool.{eqb-false}
 use Rattle.std.specs.Prelude.{eqb, ltb, get_or}
 use Rattle.codec.specs.Skip.{Is}
 use Rattle.format.specs.Spec.{Kind, kind_c}
+use Rattle.spec.specs.Standing.{stands_kind}
 use Rattle.spec.specs.Cursor.{is_numeric, numeric_low, numeric_is, numeric_high}
 use Rattle.spec.proofs.elements.numeric_at.Goals as goal
 
@@ -14,5 +15,8 @@ numeric b at t h e v i false q = go (ltb t 2) refl
     go true r = numeric_low b at (omega (arith, ltb-true t 2 r)) e v i
     go false r = let n : t ≡ 2 → ⊥ = eqb-false t 2 q in numeric_high b at (omega (arith, ltb-false t 2 r)) e v i
 
+pub bounds-b-at : goal.bounds-b-at
+bounds-b-at c = stands_kind _ _ c.requires
+
 pub returns : goal.returns
-returns c = λ e v i. numeric _ _ _ c.byte_at.ensures.0 e v i _ refl
+returns c = λ e v i. numeric _ _ _ refl e v i _ refl

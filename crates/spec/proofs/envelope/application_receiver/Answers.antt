@@ -1,6 +1,8 @@
-use Rattle.codec.specs.Field.{is_at}
-use Rattle.spec.specs.Reads.{stands}
+use Rattle.codec.specs.Field.{is_at, stands_at}
 use Rattle.spec.proofs.envelope.application_receiver.Goals as goal
 
+pub text_at-requires : goal.text_at-requires
+text_at-requires c = stands_at _ _ _ _ _ _ c.place-p.ensures.0 c.requires.within c.requires.application_receiver
+
 pub returns : goal.returns
-returns c = c.text_at.ensures _ _ (stands c.requires.within (is_at _ _ _ _ _ _ c.place-p.ensures.0 c.requires.application_receiver))
+returns c = c.text_at.ensures _ _ c.requires.within (is_at _ _ _ _ _ _ c.place-p.ensures.0 c.requires.application_receiver)

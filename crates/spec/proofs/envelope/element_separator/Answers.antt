@@ -1,6 +1,11 @@
-use Rattle.codec.specs.Field.{is_at}
+use mathlib.Core.Path.{refl}
+use Rattle.codec.specs.Field.{is_at, stands_le, stands_at}
 use Rattle.spec.specs.Reads.{byte_reads}
+use native.Mathlib.Omega.{arith}
 use Rattle.spec.proofs.envelope.element_separator.Goals as goal
 
+pub bounds-job-p : goal.bounds-job-p
+bounds-job-p c = omega (arith, stands_le _ _ _ (stands_at _ _ _ _ _ _ c.place-p.ensures.0 c.requires.within c.requires.element))
+
 pub returns : goal.returns
-returns c = byte_reads _ _ _ c.byte_at.ensures.0 _ _ (is_at _ _ _ _ _ _ c.place-p.ensures.0 c.requires.element)
+returns c = byte_reads _ _ _ refl _ _ (is_at _ _ _ _ _ _ c.place-p.ensures.0 c.requires.element)

@@ -1,7 +1,14 @@
-use Rattle.spec.specs.Reads.{count_reads}
 use Rattle.format.specs.Spec.{Loop}
-use Rattle.spec.specs.Index.{loop_reads}
+use Rattle.spec.specs.Index.{loop_lacks, loop_is, loop_stands}
+use Rattle.codec.specs.Field.{stands_list}
+use Rattle.spec.specs.Reads.{count_reads}
 use Rattle.spec.proofs.loops.child_count.Goals as goal
 
+pub returns-in_default : goal.returns-in_default
+returns-in_default c = rw (loop_lacks _ _ c.requires _ _ _ c.loop_field.ensures c.in_default.is)
+
+pub num_in-requires : goal.num_in-requires
+num_in-requires c = stands_list _ _ _ (loop_stands _ _ c.requires _ _ _ _ (λ (v : Loop). v.children) c.requires.children c.loop_field.ensures _ c.in-Some.is)
+
 pub returns : goal.returns
-returns c = count_reads _ _ _ _ c.num.ensures.0 _ _ (loop_reads _ _ c.requires _ (λ (v : Loop). v.children) 6 _ _ c.requires.children c.loop_field-p.ensures.0)
+returns c = count_reads _ _ _ _ c.num_in.ensures.0 _ _ (loop_is _ _ c.requires _ _ _ _ (λ (v : Loop). v.children) c.requires.children c.loop_field.ensures _ c.in-Some.is)

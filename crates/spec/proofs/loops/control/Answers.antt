@@ -1,6 +1,12 @@
 use Rattle.format.specs.Spec.{Loop}
-use Rattle.spec.specs.Index.{loop_reads}
+use Rattle.spec.specs.Index.{loop_lacks, loop_is, loop_stands}
 use Rattle.spec.proofs.loops.control.Goals as goal
 
+pub returns-in_err-p : goal.returns-in_err-p
+returns-in_err-p c = rw c.from_residual.ensures (rw (loop_lacks _ _ c.requires _ _ _ c.loop_field.ensures c.in_err-p.was))
+
+pub control_at-requires : goal.control_at-requires
+control_at-requires c = loop_stands _ _ c.requires _ _ _ _ (λ (v : Loop). v.control) c.requires.control c.loop_field.ensures _ c.in_ok-p.was
+
 pub returns : goal.returns
-returns c = c.control_at.ensures _ _ (loop_reads _ _ c.requires _ (λ (v : Loop). v.control) 5 _ _ c.requires.control c.loop_field-p.ensures.0)
+returns c = c.control_at.ensures _ _ (loop_is _ _ c.requires _ _ _ _ (λ (v : Loop). v.control) c.requires.control c.loop_field.ensures _ c.in_ok-p.was)

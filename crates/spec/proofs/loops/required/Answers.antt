@@ -1,7 +1,14 @@
-use Rattle.spec.specs.Reads.{usage_reads}
 use Rattle.format.specs.Spec.{Loop}
-use Rattle.spec.specs.Index.{loop_reads}
+use Rattle.spec.specs.Index.{loop_lacks, loop_is, loop_stands}
+use Rattle.spec.specs.Standing.{stands_usage}
+use Rattle.spec.specs.Reads.{usage_reads}
 use Rattle.spec.proofs.loops.required.Goals as goal
 
+pub returns-in_default : goal.returns-in_default
+returns-in_default c = rw (loop_lacks _ _ c.requires _ _ _ c.loop_field.ensures c.in_default.is)
+
+pub flag_at-requires : goal.flag_at-requires
+flag_at-requires c = stands_usage _ _ (loop_stands _ _ c.requires _ _ _ _ (λ (v : Loop). v.usage) c.requires.usage c.loop_field.ensures _ c.in-Some.is)
+
 pub returns : goal.returns
-returns c = usage_reads _ _ _ c.flag_at.ensures _ _ (loop_reads _ _ c.requires _ (λ (v : Loop). v.usage) 3 _ _ c.requires.usage c.loop_field-p.ensures.0)
+returns c = usage_reads _ _ _ c.flag_at.ensures _ _ (loop_is _ _ c.requires _ _ _ _ (λ (v : Loop). v.usage) c.requires.usage c.loop_field.ensures _ c.in-Some.is)

@@ -1,15 +1,27 @@
-use borrow.Author.Rules.{rules}
-use mathlib.Core.Path.{◌≡◌}
-use Prim.Native.Nat.{◌+◌}
-use Rattle.codec.specs.Codec.{le}
-use Rattle.spec.specs.Answers.{control_of}
-use Rattle.spec.specs.declared.ids.ControlRule.{ControlRule}
-use Rattle.spec.specs.Reads.{ByteSays, control_none, control_is}
-use Rattle.spec.proofs.Held.{held}
+use Rattle.codec.specs.Field.{stands_opt}
+use Rattle.spec.specs.Standing.{stands_control}
+use Rattle.spec.specs.Reads.{control_none, control_is}
+use Rattle.spec.proofs.Held.{is_unset, is_set}
+use native.Mathlib.Omega.{arith}
 use Rattle.spec.proofs.read.control_at.Goals as goal
 
+pub flag_at-requires : goal.flag_at-requires
+flag_at-requires c = stands_opt _ _ _ c.requires
+
+pub returns-then-not-flag_at : goal.returns-then-not-flag_at
+returns-then-not-flag_at c = control_none _ _ (is_unset c.flag_at.ensures c.if-not-flag_at.true)
+
+pub num_in-requires : goal.num_in-requires
+num_in-requires c = omega (arith, stands_control _ _ (is_set c.flag_at.ensures c.if-not-flag_at.false) c.requires)
+
+pub num_in-requires-2 : goal.num_in-requires-2
+num_in-requires-2 c = omega (arith, stands_control _ _ (is_set c.flag_at.ensures c.if-not-flag_at.false) c.requires)
+
+pub num_in-requires-3 : goal.num_in-requires-3
+num_in-requires-3 c = omega (arith, stands_control _ _ (is_set c.flag_at.ensures c.if-not-flag_at.false) c.requires)
+
+pub flag_at-requires-2 : goal.flag_at-requires-2
+flag_at-requires-2 c = omega (arith, stands_control _ _ (is_set c.flag_at.ensures c.if-not-flag_at.false) c.requires)
+
 pub returns : goal.returns
-returns c e v h =
-    held c.flag_at.ensures (λ (r : ControlRule). (r.opener ≡ le 4 c.args.b.now (c.args.at + 1)) × (r.closer ≡ le 4 c.args.b.now (c.args.at + 5)) × (r.count ≡ le 4 c.args.b.now (c.args.at + 9)) × ByteSays c.args.b.now (c.args.at + 13) r.children)
-    (λ o. control_of o ≡ v) c.then.result c.then.ensures.variant c.then.ensures.some
-    (λ n q. search rules) (λ z. control_none _ _ z e v h) (λ r z q. control_is _ _ r z q.0 q.1 q.2 q.3 e v h)
+returns c = control_is _ _ _ (is_set c.flag_at.ensures c.if-not-flag_at.false) c.num_in.ensures.0 c.num_in-2.ensures.0 c.num_in-3.ensures.0 c.flag_at-2.ensures

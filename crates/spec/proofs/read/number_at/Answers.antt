@@ -1,12 +1,16 @@
-use borrow.Author.Rules.{rules}
-use mathlib.Core.Path.{◌≡◌}
-use Prim.Native.Nat.{◌+◌}
-use Rattle.codec.specs.Codec.{le}
-use Rattle.spec.specs.Reads.{number_none, number_is}
-use Rattle.spec.proofs.Held.{held}
+use Rattle.codec.specs.Answers.{opt_nothing, opt_number}
+use Rattle.codec.specs.Field.{stands_le, stands_opt, stands_some}
+use Rattle.spec.proofs.Held.{is_unset, is_set}
 use Rattle.spec.proofs.read.number_at.Goals as goal
 
+pub flag_at-requires : goal.flag_at-requires
+flag_at-requires c = stands_opt _ _ _ c.requires
+
+pub returns-then-not-flag_at : goal.returns-then-not-flag_at
+returns-then-not-flag_at c = opt_nothing _ _ (is_unset c.flag_at.ensures c.if-not-flag_at.true)
+
+pub num_in-requires : goal.num_in-requires
+num_in-requires c = stands_le _ _ _ (stands_some _ _ _ c.requires (is_set c.flag_at.ensures c.if-not-flag_at.false))
+
 pub returns : goal.returns
-returns c e v h =
-    held c.flag_at.ensures (λ n. n ≡ le 4 c.args.b.now (c.args.at + 1)) (λ o. o ≡ v) c.then.result c.then.ensures.variant c.then.ensures.some
-    (λ n q. search rules) (λ z. number_none _ _ z e v h) (λ n z q. number_is _ _ n z q e v h)
+returns c = opt_number _ _ _ (is_set c.flag_at.ensures c.if-not-flag_at.false) c.num_in.ensures.0

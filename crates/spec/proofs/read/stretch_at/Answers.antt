@@ -1,9 +1,10 @@
-use Rattle.spec.specs.Reads.{stretch_none, stretch_is}
 use mathlib.Core.Path.{refl}
+use Rattle.codec.specs.Field.{stands_list}
+use Rattle.spec.specs.Reads.{stretch_is}
 use Rattle.spec.proofs.read.stretch_at.Goals as goal
 
-pub returns-then-n-eq0 : goal.returns-then-n-eq0
-returns-then-n-eq0 c = stretch_none _ _ _ c.num-n.ensures.0 c.if-n-eq0.true _ refl refl
+pub num_in-requires : goal.num_in-requires
+num_in-requires c = stands_list _ _ _ c.requires
 
 pub returns : goal.returns
-returns c = stretch_is _ _ _ c.num-n.ensures.0 c.if-n-eq0.false _ refl refl
+returns c = stretch_is _ _ _ refl c.num_in.ensures.0

@@ -1,7 +1,14 @@
-use Rattle.spec.specs.Reads.{flag_reads}
 use Rattle.format.specs.Spec.{Table}
-use Rattle.spec.specs.Index.{table_reads}
+use Rattle.spec.specs.Index.{table_lacks, table_is, table_stands}
+use Rattle.spec.specs.Standing.{stands_flag}
+use Rattle.spec.specs.Reads.{flag_reads}
 use Rattle.spec.proofs.tables.repeats.Goals as goal
 
+pub returns-in_default : goal.returns-in_default
+returns-in_default c = rw (table_lacks _ _ c.requires _ _ _ c.table_field.ensures c.in_default.is)
+
+pub flag_at-requires : goal.flag_at-requires
+flag_at-requires c = stands_flag _ _ (table_stands _ _ c.requires _ _ _ _ (λ (v : Table). v.segment) c.requires.segment c.table_field.ensures _ c.in-Some.is)
+
 pub returns : goal.returns
-returns c = flag_reads _ _ _ c.flag_at.ensures _ _ (table_reads _ _ c.requires _ (λ (v : Table). v.segment) 1 _ _ c.requires.segment c.table_field-p.ensures.0)
+returns c = flag_reads _ _ _ c.flag_at.ensures _ _ (table_is _ _ c.requires _ _ _ _ (λ (v : Table). v.segment) c.requires.segment c.table_field.ensures _ c.in-Some.is)

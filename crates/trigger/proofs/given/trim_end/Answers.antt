@@ -8,8 +8,8 @@ use Rattle.spec.specs.Answers.{stretch_of}
 use Rattle.trigger.proofs.given.trim_end.Goals as goal
 use Rattle.trigger.proofs.given.trim_end.Goals.{After-is_white}
 
-byte : (c : After-is_white) → let a = c.args in c.byte_at.result ≡ get_or a.job.now (a.s.start + c.loop-n.n - 1) 0
-byte c = let z : c.args.s.start + (c.loop-n.n - 1) ≡ c.args.s.start + c.loop-n.n - 1 = omega arith in rw z at c.byte_at.ensures.0
+byte : (c : After-is_white) → let a = c.args in get_or a.job.now (a.s.start + (c.loop-n.n - 1)) 0 ≡ get_or a.job.now (a.s.start + c.loop-n.n - 1) 0
+byte c = let z : c.args.s.start + (c.loop-n.n - 1) ≡ c.args.s.start + c.loop-n.n - 1 = omega arith in rw z
 
 pub loop-n-init : goal.loop-n-init
 loop-n-init c = (c.requires, refl)

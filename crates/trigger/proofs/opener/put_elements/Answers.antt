@@ -1,4 +1,4 @@
-use Rattle.trigger.proofs.Openers.{none_yet, still_known, one_more, one_less, all_drawn, element_shape}
+use Rattle.trigger.proofs.Openers.{none_yet, still_left, still_known, one_more, one_less, all_drawn, element_shape}
 use native.Mathlib.Omega.{arith}
 use lib.ListN.{length}
 use Prim.Native.Nat.{◌≤◌}
@@ -8,6 +8,9 @@ use Rattle.trigger.proofs.opener.put_elements.Goals as goal
 
 pub loop-rest-init : goal.loop-rest-init
 loop-rest-init c = (refl, refl, λ o. none_yet o.entries o.rises o.mins c.more-start.ensures refl refl refl refl)
+
+pub element-x-requires : goal.element-x-requires
+element-x-requires c = let s = c.args.w.now.job.ready.segments in record { job = (s.trailed, s.short, s.within); left = still_left (c.loop-rest.invariant.2 c.requires) c.loop-rest-test.true }
 
 pub put_element-drawn-requires : goal.put_element-drawn-requires
 put_element-drawn-requires c = still_known (c.loop-rest.invariant.2 c.requires) c.loop-rest-test.true c.element-x.ensures

@@ -1,6 +1,6 @@
 use Rattle.codec.specs.Ways.{le_four}
 use native.Mathlib.Omega.{arith}
-use Rattle.codec.proofs.num_past.Goals as goal
+use Rattle.codec.proofs.num.Goals as goal
 
 pub returns : goal.returns
 returns c = (cc (le_four _ _), omega arith)
