@@ -112,6 +112,12 @@ module _ (b : List ℕ) (at e : ℕ) where
             let l : e ≤ at = omega arith in
             g l (h ∙ case_gone l)
 
+    pub case_before : (t : ℕ) → r ≡ Some t → at < e
+    case_before t i = by_end (λ l j. l) (λ l j. absurd (none-some _ (sym j ∙ i)))
+
+    pub case_behind : (t : ℕ) → r ≡ Some t → at + 1 ≡ skip (le_c 1) b at e
+    case_behind t i = let l : at < e = case_before t i in sym (skip_le 1 b at e (omega arith))
+
     pub case_some : (t : ℕ) → r ≡ Some t → t ≡ tag_at b at e
     unfolding tag_at
     case_some t i = by_end (λ l j. same_Some _ _ (sym i ∙ j)) (λ l j. absurd (none-some _ (sym j ∙ i)))

@@ -29,24 +29,26 @@ pub fn le_at(b: &[u8], w: u8, at: usize, end: u32) -> usize
     ensures { result ≡ skip (le_c w) b.now at end }
 {
     let e = end as usize;
-    if e < at {
+    let n = w as usize;
+    if e < at || e < at + n {
         return e + 1;
     }
-    if e - at < w as usize {
-        return e + 1;
-    }
-    at + w as usize
+    at + n
 }
 
-// The number in four bytes that are all there: the compiler makes one load of it.
+// The number in four bytes that are all there, read as an array, for which the slice has its length: read byte by byte, it takes several loads where it
+// is multiplied.
 pub fn num_in(b: &[u8], at: usize) -> usize
     requires { at + 4 ≤ length b.now }
     ensures { (result ≡ le 4 b.now at) × (result < 4294967296) }
 {
-    u32::from_le_bytes([b[at], b[at + 1], b[at + 2], b[at + 3]]) as usize
+    match b[at..at + 4].as_array() {
+        Some(bytes) => u32::from_le_bytes(*bytes) as usize,
+        None => 0,
+    }
 }
 
-// The number in the four bytes at a place, those past the last being 0. The sum is no plainer by `from_le_bytes`, as in `num_in`, since each of the
+// The number in the four bytes at a place, those past the last being 0. By `from_le_bytes`, as in `num_in`, the sum would be no plainer: each of the
 // four that `byte_at` gives is a usize, and would have to be made a byte again.
 pub fn num(b: &[u8], at: usize) -> usize
     requires { at < 1152921504606846976 }

@@ -40,10 +40,7 @@ impl<'a> Section<'a> {
         ensures { (result ≡ count_at self.entry.bytes.now at self.entry.end) × (result < 4294967296) }
     {
         let e = self.end as usize;
-        if e < at {
-            return 0;
-        }
-        if e - at < 4 {
+        if e < at || e < at + 4 {
             return 0;
         }
         crate::num_in(self.bytes, at)
@@ -53,16 +50,16 @@ impl<'a> Section<'a> {
     pub fn les_at(self, w: u8, at: usize) -> usize
         ensures { result ≡ ends (list_c (le_c w)) self.entry at }
     {
-        let n = self.count_at(at);
-        let p = self.le_at(4, at);
         let e = self.end as usize;
-        if e < p {
+        if e < at || e < at + 4 {
             return e + 1;
         }
-        if e - p < n * w as usize {
+        let p = at + 4;
+        let n = crate::num_in(self.bytes, at) * w as usize;
+        if e - p < n {
             return e + 1;
         }
-        p + n * w as usize
+        p + n
     }
 
     // The byte of a case at a place, if there is one. A case is a number, as it stands in the job: each structure has cases of its own, and an enum for

@@ -180,6 +180,7 @@ pub fn code_text(s: Stretch) -> Written
 }
 
 // A text of its own, written at component c of element p.
+#[inline(always)]
 pub fn put_text(doc: &mut [u8], s: Separators, pen: Pen, p: u32, c: u32, text: Text) -> Pen
     ensures { (x : List ℕ) → text ≡ held x → Penned (placed s pen p c x) pen.at result doc.old doc.new }
 {

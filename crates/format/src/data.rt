@@ -12,12 +12,11 @@ impl Form for Cells {
     ghost codec = { values_c };
 
     fn ends_at(s: Section, at: usize) -> usize {
-        let p = s.le_at(1, at);
         match s.case(at) {
-            Some(0) => s.bytes_at(s.les_at(4, p)),
-            Some(1) => s.le_at(1, s.les_at(8, p)),
-            Some(2) => s.le_at(1, s.les_at(16, p)),
-            Some(t) if t < 5 => s.les_at(4, p),
+            Some(0) => s.bytes_at(s.les_at(4, at + 1)),
+            Some(1) => s.le_at(1, s.les_at(8, at + 1)),
+            Some(2) => s.le_at(1, s.les_at(16, at + 1)),
+            Some(t) if t < 5 => s.les_at(4, at + 1),
             _ => s.past(),
         }
     }

@@ -12,9 +12,8 @@ impl Form for Item {
     ghost codec = { item_c };
 
     fn ends_at(s: Section, at: usize) -> usize {
-        let p = s.le_at(1, at);
         match s.case(at) {
-            Some(t) if t < 2 => s.le_at(4, p),
+            Some(t) if t < 2 => s.le_at(4, at + 1),
             _ => s.past(),
         }
     }

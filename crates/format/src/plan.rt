@@ -12,11 +12,10 @@ impl Form for Instances {
     ghost codec = { instances_c };
 
     fn ends_at(s: Section, at: usize) -> usize {
-        let p = s.le_at(1, at);
         match s.case(at) {
-            Some(t) if t < 2 => p,
-            Some(t) if t < 5 => s.le_at(4, p),
-            Some(t) if t < 6 => p,
+            Some(t) if t < 2 => at + 1,
+            Some(t) if t < 5 => s.le_at(4, at + 1),
+            Some(t) if t < 6 => at + 1,
             _ => s.past(),
         }
     }
@@ -30,10 +29,9 @@ impl Form for Source {
     ghost codec = { source_c };
 
     fn ends_at(s: Section, at: usize) -> usize {
-        let p = s.le_at(1, at);
         match s.case(at) {
-            Some(t) if t < 1 => p,
-            Some(t) if t < 3 => s.le_at(4, p),
+            Some(t) if t < 1 => at + 1,
+            Some(t) if t < 3 => s.le_at(4, at + 1),
             _ => s.past(),
         }
     }
@@ -47,10 +45,9 @@ impl Form for Filler {
     ghost codec = { value_c };
 
     fn ends_at(s: Section, at: usize) -> usize {
-        let p = s.le_at(1, at);
         match s.case(at) {
-            Some(t) if t < 2 => s.le_at(4, p),
-            Some(t) if t < 3 => s.bytes_at(p),
+            Some(t) if t < 2 => s.le_at(4, at + 1),
+            Some(t) if t < 3 => s.bytes_at(at + 1),
             _ => s.past(),
         }
     }

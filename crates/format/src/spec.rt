@@ -49,17 +49,17 @@ impl Form for Kind {
     ghost codec = { kind_c };
 
     fn ends_at(s: Section, at: usize) -> usize {
-        let p = s.le_at(1, at);
         match s.case(at) {
-            Some(t) if t < 2 => p,
-            Some(t) if t < 4 => s.le_at(1, p),
-            Some(t) if t < 6 => p,
+            Some(t) if t < 2 => at + 1,
+            Some(t) if t < 4 => s.le_at(1, at + 1),
+            Some(t) if t < 6 => at + 1,
             _ => s.past(),
         }
     }
 }
 
 // Where kind, min and max of an element or a component end.
+#[inline(always)]
 pub fn sizes_end(s: Section, at: usize) -> usize
     ensures { result ≡ element_components s.entry.bytes.now s.entry.end at }
 {

@@ -99,7 +99,9 @@ fn sized_over(s: Section, at: usize) -> Option<usize>
 {
     let value = s.le_at(4, at);
     let kind = Kind::ends_at(s, value);
-    let max = format::sizes_end(s, value);
+    // not `sizes_end`: where the kind ends is known
+    let min = s.opt_num_at(kind);
+    let max = s.opt_num_at(min);
     if large_at(s, at) {
         return None;
     }

@@ -1,4 +1,3 @@
 pub mod Items
 pub mod Tangle
 pub mod Forest
-pub mod ByNumber

@@ -267,7 +267,14 @@ pub fn tangled_at(b: &[u8], roots: usize, tables: usize) -> bool
         end: envelope,
     };
     let n = spec.count_at(0);
-    if tree::spec_outside(spec, 0, roots, tables) {
+    let mut places = [(0usize, 0usize); 32];
+    tree::fill_places(spec, 0, &mut places);
+    let loops = Loops {
+        section: spec,
+        at: 0,
+        places: &places,
+    };
+    if tree::spec_outside(loops, roots, tables) {
         return true;
     }
     if tree::orders_outside(orders, layout as usize, n) {
@@ -277,13 +284,6 @@ pub fn tangled_at(b: &[u8], roots: usize, tables: usize) -> bool
     if tree::repeats_at(spec, roots) {
         return true;
     }
-    let mut places = [(0usize, 0usize); 32];
-    tree::fill_places(spec, 0, &mut places);
-    let loops = Loops {
-        section: spec,
-        at: 0,
-        places: &places,
-    };
     if spec_tangled(loops, roots) {
         return true;
     }

@@ -89,7 +89,7 @@ pub fn all_depths(job: Job) -> [u8; 32]
 {
     let mut depths = [0u8; 32];
     let n = spec::loops::loop_count(job.at);
-    // above a loop past the spec's stands none
+    // no loop stands above one past the spec's: its depth stays 0
     for l in 0..n {
         depths[l as usize] = depth(job, LoopId(l)) as u8;
     }

@@ -30,6 +30,7 @@ pub struct Behind {
 }
 
 // A stretch of the job at component c of element e, without a finding.
+#[inline(always)]
 fn put_stretch(
     job: &[u8],
     doc: &mut [u8],

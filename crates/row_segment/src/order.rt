@@ -27,7 +27,8 @@ fn behind(e: u32, c: u32, at: u32, from: usize) -> bool
     if c == 0 {
         return false;
     }
-    (at, from) <= (e, c as usize)
+    // written out: the comparison of two pairs takes more instructions
+    at < e || (at == e && from <= c as usize)
 }
 
 // Whether the parts of a line come in the order of their places.

@@ -1,7 +1,7 @@
 -- What each way through the writing functions shows.
 use Prim.Native.Nat.{ℕ, ◌-◌, ◌≤◌, ◌<◌}
-use mathlib.Core.Path.{◌≡◌, refl}
-use mathlib.Core.List.{List, [], ◌∷◌, append-nil}
+use mathlib.Core.Path.{◌≡◌}
+use mathlib.Core.List.{List, [], ◌∷◌, ◌++◌, append-nil}
 use mathlib.Core.Bool.{true, false}
 use native.Mathlib.Omega.{arith}
 use lib.ListN.{length, replicate}
@@ -22,26 +22,23 @@ still pen p h = simp (le-ltb pen.elements p h)
 pub anew : (pen : Pen) (p : ℕ) → pen.elements < p → components_in pen p ≡ 0
 anew pen p h = simp (lt-ltb pen.elements p h)
 
-pub penned_reach : (s : Separators) (pen : Pen) (p c : ℕ) {stand back m n a b : ℕ} {d d₁ d₂ : List ℕ}
+pub stored_due : (s : Separators) (pen : Pen) (p c : ℕ) {stand back m n a b : ℕ} {d d₁ d₂ : List ℕ}
     → stand ≡ components_in pen p → back ≡ c - 1 → m ≡ back - stand → n ≡ p - pen.elements → length d ≤ cap
-    → Stored d pen.at (replicate n s.element) a d₁ → Stored d₁ a (replicate m s.component) b d₂
-    → Penned (reached s pen p c []) pen.at (record { at = b; elements = p; components = back }) d d₂
+    → Stored d pen.at (replicate n s.element) a d₁ → Stored d₁ a (replicate m s.component) b d₂ → Stored d pen.at (due s pen p c) b d₂
 unfolding due
-penned_reach s pen p c es eb em en h x y = record {
-  stored = rw append-nil (rw (en, em, eb, es) at (stored_append _ _ h x y));
-  elements = refl;
-  components = eb;
-}
+stored_due s pen p c es eb em en h x y = rw (en, em, eb, es) at (stored_append _ _ h x y)
 
-pub penned_text : (s : Separators) (pen : Pen) (p c : ℕ) (text : List ℕ) {at a : ℕ} {t : Pen} {d d₁ d₂ : List ℕ} → length d ≤ cap
-    → is_empty text ≡ false → Penned (reached s pen p c []) at t d d₁ → Stored d₁ t.at text a d₂
-    → Penned (placed s pen p c text) at (record { at = a; elements = t.elements; components = t.components }) d d₂
+-- r stands at component c of element p
+abbrev pub Reaches : ℕ → ℕ → ℕ → Pen → Type 0
+Reaches at p c r = (r.at ≡ at) × (r.elements ≡ p) × (r.components ≡ c - 1)
+
+pub penned_text : (s : Separators) (pen : Pen) (p c : ℕ) (text : List ℕ) {at : ℕ} {r : Pen} {d d' : List ℕ} → is_empty text ≡ false
+    → Stored d pen.at (due s pen p c ++ text) at d' → Reaches at p c r → Penned (placed s pen p c text) pen.at r d d'
 unfolding placed
-penned_text s pen p c text h e x y = rw e (record {
-  stored = stored_append (due s pen p c) text h (rw append-nil at x.stored) y;
-  elements = x.elements;
-  components = x.components;
-})
+penned_text s pen p c text e x h = rw e (record { stored = rw h.0 x; elements = h.1; components = h.2 })
+
+pub penned_due : (s : Separators) (pen : Pen) (p c : ℕ) {at : ℕ} {r : Pen} {d d' : List ℕ} → Stored d pen.at (due s pen p c) at d' → Reaches at p c r → Penned (reached s pen p c []) pen.at r d d'
+penned_due s pen p c x h = record { stored = rw (h.0, append-nil) x; elements = h.1; components = h.2 }
 
 pub penned_none : (pen : Pen) {r : Pen} {d : List ℕ} → (r.at ≡ more pen.at 0) × (r.elements ≡ pen.elements) × (r.components ≡ pen.components)
     → Penned (nothing pen) pen.at r d d

@@ -7,7 +7,7 @@ ghost use Rattle.std.specs.Prelude.{◌≡◌, List, [], ◌++◌, ℕ, ◌+◌,
 ghost use Rattle.lent.specs.Fit.{more, stretch, Stored};
 ghost use Rattle.segment.specs.Calls.{Gives, Group};
 ghost use Rattle.segment.specs.Parts.{pick, is_empty};
-ghost use Rattle.segment.specs.Pen.{value_text, Plain, holds, holds_any, one_of, components_in, reached, placed, finished, opened, ending, closing, Penned};
+ghost use Rattle.segment.specs.Pen.{value_text, Plain, holds, holds_any, one_of, components_in, due, placed, finished, opened, ending, closing, Penned};
 
 // The bytes that part a document, and whether a line feed follows each terminator.
 #[derive(Clone, Copy)]
@@ -188,19 +188,26 @@ fn components_in(pen: Pen, p: usize) -> usize
 }
 
 // The separators due in front of component c of element p.
-fn reach(doc: &mut [u8], s: Separators, pen: Pen, p: usize, c: usize) -> Pen
-    ensures { Penned (reached s pen p c []) pen.at result doc.old doc.new }
+#[inline(always)]
+fn put_due(doc: &mut [u8], s: Separators, pen: Pen, p: usize, c: usize) -> usize
+    ensures { Stored doc.old pen.at (due s pen p c) result doc.new }
 {
     let stand = components_in(pen, p);
     let behind = c.saturating_sub(1);
     let m = behind.saturating_sub(stand);
     let n = p.saturating_sub(pen.elements);
     let a = lent::put_run(doc, pen.at, s.element, n);
-    let b = lent::put_run(doc, a, s.component, m);
+    lent::put_run(doc, a, s.component, m)
+}
+
+// Where the pen stands behind a text at component c of element p, or behind the separators in front of it.
+fn reach(at: usize, p: usize, c: usize) -> Pen
+    ensures { (result.at ≡ at) × (result.elements ≡ p) × (result.components ≡ c - 1) }
+{
     Pen {
-        at: b,
+        at,
         elements: p,
-        components: behind,
+        components: c.saturating_sub(1),
     }
 }
 
@@ -215,8 +222,25 @@ fn stay(pen: Pen) -> Pen
     }
 }
 
+// The separators that are due and a text behind them. It answers the place alone: a pen would come back through memory, and be waited for.
+fn put_filled(
+    doc: &mut [u8],
+    job: &[u8],
+    s: Separators,
+    pen: Pen,
+    p: usize,
+    c: usize,
+    v: Value,
+) -> usize
+    ensures { Stored doc.old pen.at (due s pen p c ++ value_text job.now v) result doc.new }
+{
+    let a = put_due(doc, s, pen, p, c);
+    put_value(doc, a, job, v)
+}
+
 // A text at component c of element p: nothing if it is empty, else the separators that are due and the text. Pen, element and component go one by
 // one: `put_components` moves the pen and the component on and `finish` takes the last for it, so a struct of them would be made at each call.
+#[inline(always)]
 pub fn component(
     doc: &mut [u8],
     job: &[u8],
@@ -231,17 +255,13 @@ pub fn component(
     if is_empty(job, v) {
         return stay(pen);
     }
-    let t = reach(doc, s, pen, p, c);
-    let a = put_value(doc, t.at, job, v);
-    Pen {
-        at: a,
-        elements: t.elements,
-        components: t.components,
-    }
+    let a = put_filled(doc, job, s, pen, p, c, v);
+    reach(a, p, c)
 }
 
 // A stretch of a list at component c of element p. Not `component` of a held text: that would be put together to be taken apart, which takes more
 // instructions (docs/BENCHMARKS.md).
+#[inline(always)]
 pub fn part(
     doc: &mut [u8],
     source: &[u8],
@@ -258,13 +278,9 @@ pub fn part(
     if n == 0 {
         return stay(pen);
     }
-    let t = reach(doc, s, pen, p, c);
-    let a = lent::put_stretch(doc, t.at, source, start, len);
-    Pen {
-        at: a,
-        elements: t.elements,
-        components: t.components,
-    }
+    let a = put_due(doc, s, pen, p, c);
+    let b = lent::put_stretch(doc, a, source, start, len);
+    reach(b, p, c)
 }
 
 // A plain text at element p.
@@ -281,7 +297,8 @@ pub fn finish(doc: &mut [u8], s: Separators, pen: Pen, p: usize, c: usize) -> Pe
     if c < 2 {
         return stay(pen);
     }
-    reach(doc, s, pen, p, c)
+    let a = put_due(doc, s, pen, p, c);
+    reach(a, p, c)
 }
 
 // The components of element p up to the last filled, by who gives each its text.

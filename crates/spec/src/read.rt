@@ -1,4 +1,4 @@
-// Readers by place. All but `string_at` and `start` ask that what they read stands there, and so go without a test.
+// Readers by place. All but `string_at` and `start` ask that what they read stands there, and so don't test where the job ends.
 // How long the bytes are (24 to 65,536) is asked where a sum or a cast needs it: bytes with that in their type would be one more struct round those of
 // `Indexed`, made wherever bytes come in.
 ghost use Rattle.std.specs.Prelude.{ℕ, ◌+◌, ◌-◌, ◌*◌, ◌<◌, ◌≤◌, ◌≡◌, List, get_or, length, Option};

@@ -122,6 +122,7 @@ pub fn envelope_date(days: i32, max: Option<usize>) -> Result<Text, Refused>
 }
 
 // A cell's time: HHMM, or HHMMSS where it has seconds and the element holds them.
+#[inline(never)]
 pub fn time_text(seconds: i32, max: Option<usize>) -> Result<Text, Refused>
     ensures { Says result (time_text seconds max) }
 {
@@ -136,6 +137,7 @@ pub fn time_text(seconds: i32, max: Option<usize>) -> Result<Text, Refused>
 }
 
 // An envelope's time: HHMM, or HHMMSS where it has seconds; a short one loses them.
+#[inline(never)]
 pub fn envelope_time(seconds: i32, max: Option<usize>) -> Result<Text, Refused>
     ensures { Says result (envelope_time seconds max) }
 {

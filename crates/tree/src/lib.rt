@@ -13,7 +13,7 @@ ghost use Rattle.format.specs.Spec.{Loop, loop_c, spec_c, table_c};
 ghost use Rattle.format.specs.Layout.{item_c};
 ghost use Rattle.format.specs.Fields.{loop_children, spec_roots, spec_tables};
 ghost use Rattle.format.specs.Refusal.{outside, outside_loop, outside_order, outside_table};
-ghost use Rattle.says.specs.Says.{Says, Clears, SaysBefore, Tests};
+ghost use Rattle.says.specs.Says.{Says, SaysBefore, Tests};
 ghost use Rattle.tree.specs.Parts.{again, on_loop, Placed, Noted, outside_spec};
 
 use codec::forms::{Bytes, Items, Le, Opt};
@@ -55,23 +55,18 @@ fn children_at(s: Section, at: usize) -> usize
     Opt::<Control>::ends_at(s, last)
 }
 
-fn loop_outside(s: Section, at: usize, n: usize) -> Option<usize>
-    ensures { Clears loop_c s.entry.bytes.now s.entry.end at (outside_loop n) result }
+// A loop whose children are known to stand at a place.
+fn loop_outside(s: Section, at: usize, children: usize, n: usize) -> bool
+    requires { children ≡ loop_children s.bytes.now s.end at }
+    ensures { Says loop_c s.entry.bytes.now s.entry.end at (outside_loop n) result }
 {
-    let children = children_at(s, at);
-    if opt_outside_at(s, at, n) {
-        return None;
-    }
-    if outsides_at(s, children, n) {
-        return None;
-    }
-    Some(s.les_at(4, children))
+    opt_outside_at(s, at, n) | outsides_at(s, children, n)
 }
 
-fn loops_outside(s: Section, at: usize, n: usize) -> Option<usize>
-    ensures { Clears (list_c loop_c) s.entry.bytes.now s.entry.end at (any_of (outside_loop n)) result }
+fn loops_outside(loops: Loops, n: usize) -> bool
+    ensures { Says (list_c loop_c) loops.entry.section.bytes.now loops.entry.section.end loops.entry.at (any_of (outside_loop n)) result }
 {
-    says::lists::list_clear::<format::Loop, _>(s, at, |p| loop_outside(s, p, n))
+    loops.some(|_k, p, children| loop_outside(loops.section, p, children, n))
 }
 
 fn table_outside(s: Section, at: usize, n: usize) -> bool
@@ -115,12 +110,13 @@ pub fn orders_outside(s: Section, at: usize, n: usize) -> bool
     says::lists::any_at::<Items<Item>, _>(s, at, |p| order_outside(s, p, n))
 }
 
-pub fn spec_outside(s: Section, at: usize, roots: usize, tables: usize) -> bool
-    requires { (roots ≡ spec_roots s.bytes.now s.end at) × (tables ≡ spec_tables s.bytes.now s.end at) }
-    ensures { Says spec_c s.entry.bytes.now s.entry.end at outside_spec result }
+pub fn spec_outside(loops: Loops, roots: usize, tables: usize) -> bool
+    requires { (roots ≡ spec_roots loops.section.bytes.now loops.section.end loops.at) × (tables ≡ spec_tables loops.section.bytes.now loops.section.end loops.at) }
+    ensures { Says spec_c loops.entry.section.bytes.now loops.entry.section.end loops.entry.at outside_spec result }
 {
-    let n = s.count_at(at);
-    if loops_outside(s, at, n).is_none() {
+    let s = loops.section;
+    let n = s.count_at(loops.at);
+    if loops_outside(loops, n) {
         return true;
     }
     if outsides_at(s, roots, n) {

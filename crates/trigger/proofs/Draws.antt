@@ -138,7 +138,7 @@ pad_again false (Some least) most t = rw (enough least t) (go (is_at most least)
     go true = append-nil (replicate (least - length t) 48 ++ t)
     go false = refl
 
-pub control_put : (j : Job) (l number : ℕ) (k : Control) (y : ℕ × ElementDef) (n : ℕ) (text : List ℕ) → n ≡ y.0 → n ≡ k.opener → text ≡ control_in j l k number
+pub control_put : (j : Job) (l number : ℕ) (k : Control) (y : ℕ × ElementDef) (n : ℕ) (text : List ℕ) → n ≡ y.0 → n ≡ k.opener → text ≡ control_text number y.1.min
     → min_of j (loop_of j l).trigger y.0 ≡ y.1.min
     → put_by j (loop_of j l).trigger n (Some 9) 0 true text ≡ put_element j (loop_of j l).trigger (depth_of j l) k.opener (control_in j l k number) y
 unfolding put_element source_at control_in control_text

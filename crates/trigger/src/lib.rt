@@ -48,7 +48,6 @@ fn open_loop(
     let id = spec::loops::trigger(job.at, l);
     let name = signs::id_number(job.at.bytes, id);
     let depth = plan::layout::depth(job.at, l);
-    let control = control_in(job, l, rule.opener, number);
     let w = Frame {
         job,
         l,
@@ -59,7 +58,6 @@ fn open_loop(
         id,
         name,
         depth,
-        control,
     };
     let put = put_opener(doc, findings, &w, s.bytes, s.findings);
     state::finish_segment(

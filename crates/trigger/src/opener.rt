@@ -114,6 +114,7 @@ fn note_text(findings: &mut [u64], at: usize, w: &Frame, p: u32, src: Source) ->
 }
 
 // A text at element p.
+#[inline(always)]
 fn put_text(
     doc: &mut [u8],
     findings: &mut [u64],
@@ -206,10 +207,11 @@ fn put_element(doc: &mut [u8], findings: &mut [u64], w: &Frame, x: Element, at: 
         → Adds w.now.sep (element_put w.now y) at result doc.old doc.new findings.old findings.new }
 {
     if x.number == w.rule.opener {
+        let value = envelope::control_value(w.number, width_of(x.min));
         let number = Source {
             field: Some(9),
             given: Written {
-                value: w.control,
+                value,
                 reason: None,
             },
             checked: true,

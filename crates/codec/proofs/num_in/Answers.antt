@@ -1,8 +1,6 @@
-use Rattle.codec.specs.Ways.{le_four}
 use Rattle.codec.proofs.Numbers.{four_bytes}
 use native.Mathlib.Omega.{arith}
-use Rattle.std.proofs.Common.{◌∙◌, sym}
 use Rattle.codec.proofs.num_in.Goals as goal
 
-pub returns : goal.returns
-returns c = (c.from_le_bytes.ensures ∙ four_bytes _ _ _ _ ∙ sym (le_four _ _), omega arith)
+pub returns-in-Some : goal.returns-in-Some
+returns-in-Some c = (omega (arith, c.from_le_bytes.ensures, four_bytes c.args.b.now c.in-Some.bytes.now c.args.at c.in-Some.ensures.cases.same), c.from_le_bytes.type_inv)

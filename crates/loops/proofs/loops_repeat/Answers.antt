@@ -2,7 +2,7 @@ use Rattle.std.proofs.Common.{rules}
 use Rattle.format.specs.Words.{repeats}
 use Rattle.says.proofs.Walk.{says_as}
 use Rattle.loops.specs.Parts.{repeats_below}
-use Rattle.loops.proofs.ByNumber.{any_each, below_test}
+use Rattle.tree.proofs.ByNumber.{any_each, below_test}
 use Rattle.loops.proofs.loops_repeat.Goals as goal
 
 pub returns : goal.returns

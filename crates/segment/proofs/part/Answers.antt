@@ -2,6 +2,7 @@ use Prim.Native.Nat.{◌≤◌}
 use native.Mathlib.Omega.{arith}
 use lib.ListN.{length}
 use Rattle.lent.specs.Fit.{cap, stretch}
+use Rattle.lent.proofs.Laws.{stored_append}
 use Rattle.segment.proofs.Strokes.{placed_none, penned_none, penned_text}
 use Rattle.segment.proofs.Texts.{some_there, none_there}
 use Rattle.segment.proofs.part.Goals as goal
@@ -16,4 +17,5 @@ pub returns : goal.returns
 returns c =
     let a = c.args in
     let h : length a.doc.now ≤ cap = omega (arith, (goal.at.returns c).Start) in
-    penned_text a.s a.pen a.p a.c (stretch a.source.now a.start a.len) h (some_there (stretch a.source.now a.start a.len) (omega (arith, c.stretch_len-n.ensures))) c.reach-t.ensures c.put_stretch-a.ensures
+    let x = stored_append _ _ h c.put_due-a.ensures c.put_stretch-b.ensures in
+    penned_text a.s a.pen a.p a.c (stretch a.source.now a.start a.len) (some_there (stretch a.source.now a.start a.len) (omega (arith, c.stretch_len-n.ensures))) x c.reach.ensures

@@ -1,5 +1,5 @@
 use Rattle.trigger.proofs.Names.{trigger_long, did_opener}
-use mathlib.Core.Path.{refl, sym, ap, ◌∙◌}
+use mathlib.Core.Path.{sym, ap, ◌∙◌}
 use Rattle.spec.specs.Answers.{rule_of}
 use Rattle.nest.specs.Finding.{number_from}
 use Rattle.trigger.proofs.open_loop.Goals as goal
@@ -14,7 +14,6 @@ invariant_of-w c = record {
   id_is = c.trigger-id.ensures;
   name_is = c.id_number-name.ensures ∙ ap (number_from 0) c.trigger-id.ensures.bytes;
   depth_is = c.depth-depth.ensures;
-  control_is = c.control_in-control.ensures (rule_of c.args.rule) refl;
 }
 
 pub returns : goal.returns

@@ -1,20 +1,29 @@
-use Rattle.std.proofs.Common.{arith, ◌∙◌}
-use Rattle.codec.specs.Ways.{case_some, case_none}
+use Rattle.std.proofs.Common.{arith, refl, ◌∙◌}
+use Rattle.codec.specs.Ways.{case_some, case_none, case_before, case_behind}
 use Rattle.format.specs.Ends.{kind_low, kind_byte, kind_high, kind_bad}
 use Rattle.format.proofs.spec.KindForm.ends_at.Goals as goal
 use Rattle.format.proofs.spec.KindForm.ends_at.Goals.{in_default-via-in-Some-3+else-t-lt6, in_default-via-in_default}
 
+pub overflow_add-result : goal.overflow_add-result
+overflow_add-result c = omega (arith, case_before _ _ _ _ c.case.ensures _ c.in-Some.is)
+
+pub overflow_add-at : goal.overflow_add-at
+overflow_add-at c = omega (arith, case_before _ _ _ _ c.case.ensures _ c.in-Some.is)
+
+pub overflow_add-result-in-Some-3 : goal.overflow_add-result-in-Some-3
+overflow_add-result-in-Some-3 c = omega (arith, case_before _ _ _ _ c.case.ensures _ c.in-Some.is)
+
 pub returns-in-Some : goal.returns-in-Some
-returns-in-Some c = kind_low _ _ _ _ _ (case_some _ _ _ _ c.case.ensures _ c.in-Some.is) c.le_at-p.ensures c.if-t-lt2.true
+returns-in-Some c = kind_low _ _ _ _ _ (case_some _ _ _ _ c.case.ensures _ c.in-Some.is) (case_behind _ _ _ _ c.case.ensures _ c.in-Some.is) c.if-t-lt2.true
 
 pub returns-in-Some-2 : goal.returns-in-Some-2
-returns-in-Some-2 c = kind_byte _ _ _ _ _ (case_some _ _ _ _ c.case.ensures _ c.in-Some.is) c.le_at-p.ensures _ c.le_at.ensures (omega arith) c.if-t-lt4.true
+returns-in-Some-2 c = kind_byte _ _ _ _ _ (case_some _ _ _ _ c.case.ensures _ c.in-Some.is) (case_behind _ _ _ _ c.case.ensures _ c.in-Some.is) _ c.le_at.ensures (omega arith) c.if-t-lt4.true
 
 pub returns-in-Some-3 : goal.returns-in-Some-3
-returns-in-Some-3 c = kind_high _ _ _ _ _ (case_some _ _ _ _ c.case.ensures _ c.in-Some.is) c.le_at-p.ensures (omega arith) c.if-t-lt6.true
+returns-in-Some-3 c = kind_high _ _ _ _ _ (case_some _ _ _ _ c.case.ensures _ c.in-Some.is) (case_behind _ _ _ _ c.case.ensures _ c.in-Some.is) (omega arith) c.if-t-lt6.true
 
 pub returns-in_default : goal.returns-in_default
 returns-in_default c = elim c.in_default.branch [
-  | in_default-via-in-Some-3+else-t-lt6 w ↦ c.past.ensures ∙ kind_bad _ _ _ _ _ (case_some _ _ _ _ c.case.ensures _ w.in-Some.is) c.le_at-p.ensures w.if-t-lt6.false
-  | in_default-via-in_default w ↦ c.past.ensures ∙ kind_bad _ _ _ _ _ (case_none _ _ _ _ c.case.ensures w.in_default.is) c.le_at-p.ensures (omega arith)
+  | in_default-via-in-Some-3+else-t-lt6 w ↦ c.past.ensures ∙ kind_bad _ _ _ _ _ (case_some _ _ _ _ c.case.ensures _ w.in-Some.is) refl w.if-t-lt6.false
+  | in_default-via-in_default w ↦ c.past.ensures ∙ kind_bad _ _ _ _ _ (case_none _ _ _ _ c.case.ensures w.in_default.is) refl (omega arith)
 ]
