@@ -7,8 +7,11 @@ ghost use Rattle.std.specs.Prelude.{◌≡◌};
 ghost use Rattle.std.proofs.lemmas.List.Edits.{sets};
 ghost use Rattle.format.specs.Refusal.{refusal_of};
 
+/// `baktuven_nest`: where each row hangs.
 pub mod nesting;
+/// `baktuven_plan`: whether a plan is complete.
 pub mod planning;
+/// `baktuven_write`: the writer.
 pub mod writing;
 
 // A list at the front of another, as far as it fits.
