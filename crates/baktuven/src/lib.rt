@@ -76,8 +76,8 @@ fn noted(job: &[u8], findings: &mut [Finding], window: [u64; 640], found: usize)
     rest(job, findings, found.min(findings.len()));
 }
 
-/// Writes a job into four lists that the caller lends: its document, its segments, what is wrong in it, and the rows that the walk entered. Takes any bytes
-/// as the job and lists of any length (docs/RULES.md, "A job", "Answers" and "What a call tells").
+/// Writes a job into four lists that the caller lends: its document, its segments, what is wrong in it, and the rows that the walk entered. Takes any
+/// bytes as the job and lists of any length (docs/RULES.md, "A job", "Answers" and "What a call tells").
 ///
 /// - `document`: the document's bytes.
 /// - `segments`: three numbers a segment: its first trace entry; the table of its row plus one, or 0 where it has none; the row, or 0.

@@ -1,4 +1,5 @@
-// Places of a complete plan (docs/RULES.md, "Places"), as far as no index is needed: control rules, the spec's maps and codes, judged where the job stands.
+// Places of a complete plan (docs/RULES.md, "Places"), as far as no index is needed: control rules, the spec's maps and codes, judged where the job
+// stands.
 #![tactic(auto)]
 
 mod codes;

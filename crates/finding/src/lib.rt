@@ -13,8 +13,8 @@ mod line;
 #[repr(C)]
 #[derive(Clone, Copy)]
 pub struct Finding {
-    /// 0 a duplicate key (`DR`), 1 a missing parent (`MP`), 2 a mismatched reference (`MR`), 3 a row out of order (`OO`), 4 a separator inside a text (`DV`),
-    /// 5 a value that can't be written (`NW`).
+    /// 0 a duplicate key (`DR`), 1 a missing parent (`MP`), 2 a mismatched reference (`MR`), 3 a row out of order (`OO`), 4 a separator inside a text
+    /// (`DV`), 5 a value that can't be written (`NW`).
     pub kind: u64,
     /// By the kind:
     /// - 0: table, row, key, first row with that key;
@@ -24,8 +24,8 @@ pub struct Finding {
     /// - 4: seven values of the text's place (below), the separator's byte, its role: 0 element, 1 component, 2 segment, 3 repetition;
     /// - 5: seven values of the text's place, the reason, 1 to 4 (docs/RULES.md, "Reasons"), 0.
     ///
-    /// A text's place: 0, table, row and column of a cell, or 1, the envelope field's number, 0 and 0; the segment's identifier, its bytes as one number to
-    /// the base 256, the first the highest; the element; the component plus one, or 0 for none.
+    /// A text's place: 0, table, row and column of a cell, or 1, the envelope field's number, 0 and 0; the segment's identifier, its bytes as one
+    /// number to the base 256, the first the highest; the element; the component plus one, or 0 for none.
     pub values: [u64; 9],
 }
 

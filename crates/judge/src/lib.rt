@@ -51,9 +51,9 @@ fn judged(job: &[u8]) -> bool
     })
 }
 
-/// Whether the plan of a job is complete (docs/RULES.md, "A complete plan"): of what such a job comes to nothing is lost. Takes any bytes; nothing is changed.
-/// `Ok(true)` exactly where all five conditions hold, `Ok(false)` where one doesn't, and the refusal, 1 to 5, where `refusal::check` gives one: such a job
-/// has no plan to judge. Refusal 6 isn't tried: a job with a complete plan may still have too many loop instances.
+/// Whether the plan of a job is complete (docs/RULES.md, "A complete plan"): of what such a job comes to nothing is lost. Takes any bytes; nothing is
+/// changed. `Ok(true)` exactly where all five conditions hold, `Ok(false)` where one doesn't, and the refusal, 1 to 5, where `refusal::check` gives
+/// one: such a job has no plan to judge. Refusal 6 isn't tried: a job with a complete plan may still have too many loop instances.
 pub fn judge(job: &[u8]) -> Result<bool, Refusal>
     ensures { Judged job.now result }
 {

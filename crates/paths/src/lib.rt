@@ -72,8 +72,8 @@ pub fn paths_fit(job: Job) -> bool
     loops_fit(job)
 }
 
-// Repeat segments of a complete plan (docs/RULES.md, "Repeat loops"). The tables come first: where they pass, a loop plans one repeat segment of each table
-// that it anchors, so that no table's list of loops is gone through more than once a loop afterwards.
+// Repeat segments of a complete plan (docs/RULES.md, "Repeat loops"). The tables come first: where they pass, a loop plans one repeat segment of each
+// table that it anchors, so that no table's list of loops is gone through more than once a loop afterwards.
 #[tactic(auto, unfolding(crate::specs::Tests::condition4))]
 pub fn repeats_fit(job: Job) -> bool
     ensures { result ≡ condition4 (outline_by job.entry) }

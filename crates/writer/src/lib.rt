@@ -110,8 +110,8 @@ fn first_state(control: u64, findings: usize) -> State
     }
 }
 
-// The whole result, as far as it fits: nest's findings, then the walk. Job, index, nest's array and the lists come here one by one: of a slice of its own a
-// proof knows that its bytes are bytes, of one behind a borrow in a struct it doesn't.
+// The whole result, as far as it fits: nest's findings, then the walk. Job, index, nest's array and the lists come here one by one: of a slice of its
+// own a proof knows that its bytes are bytes, of one behind a borrow in a struct it doesn't.
 fn written<'x>(
     job: &'x [u8],
     index: &'x [u16],
