@@ -80,7 +80,7 @@ fn noted(job: &[u8], findings: &mut [Finding], window: [u64; 640], found: usize)
 /// bytes as the job and lists of any length (docs/RULES.md, "A job", "Answers" and "What a call tells").
 ///
 /// - `document`: the document's bytes.
-/// - `segments`: three numbers a segment: its first trace entry; the table of its row plus one, or 0 where it has none; the row, or 0.
+/// - `segments`: three numbers a segment: its first trace entry; the table of its row plus one; the row. Both are 0 where it comes from the envelope.
 /// - `findings`: a record a finding, first those on keys and references, then those of the walk.
 /// - `stops`: three numbers a stop, a row that the walk entered: loop, table, row.
 ///

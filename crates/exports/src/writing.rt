@@ -44,7 +44,7 @@ fn number(a: Answer) -> u32
 /// the refusal, 1 to 7.
 ///
 /// - `document`: bytes.
-/// - `segments`: three numbers a segment: its first trace entry; the table of its row plus one, or 0 where it has none; the row, or 0.
+/// - `segments`: three numbers a segment: its first trace entry; the table of its row plus one; the row. Both are 0 where it comes from the envelope.
 /// - `findings`: ten numbers a finding, which are a `Finding`.
 /// - `stops`: three numbers a stop: loop, table, row.
 /// - `counts`: four numbers: how many bytes, segments, findings and stops there are. A list of fewer than four gets the first of them.

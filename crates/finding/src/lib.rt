@@ -18,8 +18,8 @@ pub struct Finding {
     pub kind: u64,
     /// By the kind:
     /// - 0: table, row, key, first row with that key;
-    /// - 1: table, row, parent's table, 1 and the reference or 0 and 0 where there is none;
-    /// - 2: table, row, ancestor's table, the row's reference to it, parent's table, parent's row, the parent's reference to the ancestor;
+    /// - 1: table, row, parent, 1 and the reference or 0 and 0 where there is none;
+    /// - 2: table, row, ancestor, the row's reference to it, parent, parent row (the row that it hangs on), that row's reference to the ancestor;
     /// - 3: table, row, the table above, the reference to it or 0, the highest row entered before;
     /// - 4: seven values of the text's place (below), the separator's byte, its role: 0 element, 1 component, 2 segment, 3 repetition;
     /// - 5: seven values of the text's place, the reason, 1 to 4 (docs/RULES.md, "Reasons"), 0.

@@ -27,7 +27,7 @@ fn loop_plain(job: Job, l: LoopId) -> bool
     plain_named(job, kind(job, l))
 }
 
-// Row loops: no loop names a table with repeat segment.
+// Row loops: no loop names a repeat table, or one that the spec lacks.
 pub fn loops_plain(job: Job) -> bool
     ensures { result ≡ each_loop (outline_by job.entry) (names_plain (outline_by job.entry)) }
 {
