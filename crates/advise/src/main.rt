@@ -1,4 +1,4 @@
-// Reads a job on standard input and prints document 01's listing, or `refused` and a number.
+// Reads a job on standard input and prints its listing, or `refused` and a number (docs/RULES.md, "The listing").
 #![tactic(auto)]
 
 use input::read_up_to;

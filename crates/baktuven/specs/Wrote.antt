@@ -1,4 +1,5 @@
--- What `write` answers and what the four lent lists then hold, for every byte string and every length of the lists.
+-- What `write` answers and what the four lent lists then hold, for every byte string and every length of the lists (docs/RULES.md, "Answers" and "What a
+-- call tells").
 use Rattle.std.specs.Prelude.{ℕ, ◌≡◌, List, ◌++◌, map, length, take, drop}
 use Rattle.finding.specs.declared.Finding.{Finding}
 use Rattle.finding.specs.Findings.{finding_from}
@@ -13,7 +14,7 @@ use Rattle.writer.specs.Refused.{refusal}
 use Rattle.writer.specs.Lists.{in_front, holding, unless_refused}
 use Rattle.writer.specs.Wrote.{threes, number_for, values_for}
 
--- the record of numbers that each finding of document 01 is
+-- a finding as its record of ten numbers
 abbrev pub finding_of : N.Finding → Finding
 finding_of x = finding_from (record_of x)
 
@@ -28,5 +29,5 @@ pub record Wrote (b d d' g g' : List ℕ) (f f' : List Finding) (p p' : List ℕ
   pub segments : g' ≡ unless_refused (refusal b) g (holding (threes g) traced_word (result_of (job_of b)).segments g)
   pub findings : f' ≡ unless_refused (refusal b) f (in_places (map finding_of (result_of (job_of b)).findings) f)
   pub stops : p' ≡ unless_refused (refusal b) p (holding (threes p) stop_word (result_of (job_of b)).stops p)
-  -- demand 3: of what a job with a complete plan comes to nothing is lost
+  -- of what a job with a complete plan comes to nothing is lost (docs/RULES.md, "Nothing is lost")
   pub nothing_lost : refusal b ≡ 0 → NothingLost (job_of b)

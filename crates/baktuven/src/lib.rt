@@ -76,7 +76,20 @@ fn noted(job: &[u8], findings: &mut [Finding], window: [u64; 640], found: usize)
     rest(job, findings, found.min(findings.len()));
 }
 
-// What a call gives back, in four lists of any length.
+/// Writes a job into four lists that the caller lends: its document, its segments, what is wrong in it, and the rows that the walk entered. Takes any
+/// bytes as the job and lists of any length (docs/RULES.md, "A job", "Answers" and "What a call tells").
+///
+/// - `document`: the document's bytes.
+/// - `segments`: three numbers a segment: its first trace entry; the table of its row plus one; the row. Both are 0 where it comes from the envelope.
+/// - `findings`: a record a finding, first those on keys and references, then those of the walk.
+/// - `stops`: three numbers a stop, a row that the walk entered: loop, table, row.
+///
+/// The answer is `Ok` with how many items each list has where the job is finished: the lists hold them at the front, and are untouched behind them. On
+/// `Refused::Job` (1 to 5) and `Refused::Instances` (6) all lists are as they were. On `Refused::Room` (7) a list is shorter than its count: each holds as
+/// many first items as fit, whole ones only, and is untouched behind them, and the answer has the counts that are needed.
+///
+/// There is no heap: the call takes up to some 240 KB of stack (docs/BENCHMARKS.md, "Stack"), and walks the job once more for each 64 findings behind the
+/// first 64.
 pub fn write(
     job: &[u8],
     document: &mut [u8],
@@ -91,13 +104,16 @@ pub fn write(
     front.answer
 }
 
-// The answer, and the list of findings by value, for a caller that has no list to lend.
+/// What `listed` gives: the answer, and the findings by value.
 #[derive(Clone, Copy)]
 pub struct Listing {
+    /// As `write` answers, where the list of findings has room for 512.
     pub answer: Answer,
+    /// The findings at the front, as many as the answer counts, up to 512; behind them, and for a job that is refused by 1 to 6, records of zeros.
     pub findings: [Finding; 512],
 }
 
+/// Writes a job as `write` does, with a list of 512 findings of its own, for a caller that has none to lend. More than 512 are refusal 7.
 pub fn listed(job: &[u8], document: &mut [u8], segments: &mut [u64], stops: &mut [u64]) -> Listing
     ensures { Wrote job.now document.old document.new segments.old segments.new no_findings result.findings stops.old stops.new result.answer }
 {

@@ -1,4 +1,5 @@
--- How many instances are entered below an instance (write/emit.rs, `run`), as the count of refusal 6 takes them: loop by loop of its order.
+-- How many instances are entered below an instance (write/emit.rs, `run`), as the count of refusal 6 takes them (docs/RULES.md, "Answer 6"):
+-- loop by loop of its order.
 use Rattle.std.specs.Prelude.{ℕ, suc}
 use Rattle.nest.specs.Lists.{sum}
 use Rattle.nest.specs.Outline.{Outline, item_loops, order_of}

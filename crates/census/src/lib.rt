@@ -64,7 +64,7 @@ fn entered(nest: Nest, l: LoopId, c: Context, height: u32, n: u32) -> u32
     let mut m = n;
     let mut leaf = false;
     let mut cur = instances::instances(nest, l, c, height);
-    // No `for`: the count ends at the limit, wherever the instances stand.
+    // the count ends at the limit, wherever the instances stand
     while m < TOO_MANY {
         let Some(next) = instances::next_instance(nest, cur) else {
             return m;

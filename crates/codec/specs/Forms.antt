@@ -1,4 +1,4 @@
--- The plain forms of a job: numbers, byte strings, options, yes or no.
+-- The plain forms of a job: numbers, byte strings, options, yes or no (docs/RULES.md, "Structures").
 use Rattle.std.specs.Prelude.{ℕ, ◌≡◌, refl, List, ◌⊎◌, Bool, true, false, Option, None, Some}
 use Rattle.std.proofs.Common.{inl, inr}
 use Rattle.codec.specs.Codec.{Codec, le_c, unit_c, map_c, enum_c, ◌⊕◌, end_c, Units, units_c, list_c}

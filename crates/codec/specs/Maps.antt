@@ -1,4 +1,4 @@
--- Maps: lists of entries whose keys rise strictly, numbers by value and byte strings lexicographically.
+-- Maps: lists of entries whose keys rise strictly, numbers by value and byte strings lexicographically (docs/RULES.md, "Structures").
 use Prim.Native.Nat.{ℕ, zero, suc, ◌+◌, ◌-◌, ◌≤◌, ◌<◌}
 use Rattle.std.specs.Prelude.{◌≡◌, List, [], ◌∷◌, Bool, ltb, eqb, Option, None, Some}
 use Rattle.std.proofs.Math.Path.{refl, sym}

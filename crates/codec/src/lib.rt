@@ -1,5 +1,5 @@
-// Reading by place: most readers answer the place behind what they read, or one past the end where it is bad.
-// No Option for such a place: the definitions go by the same number (`skip`), and it is past every end, so that readings behind it need no case for it.
+// Reading by place: most readers answer the place behind what they read, or one past the end where it is bad. That place is past every end, so a
+// reading behind it is bad too, without a test.
 #![tactic(auto)]
 
 pub mod forms;
@@ -48,8 +48,7 @@ pub fn num_in(b: &[u8], at: usize) -> usize
     }
 }
 
-// The number in the four bytes at a place, those past the last being 0. By `from_le_bytes`, as in `num_in`, the sum would be no plainer: each of the
-// four that `byte_at` gives is a usize, and would have to be made a byte again.
+// The number in the four bytes at a place, those past the last being 0.
 pub fn num(b: &[u8], at: usize) -> usize
     requires { at < 1152921504606846976 }
     ensures { (result ≡ le 4 b.now at) × (result < 4294967296) }
@@ -74,7 +73,7 @@ pub fn long_in(b: &[u8], at: usize) -> u64
     low + 4294967296 * high
 }
 
-// Whether the byte string at p is before the one at q. The bound on the places is for the sums.
+// Whether the byte string at p is before the one at q. The places have a bound so that no sum overflows.
 pub fn less_at(b: &[u8], p: usize, q: usize) -> bool
     requires { (p < 8589934592) × (q < 8589934592) }
     ensures { result ≡ less_at b.now p q }
@@ -129,7 +128,7 @@ pub fn place_in(index: &[u16], k: usize) -> usize
     index[k] as usize
 }
 
-// The same where the index may be too short for it: 0 past its last, as in the definitions, so that none of them needs a case for it.
+// The same where the index may be too short for it: 0 past its last.
 pub fn place(index: &[u16], k: usize) -> usize
     ensures { (result ≡ get_or index.now k 0) × (result < 4294967296) }
 {

@@ -1,12 +1,11 @@
-// A stretch of a job's bytes, and its readers: most answer the place behind what they read, or one past the end.
-// No Option for such a place: the definitions go by the same number (`skip`), and it is past every end, so that readings behind it need no case for it.
+// A stretch of a job's bytes, and its readers: most answer the place behind what they read, or one past the end where it is bad. That place is past
+// every end, so a reading behind it is bad too, without a test.
 ghost use Rattle.std.specs.Prelude.{◌≤◌, length};
 
 use crate::Form;
 use crate::forms::{Bytes, Le, Opt};
 
-// The bytes up to `end`, which is within them. Made by its literal: a `Section::of` is no plainer, since of what it hands out a proof knows two
-// equations, and has to rewrite by both. `spec::read::section`, which finds the end too, is such a maker all the same.
+// The bytes up to `end`, which is within them.
 #[derive(Clone, Copy)]
 pub struct Section<'a> {
     pub bytes: &'a [u8],
@@ -35,7 +34,7 @@ impl<'a> Section<'a> {
         crate::le_at(self.bytes, w, at, self.end)
     }
 
-    // The count in front of a list, 0 where there is none, as in its definition: a walk over none of a list that isn't there needs no case for it.
+    // The count in front of a list, 0 where there is none: a list that isn't there has no items to go through.
     pub fn count_at(self, at: usize) -> usize
         ensures { (result ≡ count_at self.entry.bytes.now at self.entry.end) × (result < 4294967296) }
     {
@@ -62,8 +61,7 @@ impl<'a> Section<'a> {
         p + n
     }
 
-    // The byte of a case at a place, if there is one. A case is a number, as it stands in the job: each structure has cases of its own, and an enum for
-    // them would be made of the number and matched on in the same place.
+    // The byte of a case at a place, if there is one: an enum's case is a number in the job, counted from 0.
     pub fn case(self, at: usize) -> Option<u8>
         ensures { result ≡ case_of self.entry.bytes.now at self.entry.end }
     {

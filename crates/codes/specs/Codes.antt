@@ -1,4 +1,4 @@
--- Codes, as tests (document 01, "A complete plan", 5): in plan and spec they hold no element, component or segment separator, nor does the version's first value.
+-- Codes, as tests (docs/RULES.md, "Places"): in plan and spec they hold no element, component or segment separator, nor does the version's first value.
 use Rattle.std.specs.Prelude.{ℕ, List, [], ◌∷◌, ◌≡◌, Bool, true, false, eqb}
 use Rattle.codec.specs.Codec.{pick}
 use Rattle.codec.specs.Limits.{any, any_of}

@@ -1,4 +1,4 @@
--- Condition 5 of a complete plan (document 01): the fields of `CompletePlan` that speak of the spec's maps and of control rules.
+-- Places of a complete plan (docs/RULES.md, "Places"): the fields of `CompletePlan` that speak of the spec's maps and of control rules.
 use Rattle.std.specs.Prelude.{ℕ, List}
 use Rattle.format.specs.Spec.{Loop, SegmentDef}
 use Rattle.format.specs.Job.{Job}

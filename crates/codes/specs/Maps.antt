@@ -1,4 +1,4 @@
--- The spec's maps, as tests (document 01, "A complete plan", 5): places start at 1.
+-- The spec's maps, as tests (docs/RULES.md, "Places"): places start at 1.
 use Rattle.std.specs.Prelude.{ℕ, List, [], ◌∷◌, Bool}
 use Rattle.codec.specs.Limits.{any, any_of}
 use Rattle.format.specs.Spec.{ComponentDef, ElementDef, SegmentDef}

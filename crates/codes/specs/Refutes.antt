@@ -1,4 +1,4 @@
--- What the answer of a test says.
+-- What the answer of a test for a fault says: yes exactly where a statement does not hold.
 use Rattle.std.specs.Prelude.{◌≡◌, Bool, true, false}
 
 -- yes exactly where P does not hold: the tests look for what is wrong

@@ -1,4 +1,4 @@
--- Control rules, as tests (document 01, "A complete plan", 5): places start at 1, closer and count elements differ.
+-- Control rules, as tests (docs/RULES.md, "Places"): places start at 1, closer and count elements differ.
 use Rattle.std.specs.Prelude.{ℕ, [], ◌∷◌, Bool, ltb, eqb}
 use Rattle.codec.specs.Limits.{any}
 use Rattle.format.specs.Words.{if_some}

@@ -13,7 +13,6 @@ use codec::{Form, Section};
 use format::{Component, Element, ElementPlan, Instances, LoopPlan, SegmentPlan, Source, Version};
 
 // The separators of elements, components and segments.
-// A section and marks go through all tests below, and the place changes at each: a struct of the two would save a parameter, and be no plainer.
 #[derive(Clone, Copy)]
 pub struct Marks {
     pub element: usize,

@@ -1,4 +1,5 @@
-// Condition 5 of a complete plan (document 01), its part that no index is needed for: control rules, the spec's maps and codes, judged where the job stands.
+// Places of a complete plan (docs/RULES.md, "Places"), as far as no index is needed: control rules, the spec's maps and codes, judged where the job
+// stands.
 #![tactic(auto)]
 
 mod codes;

@@ -37,7 +37,7 @@ fn opt_control_wrong(s: Section, at: usize) -> bool
     says::lists::opt_at::<Control, _>(s, at, |p| control_wrong(s, p))
 }
 
-// The fields one after the other, written out: each test keeps other places, so that a walk with a hook for each field would be no plainer.
+// The fields one after the other, written out, since each pass over them keeps other places.
 fn loop_wrong(s: Section, at: usize) -> bool
     ensures { Says loop_c s.entry.bytes.now s.entry.end at wrong_loop result }
 {

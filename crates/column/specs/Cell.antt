@@ -1,5 +1,5 @@
--- What a cell is and which cell a column holds at a row: document 01 on `column/mod.rs` and `write/data.rs`, and the Rust's
--- `Bitmap::get`, `ColumnData::get` and `Data`. A signed number is kept as its bits.
+-- What a cell is and which cell a column holds at a row (docs/RULES.md, "Cells"; the Rust's `Bitmap::get`, `ColumnData::get` and `Data`). A signed
+-- number is kept as its bits.
 use Rattle.std.specs.Prelude.{ℕ, ◌+◌, ◌-◌, ◌/◌, ◌%◌, ◌^◌, List, [], ◌∷◌, Bool, true, false, length, get_or, take, drop, leb, ltb, eqb, Option, None, Some}
 use Rattle.codec.specs.Codec.{pick}
 use Rattle.format.specs.Data.{Values, Column, TableData}

@@ -60,12 +60,7 @@ pub fn bytes_cell(job: &[u8], at: usize, n: usize, row: u32) -> Cell
     }
 }
 
-// The job, the place, the count that stands there and the row go through the four readers of one kind each: a struct for them would be made in `get`
-// alone and taken apart in each, and be no plainer.
-// A column's kind is a number here, as it stands in the job: 0 bytes, 1 and 2 numbers of 64 and 128 bits, 3 days, 4 seconds. An enum would be matched on
-// once, where the number is.
-// The three readers of numbers that follow are no one function of the width: it would take the validity's place and answer a place or a cell,
-// and each kind would match on that again to make its own cell.
+// A column's kind is a number here, as it stands in the job: 0 bytes, 1 and 2 numbers of 64 and 128 bits, 3 days, 4 seconds.
 
 // The cell of a row in the column of n numbers of 64 bits that stands at a place.
 pub fn int_cell(job: &[u8], at: usize, n: usize, row: u32) -> Cell

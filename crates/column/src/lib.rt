@@ -9,9 +9,9 @@ pub mod get;
 pub mod same;
 
 // A cell: None where there is no answer; bytes as a stretch of the job (start, length); a number by its bits;
-// a number of 128 bits (low half, high half, scale); days since 1970; seconds since midnight. No Option round it: a reader passes None on beside
-// Null, and all but the `segment` columns then read it as Null (`or_null`). That a scale is at most 38 is asked where a text is made of it: the readers
-// make a cell of whatever stands in the bytes.
+// a number of 128 bits (low half, high half, scale); days since 1970; seconds since midnight. A reader passes None on beside Null, and all but the
+// `segment` columns then read it as Null (`or_null`). Readers make a cell of whatever stands in the bytes; that a scale is at most 38 is asked where a
+// text is made of it.
 #[derive(Clone, Copy)]
 pub enum Cell {
     None,

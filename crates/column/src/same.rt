@@ -5,8 +5,7 @@ ghost use Rattle.column.specs.Answers.{Compares};
 
 use crate::Cell;
 
-// Whether two numbers of 128 bits, as halves and scale, are equal. No struct of three: `Cell::Wide` holds them apart, and the one caller would make two structs
-// just to hand them on, which is no plainer.
+// Whether two numbers of 128 bits, as halves and scale, are equal.
 pub fn same_wide(low: u64, high: u64, scale: u8, x: u64, y: u64, z: u8) -> bool
     ensures { result ≡ same_answer (Some (CellOf.decimal (low + 18446744073709551616 * high) scale)) (Some (CellOf.decimal (x + 18446744073709551616 * y) z)) }
 {

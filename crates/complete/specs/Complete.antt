@@ -1,7 +1,7 @@
--- A complete plan (document 01, "A complete plan"): the five conditions, of a job that is not refused.
--- Where its words leave a choice: row segments' places rise strictly; every planned element is a place, `Group` values in row segments and the
--- unread lists of `Envelope` segments included; a control rule counts also without `end`; the version's element is no place; "one entry a
--- loop" speaks of the outer lists.
+-- A complete plan (docs/RULES.md, "A complete plan"): the five conditions, of a job that is not refused.
+-- Row segments' places rise strictly; every planned element is a place, `Group` values in row segments and the unread lists of `Envelope` segments
+-- included; a control rule counts also without `end`; the version's element is no place; that plan and layout have one entry a loop is said of
+-- their outer lists.
 use Rattle.std.specs.Prelude.{ℕ, ◌+◌, ◌*◌, ◌≤◌, ◌<◌, max, ◌≡◌, ◌≢◌, ◌⊎◌, List, [], ◌∷◌, length, Option, None, Some}
 use Rattle.format.specs.Spec.{Control, Loop, ComponentDef, ElementDef, SegmentDef, Version}
 use Rattle.format.specs.Plan.{Source, from_envelope, from_row, from_repeat, Value, from_column, from_group, from_code, ElementPlan, SegmentPlan, LoopPlan}

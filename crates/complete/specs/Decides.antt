@@ -1,4 +1,4 @@
--- What the answer of a test says.
+-- What the answer of a test says: yes exactly where a statement holds.
 use Rattle.std.specs.Prelude.{◌≡◌, Bool, true, false}
 
 -- yes exactly where P holds

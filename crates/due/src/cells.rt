@@ -62,8 +62,7 @@ pub fn element(job: Job, l: LoopId, i: u32, k: u32, p: usize) -> ElementPlan
     plan::read::element_at(job.at.bytes, p)
 }
 
-// Whether one of the columns that planned segment i of loop l, which is s, names passes. repeat_segment's `all_above` goes through elements in such a loop,
-// of a `Planned` of its own; it has the reason why they are two.
+// Whether one of the columns that planned segment i of loop l, which is s, names passes.
 pub fn some_column<F: Fn(u32) -> bool>(job: Job, l: LoopId, i: u32, s: Planned, passes: F) -> bool
     requires planned { PlannedIs job.at.bytes.now l.0 i s }
     requires callable { (c : ℕ) → c < 2 ^ 32 → F.pre passes c }

@@ -5,7 +5,7 @@ use texts::render::{date_text, envelope_date};
 
 // The day and the element's max, 99 for none.
 pub(crate) const ROWS: [[i32; 2]; 46] = [
-    // document 01
+    // docs/RULES.md, "Edge values"
     [0, 8],
     [-719162, 8],
     [-719163, 8],

@@ -4,7 +4,7 @@ use texts::number::{Wide, decimal_text};
 
 // The high half, the low half and the scale.
 pub(crate) const ROWS: [[u64; 3]; 42] = [
-    // document 01
+    // docs/RULES.md, "Edge values"
     [0xffffffffffffffff, 0xffffffffffffff6a, 2],
     [0x0, 0x5, 2],
     [0x0, 0x0, 2],

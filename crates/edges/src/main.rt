@@ -1,4 +1,5 @@
-// Document 01's edge values and further dates, times and amounts, a line each, as the crate texts writes them. The file stdout has the published texts where a row names its source; the rest was computed apart.
+// The edge values of docs/RULES.md, "Edge values", and further dates, times and amounts, a line each, as the crate texts writes them. The file stdout
+// has the published texts where a row names its source; the rest was computed apart.
 #![tactic(auto)]
 
 mod days;

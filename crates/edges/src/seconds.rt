@@ -5,7 +5,7 @@ use texts::render::{envelope_time, time_text};
 
 // The second and the element's max, 99 for none.
 pub(crate) const ROWS: [[i32; 2]; 26] = [
-    // document 01
+    // docs/RULES.md, "Edge values"
     [0, 99],
     [3661, 99],
     [3661, 4],

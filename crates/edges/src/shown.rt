@@ -13,7 +13,7 @@ pub(crate) fn each<T: Copy, F: Fn(T) -> io::Result<()>>(rows: &[T], row: F) -> i
     Ok(())
 }
 
-// An element's min or max, 99 for none. No Option in the rows: the lines have 99 too, as the file stdout has, so that it would be turned back.
+// An element's min or max, 99 for none, as the lines of stdout have it.
 pub(crate) fn bound(n: usize) -> Option<usize> {
     if n == 99 { None } else { Some(n) }
 }

@@ -1,4 +1,4 @@
--- The starred edge values of document 01 together: the texts of days, seconds and decimals, and the two segments.
+-- The edge values that are proved (docs/RULES.md, "Edge values"), together: the texts of days, seconds and decimals, and the two segments.
 use mathlib.Core.Path.{◌≡◌}
 use mathlib.Core.List.{[], ◌∷◌}
 use Rattle.texts.proofs.Edges as T

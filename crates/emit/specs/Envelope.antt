@@ -1,4 +1,5 @@
--- The trigger of an envelope loop and its closer (write/envelope.rs, write/emit.rs; document 01: "`LAYOUT` is a table of three rows").
+-- The trigger of an envelope loop and its closer (write/envelope.rs, write/emit.rs; docs/RULES.md, "Openers", "Closers" and
+-- "Envelope fields").
 use Rattle.std.specs.Prelude.{ℕ, zero, suc, Bool, true, false, List, [], ◌∷◌, ◌++◌, eqb, leb, get_or, Some, None, Option}
 use Rattle.format.specs.Spec.{Kind, kind_an, kind_id, kind_n, kind_r, kind_dt, kind_tm, ElementDef, Version, Control}
 use Rattle.format.specs.Envelope as E

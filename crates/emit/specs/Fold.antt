@@ -1,4 +1,5 @@
--- What the steps of the tour write, one after the other: bytes, segments, findings and stops (write/emit.rs, write/trace.rs).
+-- What the steps of the tour write, one after the other: bytes, segments, findings and stops (write/emit.rs, write/trace.rs;
+-- docs/RULES.md, "Segments" and "What a call tells").
 -- The state is what a step needs to know of those before it: the highest row of each table, the counter of each loop, and how many trace
 -- entries there are, of which those since `begun` belong to the segment that is not finished yet. Entries are counted up to a cap that no
 -- job reaches.

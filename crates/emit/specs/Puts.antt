@@ -1,4 +1,5 @@
--- What a planned place puts into its segment: a part, the findings on its text, and its trace entry (write/cells.rs, write/trace.rs).
+-- What a planned place puts into its segment: a part, the findings on its text, and its trace entry (write/cells.rs, write/trace.rs;
+-- docs/RULES.md, "Row segments", "Repeat segments" and "Traced segments").
 use Rattle.std.specs.Prelude.{ℕ, zero, suc, ◌+◌, ◌*◌, List, [], ◌∷◌, ◌++◌, eqb, Option}
 use Rattle.format.specs.Words.{member_of}
 use Rattle.format.specs.Plan.{Value, from_column, from_group, from_code, ElementPlan}

@@ -1,4 +1,4 @@
--- The layout of the triggers as a table of equal rows, and the search in a row.
+-- The layout of the triggers as a table of equal rows, one for ISA, GS and ST each, and the search in a row (docs/RULES.md, "Envelope fields").
 use Rattle.std.specs.Prelude.{ℕ, zero, suc, ◌+◌, ◌*◌, List, [], ◌∷◌, eqb, get_or, cond, Option, Some, None}
 
 abbrev pub table : List (List ℕ)

@@ -26,7 +26,7 @@ use texts::number::Wide;
 use texts::render::Refused;
 use texts::{Text, number, parse, render};
 
-// A text, and the reason why there is none. No Result: a refused text is the empty value, and who joins a segment takes the value in both cases.
+// A text, and the reason why there is none. A refused text is the empty value, so who joins a segment takes the value in both cases.
 #[derive(Clone, Copy)]
 pub struct Written {
     pub value: Value,
@@ -95,8 +95,7 @@ pub fn width_of(n: Option<u32>) -> Option<usize>
     n.map(|w| w as usize)
 }
 
-// The most that a place takes. The job and a stretch of it stay two: of a struct of both, which would say that the stretch is within the job, one
-// would be made in each call, from a `Line` or a planned repeat segment, whose own definition says it; no plainer.
+// The most that a place takes.
 fn max_at(job: Job, id: Stretch, element: u32, component: Option<u32>) -> Option<usize>
     requires { id.start + id.len ≤ length job.at.bytes.now }
     ensures { result ≡ max_of (job_by job.entry) (stretch_of job.entry.at.bytes.now id) element component }

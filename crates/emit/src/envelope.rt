@@ -56,15 +56,15 @@ pub fn padded_value(
     }
 }
 
-// ISA, GS and ST, one row for each depth: element positions, each with the number of its field; zeros behind them. Document 01 names the form, a
-// constant table of three rows; `table` in specs/, which the contracts cite, has the same rows.
+// ISA, GS and ST, one row for each depth: element positions, each with the number of its field; zeros behind them. `table` in
+// specs/, which the contracts cite, has the same rows.
 const LAYOUT: [[u8; 18]; 3] = [
     [5, 0, 6, 1, 7, 2, 8, 3, 9, 6, 10, 7, 11, 10, 15, 8, 16, 11],
     [2, 4, 3, 5, 4, 6, 5, 7, 0, 0, 0, 0, 0, 0, 0, 0, 0, 0],
     [0, 0, 0, 0, 0, 0, 0, 0, 0, 0, 0, 0, 0, 0, 0, 0, 0, 0],
 ];
 
-// The depths are 0, 1 and 2, the table's rows (ISA, GS and ST): an enum for them would be turned into the row's number at each.
+// The depths are 0, 1 and 2, the table's rows: ISA, GS and ST.
 fn position_in(depth: usize, i: usize) -> u32
     requires { (depth < 3) × (i < 9) }
     ensures { result ≡ get_or (get_or table depth []) (i * 2) 0 }

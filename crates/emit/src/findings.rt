@@ -14,8 +14,7 @@ use spec::ids::{RowId, TableId};
 use texts::render::Refused;
 
 // Where a text comes from and where it goes: its origin (0 a cell, 1 a field), table or field, row, column; its segment's identifier
-// as a number, element, component plus one or 0. The origin is no enum: these are the numbers of a finding, which C reads, and an enum would be
-// made for one function, `note`, that turns it back into four of them.
+// as a number, element, component plus one or 0. These are numbers of a finding, which C reads.
 #[derive(Clone, Copy)]
 pub struct Spot {
     pub origin: u64,

@@ -56,8 +56,7 @@ pub fn delimiters_of(job: Indexed) -> Delimiters
     }
 }
 
-// An identifier as the number that findings have for it. No loop: it is at most three bytes, and written out each
-// number is seen to fit.
+// An identifier as the number that findings have for it. It is at most three bytes: written out, each step is seen to fit its number.
 pub fn id_number(job: &[u8], id: Stretch) -> u64
     requires { (id.len ≤ 3) × (id.start + id.len ≤ length job.now) }
     ensures { result ≡ number_from 0 (stretch_of job.now id) }

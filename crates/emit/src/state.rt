@@ -12,8 +12,7 @@ use spec::ids::{RowId, TableId};
 pub type Mark = Option<RowId>;
 
 // The trace entries so far and those before the segment that is not finished yet; then how many bytes of the document and numbers of the
-// other lists there are, stored or not. No ghost field says that they are within the cap (`Within`): `finish_segment` would have to ask it of
-// the bytes and findings that it is given, of which it asks nothing; and the spec's `first_state` takes any number of findings.
+// other lists there are, stored or not. That they are within the cap (`Within`) is asked by who needs it.
 #[derive(Clone, Copy)]
 pub struct Counts {
     pub entries: usize,
@@ -24,8 +23,8 @@ pub struct Counts {
     pub stops: usize,
 }
 
-// The highest row of each table, the next control number of each loop, and the counts. Arrays of the most that a job has, since there is no heap: a
-// mark stands at its table, a number at its loop.
+// The highest row of each table, the next control number of each loop, and the counts. There is no heap, so the arrays have room for the most that a job
+// has: a mark stands at its table, a number at its loop.
 #[derive(Clone, Copy)]
 pub struct State {
     pub high: [Mark; 16],
@@ -40,7 +39,7 @@ pub struct Taken {
     pub written: usize,
 }
 
-// What a segment comes from: the envelope, or a row of a table. No Option: an envelope is a source too, and its name would be lost.
+// What a segment comes from: the envelope, or a row of a table.
 #[derive(Clone, Copy)]
 pub enum From {
     Envelope,

@@ -18,7 +18,7 @@ use nest::Job;
 use spec::ids::{LoopId, RowId, TableId};
 use walk::Nest;
 
-// The table that placed a repeat row. No `nest::TableRows`: of the table this one row is read, and nothing asks how many it has.
+// The table that placed a repeat row.
 fn placed_by(nest: &[u32], base: usize, r: RowId) -> Option<u32>
     requires { (base + r.0) * 3 + 2 < length nest.now }
     ensures { result ≡ placed_at nest.now base r.0 }
@@ -44,7 +44,7 @@ fn table_above(nest: Nest, t: TableId, r: RowId) -> Option<u32>
     spec::tables::table_parent(nest.job.at, t)
 }
 
-// A row's reference to a table above, as a finding has it: 0 where there is none. No Option: the finding is a row of plain numbers.
+// A row's reference to a table above, as a finding has it: 0 where there is none.
 fn reference(job: Job, t: TableId, above: u32, r: RowId) -> u64
     ensures { result ≡ on ((outline_by job.entry).reference t.0 above r.0) (λ v. v) 0 }
 {

@@ -1,4 +1,4 @@
--- What `baktuven_plan` gives: 0 for a complete plan, 16 for one that is not, 1 to 5 for a refused job.
+-- What `baktuven_plan` gives: 0 for a complete plan, 16 for one that is not, 1 to 5 for a refused job (docs/RULES.md, "A complete plan" and "Answers").
 use Rattle.std.specs.Prelude.{ℕ, ◌≡◌, Bool, List, Result, Ok, Err, if◌then◌else◌}
 use Rattle.refusal.specs.declared.Refusal.{Refusal}
 use Rattle.refusal.specs.Answer.{number}

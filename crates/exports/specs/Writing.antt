@@ -1,4 +1,5 @@
--- What `baktuven_write` gives: document 01's number, the four counts at the front of a list, and what the lent lists then hold, as `write` has them.
+-- What `baktuven_write` gives: the answer's number, the four counts at the front of a list, and what the lent lists then hold, as `write` has them
+-- (docs/RULES.md, "Answers").
 use Rattle.std.specs.Prelude.{ℕ, ◌≡◌, List, map, length, take}
 use Rattle.std.proofs.lemmas.List.Edits.{sets}
 use Rattle.finding.specs.declared.Finding.{Finding}

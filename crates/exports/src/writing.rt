@@ -30,7 +30,7 @@ fn put_values(counts: &mut [u64], a: Answer)
     }
 }
 
-// Document 01's number.
+// The answer's number (docs/RULES.md, "Answers").
 fn number(a: Answer) -> u32
     ensures { result ≡ number_of a }
 {
@@ -40,7 +40,22 @@ fn number(a: Answer) -> u32
     }
 }
 
-// Writes a job: 0 for a finished one or the number of its refusal, the four counts with 0 and 7.
+/// Writes a job into lists that the caller lends, as `baktuven::write` (docs/RULES.md, "Answers" and "What a call tells"). Gives 0 for a finished job, or
+/// the refusal, 1 to 7.
+///
+/// - `document`: bytes.
+/// - `segments`: three numbers a segment: its first trace entry; the table of its row plus one; the row. Both are 0 where it comes from the envelope.
+/// - `findings`: ten numbers a finding, which are a `Finding`.
+/// - `stops`: three numbers a stop: loop, table, row.
+/// - `counts`: four numbers: how many bytes, segments, findings and stops there are. A list of fewer than four gets the first of them.
+///
+/// On 0 the lists hold their items at the front, and are untouched behind them. On 1 to 6 all are as they were, `counts` too. On 7 a list is shorter than
+/// its count: `counts` has what is needed, and each other list holds as many first items as fit, whole ones only. `counts` may be of any length itself.
+///
+/// C: `uint32_t baktuven_write(const uint8_t *job, size_t job_length, uint8_t *document, size_t document_length, uint64_t *segments,
+/// size_t segments_length, struct finding *findings, size_t findings_length, uint64_t *stops, size_t stops_length, uint64_t *counts,
+/// size_t counts_length);` where `struct finding` is `{ uint64_t kind; uint64_t values[9]; }`. The lengths of `segments` and `stops` count numbers,
+/// three an item, that of `findings` counts findings.
 #[unsafe(no_mangle)]
 pub extern "C" fn baktuven_write(
     job: &[u8],

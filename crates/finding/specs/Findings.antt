@@ -1,4 +1,4 @@
--- Findings as records of ten numbers.
+-- Findings as records of ten numbers (docs/RULES.md, "Findings").
 use Rattle.std.specs.Prelude.{ℕ, zero, suc, ◌+◌, ◌*◌, List, [], ◌∷◌, get_or, drop}
 use Rattle.finding.specs.declared.Finding.{Finding}
 

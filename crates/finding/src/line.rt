@@ -48,7 +48,7 @@ impl fmt::Display for Spot {
     }
 }
 
-// By the kind, which is a number since C reads it.
+// The line by the finding's kind (docs/RULES.md, "The listing").
 impl fmt::Display for Finding {
     fn fmt<W: fmt::Write>(&self, f: &mut fmt::Formatter<W>) -> fmt::Result {
         let spot = Spot(self.values);

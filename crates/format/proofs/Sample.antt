@@ -1,4 +1,4 @@
--- The job of document 01's listing, and jobs that are refused: encoded, decoded and judged by computation.
+-- The job of docs/RULES.md, "The listing", and jobs that are refused: encoded, decoded and judged by computation.
 use Prim.Native.Nat.{ℕ}
 use mathlib.Core.Path.{◌≡◌, refl}
 use mathlib.Core.List.{List, [], ◌∷◌, ◌++◌}

@@ -1,4 +1,4 @@
--- The data of a job: for each table its rows, keys, references and columns, and the codec of each.
+-- The data of a job: for each table its rows, keys, references and columns, and the codec of each (docs/RULES.md, "Structures").
 use Rattle.std.specs.Prelude.{ℕ, ◌≡◌, refl, List, [], ◌⊎◌, Option, None}
 use Rattle.std.proofs.Common.{inl, inr}
 use Rattle.codec.specs.Codec.{Codec, ◌⊗◌, map_c, enum_c, ◌⊕◌, end_c, list_c}

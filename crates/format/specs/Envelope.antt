@@ -1,4 +1,4 @@
--- The envelope of a job, without the release separator.
+-- The envelope of a job, without the release separator (docs/RULES.md, "Structures").
 use Rattle.std.specs.Prelude.{ℕ, refl, List, [], Bool, false, Option, None}
 use Rattle.codec.specs.Codec.{Codec, ◌⊗◌, map_c}
 use Rattle.codec.specs.Forms.{num_c, byte_c, long_c, bytes_c, opt_c, flag_c}

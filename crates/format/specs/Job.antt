@@ -1,4 +1,4 @@
--- The job: its five sections, of which data is the list of tables.
+-- The job: its five sections, of which data is the list of tables (docs/RULES.md, "A job").
 use Rattle.std.specs.Prelude.{[]}
 use Rattle.format.specs.Spec.{Spec, no_spec}
 use Rattle.format.specs.Plan.{Plan}

@@ -1,4 +1,5 @@
--- The layout of a job: order, forced segments, group columns and depth of each loop, and the capacity of each table.
+-- The layout of a job: order, forced segments, group columns and depth of each loop, and the capacity of each table (docs/RULES.md,
+-- "Structures").
 use Rattle.std.specs.Prelude.{ℕ, ◌≡◌, refl, List, [], ◌⊎◌, Bool, Option}
 use Rattle.std.proofs.Common.{inl, inr}
 use Rattle.codec.specs.Codec.{Codec, ◌⊗◌, map_c, enum_c, ◌⊕◌, end_c, list_c}

@@ -1,4 +1,4 @@
--- The plan of a job: for each loop where its instances come from and which segments it writes, and the codec of each.
+-- The plan of a job: for each loop where its instances come from and which segments it writes, and the codec of each (docs/RULES.md, "Structures").
 use Rattle.std.specs.Prelude.{ℕ, ◌≡◌, refl, List, [], ◌⊎◌, Option, None}
 use Rattle.std.proofs.Common.{inl, inr}
 use Rattle.codec.specs.Codec.{Codec, unit_c, ◌⊗◌, map_c, enum_c, ◌⊕◌, end_c, list_c}

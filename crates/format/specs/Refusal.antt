@@ -1,4 +1,4 @@
--- The refusals 1 to 5 (document 01, "What a call gives back", and its limits): the lowest that applies, each judged over the whole job.
+-- The refusals 1 to 5 (docs/RULES.md, "Answers" and "Limits"): the lowest that applies, each judged over the whole job.
 use Rattle.std.specs.Prelude.{ℕ, ◌+◌, List, [], ◌∷◌, Bool, false, not, length, get_or, leb, ltb, eqb, Option, None, Some}
 use Rattle.codec.specs.Codec.{pick}
 use Rattle.codec.specs.Limits.{any, any_of}

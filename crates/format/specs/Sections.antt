@@ -1,4 +1,4 @@
--- The sections of a job and the trailer behind them (document 01, "The job"): which bytes are which job.
+-- The sections of a job and the trailer behind them (docs/RULES.md, "Trailer"): which bytes are which job.
 use Rattle.std.specs.Prelude.{ℕ, ◌+◌, ◌-◌, ◌≤◌, List, [], ◌∷◌, ◌++◌, Bool, not, length, ltb, eqb, Option, None, Some}
 use Rattle.codec.specs.Codec.{Got, got, bad, pick, le, enc_le}
 use Rattle.codec.specs.Whole.{used_up}

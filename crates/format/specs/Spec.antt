@@ -1,4 +1,4 @@
--- The spec of a job (document 01, "The job"): loops, roots, segments, tables, version, and the codec of each.
+-- The spec of a job (docs/RULES.md, "Structures"): loops, roots, segments, tables, version, and the codec of each.
 use Rattle.std.specs.Prelude.{ℕ, ◌≡◌, refl, List, [], ◌⊎◌, Bool, false, Option, None}
 use Rattle.std.proofs.Common.{inl, inr}
 use Rattle.codec.specs.Codec.{Codec, unit_c, ◌⊗◌, map_c, enum_c, ◌⊕◌, end_c, units_c, list_c}

@@ -38,7 +38,7 @@ impl Form for Column {
 
 pub struct TableData;
 
-// Written out, as the envelope: whoever keeps the places of these fields needs such lines too, and a hook for each field would be no plainer.
+// The fields one after the other, written out, since each pass over them keeps other places.
 impl Form for TableData {
     ghost Value = { ATableData };
 

@@ -6,8 +6,7 @@ use codec::{Form, Section};
 
 pub struct Envelope;
 
-// The fields one after the other: whoever keeps some of their places has such lines too, and each keeps others, so that a walk with a hook for each
-// field would be no plainer.
+// The fields one after the other, written out, since each pass over them keeps other places.
 impl Form for Envelope {
     ghost Value = { AEnvelope };
 

@@ -23,7 +23,7 @@ pub use spec::{
 
 // ---- trailer and sections
 
-// 1: too short, too long, or the trailer is broken.
+// Refusal 1: the job is too short or too long, or its trailer is broken (docs/RULES.md, "Answer 1").
 pub fn broken_at(b: &[u8]) -> bool
     ensures { result ≡ broken b.now }
 {
@@ -60,7 +60,7 @@ fn spoils<F: Form>(b: &[u8], at: usize, end: usize) -> bool
     F::ends_at(s, at) != end
 }
 
-// 2: a section is not what its codec reads, or has bytes over.
+// Refusal 2: a section is not what its codec reads, or has bytes over (docs/RULES.md, "Answer 2").
 pub fn spoilt_at(b: &[u8]) -> bool
     requires { broken b.now ≡ false }
     ensures { result ≡ spoilt b.now }

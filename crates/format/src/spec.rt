@@ -24,7 +24,7 @@ impl Form for Control {
 
 pub struct Loop;
 
-// Written out, as the envelope: whoever keeps the places of a loop's fields needs such lines too, and a hook for each field would be no plainer.
+// The fields one after the other, written out, since each pass over them keeps other places.
 impl Form for Loop {
     ghost Value = { ALoop };
 
@@ -117,7 +117,7 @@ impl Form for Repeat {
 
 pub struct Table;
 
-// Written out, as the envelope: whoever keeps the places of a table's fields needs such lines too, and a hook for each field would be no plainer.
+// The fields one after the other, written out, since each pass over them keeps other places.
 impl Form for Table {
     ghost Value = { ATable };
 

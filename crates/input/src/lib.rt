@@ -25,7 +25,7 @@ pub fn read_up_to<R: Read>(reader: &mut R, bytes: &mut [u8]) -> io::Result<usize
     ensures end { IfOk result (λ n. n < length bytes.new → IsAtEnd (R.remaining reader.new)) }
 {
     let mut done = 0;
-    // No `for`: each read tells how far it came.
+    // each read tells how far it came
     while done < bytes.len() {
         let n = read_behind(reader, bytes, done)?;
         if n == 0 {

@@ -37,8 +37,8 @@ pub fn rowless(kind: Left, l: LoopId, c: Context) -> Cursor
     }
 }
 
-// The row that the rows of table t hang on in context c, plus one, as in a cursor; 0 where the table has no parent. That the context's rows are the job's,
-// `Sound`, is no ghost field of a `Context`, which holds no job: a struct of both would be made anew for each instance that is entered.
+// The row that the rows of table t hang on in context c, plus one, as in a cursor; 0 where the table has no parent. It asks
+// that the context's rows are the job's (`Sound`).
 fn above_in(job: Job, t: TableId, c: Context) -> Option<u32>
     requires { Sound (outline_by job) (context_by c) }
     ensures { result ≡ above_in (outline_by job.entry) t.0 (context_by c) }

@@ -31,10 +31,7 @@ pub enum Left {
 
 // The instances still to come of loop l in a context. Left are the rows from `next` on, below `rows`, that hang on the row `above` less one, or all
 // where it is 0, as far as the context's run has them; `seen` of them stood before. The numbers of the table's rows start at `base` in nest's array.
-// `above` is no Option: it is compared with nest's numbers, which are rows plus one, or 0. No `nest::TableRows` for `base` and `rows`: a cursor without
-// rows (`kinds::rowless`) would need an array too, and so would the definition that says what it is. `seen` and `next` are no struct: next_row counts the
-// one as it goes through the rows from the other on, and with a struct would take it apart first. That a cursor is within the rows (`Inside`) is said of
-// nest's array too.
+// `above` is compared with nest's numbers, which are rows plus one, or 0. That a cursor is within the rows (`Inside`) is said of nest's array too.
 #[derive(Clone, Copy)]
 pub struct Cursor {
     pub context: Context,

@@ -25,7 +25,7 @@ fn run_end(job: Job, nest: &[u32], cur: Cursor, head: RowId) -> RunEnd
     let l = cur.l;
     let mut seen = cur.seen;
     let mut next = cur.next;
-    // No `for`: each row tells where the next is looked for.
+    // each row tells where the next is looked for
     while let Some(a) = next_row(nest, moved(cur, seen, next)) {
         let row = a.row;
         if !same_group(job, l, head, row) {

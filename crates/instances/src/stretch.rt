@@ -18,7 +18,7 @@ fn far_enough(all: TableRows, from: usize, above: u32) -> usize
     ensures { Reached all.entry.array.now all.entry.base from all.entry.rows above result }
 {
     let mut step: usize = 1;
-    // No `for`: the step doubles.
+    // the step doubles
     while step < all.rows - from {
         let at = from + step;
         if all.above(at) < above {

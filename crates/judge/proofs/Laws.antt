@@ -21,7 +21,7 @@ use Rattle.refusal.specs.declared.Refusal.{Refusal}
 use Rattle.refusal.specs.Answer.{number}
 use Rattle.judge.specs.Judged.{Judged}
 
--- ---- conditions 1 to 4, by the answers to each
+-- ---- the conditions but for places, by the answers to each
 
 decided : (P : Type 0) (b : Bool) → Decides b P → P → b ≡ true
 decided P true d p = refl

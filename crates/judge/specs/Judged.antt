@@ -1,4 +1,5 @@
--- What the plan check answers (document 01, "A complete plan"): refusals 1 to 5 as `check` gives them, and otherwise yes exactly where the plan is complete.
+-- What the plan check answers (docs/RULES.md, "A complete plan"): refusals 1 to 5 as `check` gives them, and otherwise yes exactly where the plan is
+-- complete.
 use Rattle.std.specs.Prelude.{ℕ, ◌≡◌, Bool, true, false, List, Result, Ok}
 use Rattle.format.specs.Sections.{job_of}
 use Rattle.format.specs.Refusal.{refusal_of}

@@ -16,14 +16,14 @@ use places::places_fit;
 use refusal::Refusal;
 use spec::Indexed;
 
-// Conditions 1 to 4 together.
+// The conditions but for places together: row loops, entries and orders, above a row loop, repeat loops.
 fn all_four(one: bool, two: bool, three: bool, four: bool) -> bool
     ensures { result ≡ one && (two && (three && four)) }
 {
     one && two && three && four
 }
 
-// The five conditions, of a job that passed. The fifth asks for the second's entries.
+// The five conditions, of a job that passed. Places are judged last, since that asks for one entry a loop in the plan.
 fn fits(job: Job) -> bool
     ensures { Decides result (CompletePlan (job_by job.entry)) }
 {
@@ -51,7 +51,9 @@ fn judged(job: &[u8]) -> bool
     })
 }
 
-// Whether the plan of a job is complete, for every byte string; or why the job has none to judge.
+/// Whether the plan of a job is complete (docs/RULES.md, "A complete plan"): of what such a job comes to nothing is lost. Takes any bytes; nothing is
+/// changed. `Ok(true)` exactly where all five conditions hold, `Ok(false)` where one doesn't, and the refusal, 1 to 5, where `refusal::check` gives
+/// one: such a job has no plan to judge. Refusal 6 isn't tried: a job with a complete plan may still have too many loop instances.
 pub fn judge(job: &[u8]) -> Result<bool, Refusal>
     ensures { Judged job.now result }
 {

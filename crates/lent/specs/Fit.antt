@@ -1,4 +1,4 @@
--- Storing into a lent list from a place on: as far as it fits, the rest untouched (document 01, "What a call gives back").
+-- Storing into a lent list from a place on: as far as it fits, the rest untouched (docs/RULES.md, "Answer 7").
 -- `lib.Seq.sets l i vs` stores vs one after the other from index i; a store past the end changes nothing.
 use Rattle.std.specs.Prelude.{◌≡◌, ℕ, zero, suc, ◌+◌, ◌-◌, min, List, length, take, drop}
 use lib.Seq.{sets}

@@ -1,5 +1,5 @@
-// Storing into a lent list: everything is counted, and stored as far as it fits. A slice with a place, no `Vec`: there is no heap, the caller lends the
-// room, and what finds none is still counted.
+// Storing into a lent list: everything is counted, and stored as far as it fits. There is no heap: the caller lends the room, and what finds none is
+// still counted.
 #![tactic(auto)]
 
 ghost use Rattle.std.specs.Prelude.{◌≡◌, [], ◌∷◌, ◌+◌, ◌-◌, ◌≤◌, ◌<◌, min, length, take, drop, replicate};
@@ -81,8 +81,8 @@ pub fn put_stretch<T: Copy>(d: &mut [T], at: usize, source: &[T], start: usize, 
     more(at, n)
 }
 
-// The first `count` numbers of a record, at most ten. An array and a count, no slice: callers make the array where they call, of the
-// three numbers of a stop or a segment filled up with 0, and a proof has its numbers at hand, with no length to show.
+// The first `count` numbers of a record, at most ten. Callers make the array where they call: of the three numbers of a stop or a segment, filled up
+// with 0, or of the ten of a finding.
 pub fn put_words(d: &mut [u64], at: usize, words: [u64; 10], count: usize) -> usize
     ensures { Stored d.old at (take count words) result d.new }
 {
@@ -96,8 +96,7 @@ pub fn in_window(at: usize) -> usize
     at.saturating_sub(4611686018427387904)
 }
 
-// The first `count` numbers of a finding, at most ten: those that lie in the window. One function with `put_words`, over the base, would be no
-// plainer: at base 0 nothing lies before the window, and what is left is the one call there.
+// The first `count` numbers of a finding, at most ten: those that lie in the window.
 pub fn note_words(d: &mut [u64], at: usize, words: [u64; 10], count: usize) -> usize
     ensures { Noted d.old at (take count words) result d.new }
 {

@@ -1,4 +1,4 @@
--- Parts of document 01's limits that have no name of their own.
+-- Parts of the limits of a job that have no name of their own (docs/RULES.md, "Limits").
 use Rattle.std.specs.Prelude.{ℕ, ◌≡◌, List, [], ◌∷◌, Bool, true, false, ltb, Option, Some, None}
 use Rattle.limits.specs.declared.Parts.{Parts as Kept}
 use Rattle.codec.specs.Codec.{pick}

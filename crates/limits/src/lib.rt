@@ -1,4 +1,4 @@
-// 3: a limit is passed. Each function tells whether whatever stands at a place passes one.
+// Refusal 3: a limit is passed (docs/RULES.md, "Limits"). Each function tells whether whatever stands at a place passes one.
 #![tactic(auto)]
 
 ghost use Rattle.std.specs.Prelude.{◌≡◌, ℕ, Option, Some, None, false};
@@ -68,7 +68,7 @@ fn opt_control_over(s: Section, at: usize) -> bool
     says::lists::opt_at::<Control, _>(s, at, |p| control_over(s, p))
 }
 
-// The fields one after the other, written out: each test keeps other places, so that a walk with a hook for each field would be no plainer.
+// The fields one after the other, written out, since each pass over them keeps other places.
 fn loop_over(s: Section, at: usize) -> Option<usize>
     ensures { Clears loop_c s.entry.bytes.now s.entry.end at over_loop result }
 {
@@ -99,7 +99,7 @@ fn sized_over(s: Section, at: usize) -> Option<usize>
 {
     let value = s.le_at(4, at);
     let kind = Kind::ends_at(s, value);
-    // not `sizes_end`: where the kind ends is known
+    // where the kind ends is known
     let min = s.opt_num_at(kind);
     let max = s.opt_num_at(min);
     if large_at(s, at) {
@@ -330,7 +330,7 @@ fn data_over(s: Section, at: usize) -> bool
 
 // ---- the whole
 
-// 3: a limit is passed. Where none is, it tells where the spec's parts stand.
+// Refusal 3: a limit is passed. Where none is, it tells where the spec's parts stand.
 pub fn over_at(b: &[u8]) -> Option<Parts>
     requires { (broken b.now ≡ false) × (spoilt b.now ≡ false) }
     ensures { ClearParts result (over (job_of b.now)) (spec_roots b.now (plan_start b.now) 0) (spec_tables b.now (plan_start b.now) 0) }

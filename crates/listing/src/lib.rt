@@ -1,4 +1,4 @@
-// Document 01's listing of a job.
+// The listing of a job (docs/RULES.md, "The listing").
 #![tactic(auto)]
 
 use crate::items::{segments, stops};
@@ -40,8 +40,8 @@ fn bytes(rt: &impl Print, document: &[u8], n: usize) -> io::Result<()> {
     println!(rt;)
 }
 
-// Lends 65,536 bytes and 512 places in each other list, and prints the listing or `refused` and a number; where it is 7, the sizes that it would take
-// go to standard error.
+/// Lends 65,536 bytes and 512 places in each other list, and prints the listing or `refused` and a number (docs/RULES.md, "The listing" and "Answers");
+/// where it is 7, the sizes that it would take go to standard error.
 pub fn print(rt: &(impl Print + Eprint), job: &[u8]) -> io::Result<()> {
     let mut document = [0u8; 65536];
     let mut traced = [0u64; 1536];

@@ -1,4 +1,4 @@
--- Parts of document 01's row 4: children and orders that repeat, and a spec whose loops are no forest.
+-- Parts of refusal 4 (docs/RULES.md, "Answer 4"): children and orders that repeat, and a spec whose loops are no forest.
 use Rattle.std.specs.Prelude.{ℕ, List, [], ◌∷◌, Bool}
 use Rattle.codec.specs.Limits.{any, any_of}
 use Rattle.format.specs.Layout.{Item}

@@ -1,4 +1,4 @@
-// 4: the loops are no forest that roots, tables and orders fit.
+// Refusal 4: the loops are no forest that roots, tables and orders fit (docs/RULES.md, "Answer 4").
 #![tactic(auto)]
 
 ghost use Rattle.std.specs.Prelude.{◌≡◌, [], ◌++◌, ◌∷◌, List, ◌+◌, ◌<◌, ◌≤◌, ℕ, length, take, eqb, false};
@@ -96,7 +96,7 @@ fn rings(loops: Loops) -> bool
     loops.some(|k, _p, _children| ringed_at(loops, k))
 }
 
-// How often x is in a list of numbers. The one count over a list of a job: a walk for it in `says::lists` would be this loop over a closure.
+// How often x is in a list of numbers.
 fn times_at(s: Section, at: usize, x: usize) -> usize
     ensures { Says (list_c num_c) s.entry.bytes.now s.entry.end at (times_in x) result }
 {
@@ -204,8 +204,7 @@ fn note_names(s: Section, at: usize, names: &mut [usize]) -> usize
 }
 
 // Whether an order names a loop twice: first among the first 33 loops that it names, and by `order_searched` where there are more, as
-// `tree::repeats_at` does of a list. One function for both is no plainer: a closure would tell what an item names, an Option, and be handed on to the
-// note and, within two closures more, to the search.
+// `tree::repeats_at` does of a list.
 fn order_repeats(s: Section, at: usize) -> bool
     ensures { Says (list_c item_c) s.entry.bytes.now s.entry.end at repeats_in result }
 {
@@ -250,7 +249,7 @@ fn spec_tangled(loops: Loops, roots: usize) -> bool
     disagreements(loops) | rings(loops) | misroots(loops, roots)
 }
 
-// 4: the loops are no forest that roots, tables and orders fit. Where roots and tables stand is known.
+// Refusal 4: the loops are no forest that roots, tables and orders fit. Where roots and tables stand is known.
 pub fn tangled_at(b: &[u8], roots: usize, tables: usize) -> bool
     requires { (broken b.now ≡ false) × (spoilt b.now ≡ false) × (roots ≡ spec_roots b.now (plan_start b.now) 0) × (tables ≡ spec_tables b.now (plan_start b.now) 0) }
     ensures { result ≡ tangled (job_of b.now) }

@@ -1,4 +1,4 @@
--- Document 01's listing: a job with a complete plan. Its due segments are the three of the listing, and its document reads back as these.
+-- The job of docs/RULES.md, "The listing", has a complete plan. Its due segments are the three of the listing, and its document reads back as these.
 use Prim.Native.Nat.{ℕ}
 use mathlib.Core.Path.{◌≡◌, refl, sym, ap, ◌∙◌}
 use mathlib.Core.Logic.{inl}

@@ -1,4 +1,5 @@
--- A complete plan with all that condition 5 speaks of: a trigger that gives separators, a closer, a row segment, and a repeat segment of two rows a chunk.
+-- A complete plan with all that the condition on places speaks of (docs/RULES.md, "Places"): a trigger that gives separators, a closer, a row segment,
+-- and a repeat segment of two rows a chunk.
 use Prim.Native.Nat.{ℕ, zero, suc}
 use mathlib.Core.Path.{◌≡◌, refl}
 use mathlib.Core.Bool.{true, false}

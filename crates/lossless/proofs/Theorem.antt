@@ -1,4 +1,4 @@
--- Demand 3: of a job that is not refused and has a complete plan nothing is lost.
+-- Of a job that is not refused and has a complete plan nothing is lost (docs/RULES.md, "Nothing is lost").
 use Prim.Native.Nat.{ℕ, ◌≤◌, max}
 use mathlib.Core.Path.{◌≡◌, refl, sym, ap, ◌∙◌, subst}
 use mathlib.Core.Logic.{◌≢◌}

@@ -1,6 +1,6 @@
--- A job's due segments (document 01: "those that the definitions of nest, walk and skipping give, in order, from the job alone"): for each step of
--- the walk that writes, the identifier, the parts, the source, and the texts of its cells and envelope fields. The one thing that a step needs to know
--- of those before it is the next control number of its loop.
+-- A job's due segments (docs/RULES.md, "Due segments"), which the definitions of nest, walk and skipping give, in order, from the job alone: for each
+-- step of the walk that writes, the identifier, the parts, the source, and the texts of its cells and envelope fields. The one thing that a step needs
+-- to know of those before it is the next control number of its loop.
 use Rattle.std.specs.Prelude.{ℕ, zero, suc, ◌+◌, ◌*◌, ◌-◌, ◌%◌, ◌^◌, Bool, List, [], ◌∷◌, ◌++◌, map, get_or, set, replicate, Option, None, Some}
 use Rattle.format.specs.Spec.{ElementDef}
 use Rattle.format.specs.Plan.{Value, from_column, from_group, from_code, ElementPlan}

@@ -1,4 +1,4 @@
--- Demand 3: of a job that is not refused and has a complete plan nothing is lost.
+-- That of a job that is not refused and has a complete plan nothing is lost (docs/RULES.md, "Nothing is lost").
 use Rattle.std.specs.Prelude.{ℕ, ◌<◌, ◌≡◌, ◌⊎◌, false, ◌&&◌, List, ◌++◌, map, length, eqb, Option, None, Some}
 use Rattle.format.specs.Job.{Job}
 use Rattle.segment.specs.declared.Separators.{Separators}

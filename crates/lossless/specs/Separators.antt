@@ -1,5 +1,5 @@
--- When a job has a delimiter finding (document 01: "exactly when a cell or envelope text of a due segment holds a separator"), said of the texts
--- of the due segments; the repetition separator counts where there is one.
+-- When a job has a delimiter finding: exactly when a cell or envelope text of a due segment holds a separator (docs/RULES.md, "Finished"). The
+-- repetition separator counts where there is one.
 use Rattle.std.specs.Prelude.{ℕ, Bool, true, false, List}
 use Rattle.format.specs.Words.{member_of}
 use Rattle.format.specs.Job.{Job}

@@ -1,2 +1,2 @@
-// Demand 3 of document 01 over the definitions: with a complete plan, nothing of a job is lost. Definitions and proofs only.
+// Nothing is lost of a job with a complete plan (docs/RULES.md, "Nothing is lost"): definitions, and the proof over them.
 #![tactic(auto)]

@@ -1,4 +1,4 @@
--- Parts of document 01's row 5 that have no name of their own.
+-- Parts of refusal 5 (docs/RULES.md, "Answer 5") that have no name of their own: identifiers, scales, separators and texts.
 use Rattle.std.specs.Prelude.{ℕ, List, [], ◌∷◌, Bool, not, ltb}
 use Rattle.codec.specs.Limits.{any, any_of}
 use Rattle.format.specs.Envelope.{Envelope}

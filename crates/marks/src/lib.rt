@@ -1,4 +1,4 @@
-// 5: separators, identifiers, scales and texts. Each function tells whether whatever stands at a place is unfit.
+// Refusal 5: separators, identifiers, scales and texts (docs/RULES.md, "Answer 5"). Each function tells whether whatever stands at a place is unfit.
 #![tactic(auto)]
 
 ghost use Rattle.std.specs.Prelude.{◌≡◌, false};
@@ -102,7 +102,7 @@ fn codes_unfit(s: Section, at: usize) -> Option<usize>
 
 // ---- spec
 
-// The fields one after the other, written out: each test keeps other places, so that a walk with a hook for each field would be no plainer.
+// The fields one after the other, written out, since each pass over them keeps other places.
 fn loop_unfit(s: Section, at: usize) -> Option<usize>
     ensures { Clears loop_c s.entry.bytes.now s.entry.end at unfit_loop result }
 {
@@ -328,7 +328,7 @@ fn data_unfit(s: Section, at: usize) -> Option<usize>
 
 // ---- the whole
 
-// 5: separators, identifiers, scales and texts.
+// Refusal 5: separators, identifiers, scales and texts.
 pub fn unfit_at(b: &[u8]) -> bool
     requires { (broken b.now ≡ false) × (spoilt b.now ≡ false) }
     ensures { result ≡ unfit (job_of b.now) }

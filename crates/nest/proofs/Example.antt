@@ -1,4 +1,4 @@
--- Document 01's listing: its outline, where its rows hang and what nest reports, computed.
+-- The job of docs/RULES.md, "The listing": its outline, where its rows hang and what nest reports, computed.
 use Prim.Native.Nat.{ℕ}
 use mathlib.Core.Path.{◌≡◌, refl}
 use mathlib.Core.Bool.{true, false}

@@ -1,4 +1,5 @@
--- Findings, and each as a flat record of ten numbers (write/finding.rs; the values and their order are those of document 01's listing).
+-- Findings, and each as a flat record of ten numbers (write/finding.rs; docs/RULES.md, "Findings"); the values
+-- stand in the order of the listing's lines.
 use Rattle.std.specs.Prelude.{ℕ, suc, ◌+◌, ◌*◌, ◌<◌, List, [], ◌∷◌, Option, None, Some}
 use Rattle.nest.specs.Lists.{on, All}
 

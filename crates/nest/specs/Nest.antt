@@ -1,4 +1,4 @@
--- Where each row hangs (write/nest.rs; document 01, "A row hangs on the first row whose key is its reference").
+-- Where each row hangs (write/nest.rs; docs/RULES.md, "Nesting"): on the first row whose key is its reference.
 use Rattle.std.specs.Prelude.{ℕ, zero, suc, ◌≡◌, Bool, true, false, cond, ◌&&◌, ◌||◌, length, eqb, leb, Option, None, Some}
 use mathlib.Core.List.{List, [], ◌∷◌, foldr}
 use Rattle.std.specs.Option.{option_map}

@@ -1,4 +1,4 @@
--- What nest reports (write/nest.rs; document 01: "duplicate keys come first, table by table; then each row in table order").
+-- What nest reports (write/nest.rs; docs/RULES.md, "Nest's findings"): duplicate keys first, table by table; then each row in table order.
 use Rattle.std.specs.Prelude.{ℕ, ◌<◌, ◌≡◌, cond, ◌&&◌, List, [], ◌∷◌, ◌++◌, length, eqb, ltb, Option, None, Some}
 use Rattle.nest.specs.Lists.{once, each, on, from, sum}
 use Rattle.nest.specs.Outline.{Outline, table_of, table_parent, row_count, repeated}

@@ -1,5 +1,5 @@
--- A job's outline: the job as far as nesting and walking look at it (document 01, "The job"). What depends on cells is a function here:
--- the job gives it from its columns.
+-- A job's outline: the job as far as nesting and walking look at it (docs/RULES.md, "A job", "Keys" and "References"). What depends on cells is a
+-- function here: the job gives it from its columns.
 use Rattle.std.specs.Prelude.{ℕ, Bool, false, ◌&&◌, not, List, [], ◌∷◌, length, get_or, ltb, Option, None, Some}
 
 -- spec/loops.rs

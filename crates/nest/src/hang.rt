@@ -29,15 +29,15 @@ pub struct AnchorLoop {
     pub table: TableId,
 }
 
-// The anchors of a repeat table, n of them in the order in which they are tried. There is no heap, so they stand in an array of fixed length with their number.
-// Whose they are (`Lined`) is asked: a struct with job and table would be no plainer, since its users take an Option of it, and need both where there is none.
+// The anchors of a repeat table, n of them in the order in which they are tried. There is no heap, so they stand in an array of fixed length with their
+// number. Whose they are (`Lined`) is asked by who uses them.
 #[derive(Clone, Copy)]
 pub struct Line {
     pub anchors: [AnchorLoop; 8],
     pub n: u32,
 }
 
-// Where a row hangs: the row above plus one, or 0; the anchor loop; the table of the row above. No Option: these are the numbers as nest's array, which C reads, holds them.
+// Where a row hangs: the row above plus one, or 0; the anchor loop; the table of the row above. Nest's array, which C reads, holds these numbers.
 #[derive(Clone, Copy)]
 pub struct Place {
     pub above: u32,
@@ -81,9 +81,7 @@ pub fn row_table(kind: Instances) -> Option<u32>
     }
 }
 
-// How many loops stand above each loop; an array, since there is no heap. That they are those of this job (`Deep`) the functions below ask. One struct of a
-// job with its keys and its depths would ask for both where one is needed now, and so ask more; of two structs each would hold the job, and the functions
-// that take both would have to ask that it is one job: no plainer.
+// How many loops stand above each loop. The functions below ask that they are those of the job (`Deep`).
 pub fn all_depths(job: Job) -> [u8; 32]
     ensures { Deep (outline_by job.entry) result }
 {
@@ -132,7 +130,7 @@ pub fn anchor(job: Job, depths: [u8; 32], l: LoopId, d: u32) -> Option<u32>
 }
 
 // The first anchor, the deepest first and equal depths in list order, whose reference row r of the repeat table t has. It goes through
-// the loops as `line_up` does: one function for both would hand on a state of any type and an early end, which is no plainer.
+// the loops as `line_up` does.
 pub fn claim(job: Job, depths: [u8; 32], t: TableId, r: RowId) -> Result<Claimed, TableId>
     requires { Deep (outline_by job) depths }
     ensures { result ≡ claim_by (claim_in (outline_by job.entry) t.0 r.0 (anchors (outline_by job.entry) t.0)) (last_table t.0 (anchors (outline_by job.entry) t.0)) }

@@ -76,8 +76,7 @@ pub fn keys_of(job: Job, u: TableId) -> Keys
     Keys::Any
 }
 
-// What is known of the keys of all tables of data; an array, since there is no heap. That they are those of this job (`Keyed`) its users ask, and no struct
-// says it, for the reason at `hang::all_depths`.
+// What is known of the keys of all tables of data. Who uses it asks that it is that of the job (`Keyed`).
 pub fn all_keys(job: Job) -> [Keys; 16]
     ensures { Keyed (outline_by job.entry) result }
 {

@@ -1,6 +1,5 @@
 // Tables whose rows hang on rising rows. The last sixteen numbers of nest's array, behind those of all rows, are a flag for each table of data: 1 where they do.
-// No bools: they lie in the array of u32 that holds the rows, so that a walk takes one array and `Nested` speaks of one. A list of bools would be one more field of
-// `walk::Nest` with one more fact, and no plainer. A program gets the rows' numbers alone.
+// They lie in the array that holds the rows, so that a walk takes one array. A program gets the rows' numbers alone.
 ghost use Rattle.std.specs.Prelude.{◌≡◌, not, [], ◌∷◌, ◌+◌, ◌-◌, ◌*◌, ◌≤◌, ◌<◌, length};
 ghost use Rattle.std.proofs.lemmas.List.Edits.{sets};
 ghost use Rattle.nest.specs.Lists.{once};

@@ -175,7 +175,7 @@ pub fn row_findings(
     }
 }
 
-// The findings of the rows of table t. Job and array are no struct with `ArrayIs`: nearly as many places would make the struct as functions take it.
+// The findings of the rows of table t.
 pub fn table_findings(
     job: Job,
     nest: &[u32],

@@ -12,8 +12,7 @@ use crate::keys::{Keys, all_keys};
 use crate::{Job, put_record};
 use spec::ids::{RowId, TableId};
 
-// The numbers of the rows of table t, three a row. That the list is long enough for the job is handed down to here: a struct of the job and the list would hold
-// just what the functions take, and be no plainer.
+// The numbers of the rows of table t, three a row.
 pub fn nest_table(job: Job, nest: &mut [u32], keys: [Keys; 16], depths: [u8; 32], t: TableId)
     requires { Keyed (outline_by job) keys × Deep (outline_by job) depths × (rows_of_all (job_by job).tables * 3 ≤ length nest.old) }
     ensures { nest.new ≡ sets nest.old (rows_before (job_by job.entry).tables t.0 * 3) (table_array (outline_by job.entry) t.0) }

@@ -1,6 +1,5 @@
-// Searches through numbers, by a test. Written as loops, no std's `any` and `find` over a range: what these say goes by the steps of an iterator, and every
-// proof above would have to tell the steps as numbers; no plainer. Where a search below calls itself, or its numbers come from the job one by one, it
-// has a loop of its own.
+// Searches through numbers, by a test. Written as loops, since the contracts of std's `any` and `find` speak of an iterator's steps, which every proof
+// above would have to tell as numbers.
 ghost use Rattle.std.specs.Prelude.{ℕ, ◌≡◌, ◌≤◌, ◌<◌, ◌^◌, Bool};
 ghost use Rattle.nest.specs.Lists.{keep, first, some_of, up_to};
 ghost use Rattle.nest.specs.Found.{found_by};
@@ -43,7 +42,7 @@ pub fn halve<F: Fn(usize) -> bool>(low: usize, high: usize, passes: F) -> usize
 {
     let mut from = low;
     let mut to = high;
-    // No `for`: each turn halves what is left.
+    // each turn halves what is left
     while from < to {
         let mid = from + (to - from) / 2;
         if passes(mid) {

@@ -13,8 +13,7 @@ pub struct TableRows<'a> {
     pub ghost within: { (base + rows) * 3 ≤ length array.now },
 }
 
-// That a row's number is below `rows` ties an argument to the table, so each method asks for it. That p is below 4096 is no field of `RowId`: a row's number is read from
-// the job, its readers answer for any, and such a field would ask more of whoever makes one.
+// A method that reads row k asks that k is below `rows`. Numbers of rows above are read from the job, and asked to be below 4096.
 impl<'a> TableRows<'a> {
     ghost use Rattle.std.specs.Prelude.{◌≡◌, ◌<◌, ◌^◌};
     ghost use Rattle.nest.specs.Lists.{keep, first, up_to};
@@ -69,8 +68,7 @@ impl<'a> TableRows<'a> {
         first_row_where(from, self.rows, |k| self.hooked_at(k, l, p))
     }
 
-    // Where the rows climb: the end of those from `from` on that hang on a row before the row `above` less one. No Option: its callers take it as an end of a range.
-    // That they climb is no ghost field of a struct: nearly as many places would make the struct as functions ask for it.
+    // Where the rows climb: the end of those from `from` on that hang on a row before the row `above` less one.
     pub fn first_at(self, from: usize, above: u32) -> usize
         requires { (from ≤ self.rows) × Climbs self.array.now self.base self.rows }
         ensures { Parted self.entry.array.now self.entry.base from self.entry.rows above result }

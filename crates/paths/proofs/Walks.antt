@@ -1,4 +1,4 @@
--- Where the loops are a tree, as those of a job that passed are, conditions 1 to 4 are those of a complete plan.
+-- Where the loops are a tree, as those of a job that passed are, the tests of four conditions (`specs/Tests`) are those of a complete plan.
 use mathlib.Core.Path.{◌≡◌}
 use mathlib.Core.Bool.{true}
 use lib.ListN.{length}

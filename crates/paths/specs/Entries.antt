@@ -1,4 +1,5 @@
--- Condition 2 of document 01 ("A complete plan"): one entry a loop in plan and layout, one a table in the capacities and in data; and the orders.
+-- Entries and orders of a complete plan (docs/RULES.md, "Entries and orders"): one entry a loop in plan and layout, one a table in the capacities and in
+-- data; and the orders.
 use Rattle.std.specs.Prelude.{◌≡◌, true, length}
 use Rattle.format.specs.Job.{Job}
 use Rattle.nest.specs.OfJob.{outline_of}

@@ -1,4 +1,5 @@
--- The tests of the plan check (`plan_tests` of walk), put together by condition as the code makes them.
+-- The tests of the plan check (`plan_tests` of walk), put together by condition as the code makes them: 1 "Row loops", 2 "Entries and orders",
+-- 3 "Above a row loop", 4 "Repeat loops" (docs/RULES.md, "A complete plan").
 use Rattle.std.specs.Prelude.{ℕ, Bool, true, false, not, ◌&&◌, ◌||◌, length, eqb, ltb}
 use Rattle.nest.specs.Lists.{once, on, times, is}
 use Rattle.nest.specs.Outline.{Outline, row_table, item_loops, item_segments, loop_of, table_of, kind_of, order_of, segment_of, table_parent, plain, repeated}

@@ -1,4 +1,5 @@
--- A step upwards from a loop (condition 3): it ends well, it ends badly, or it goes on from the loop above, with the table whose row loop came last.
+-- A step upwards from a loop (docs/RULES.md, "Above a row loop"): it ends well, it ends badly, or it goes on from the loop above, with the table whose
+-- row loop came last.
 use Rattle.std.specs.Prelude.{ℕ, Bool, true, false}
 use Rattle.nest.specs.Outline.{Outline}
 use Rattle.walk.specs.Check.{fits}

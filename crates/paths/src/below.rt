@@ -1,5 +1,4 @@
-// Tests of the numbers below n. Loops of their own, for the reason in `nest::seek`; `each` is no `!some`: its definition (`each_below`) joins by `&&`,
-// and a proof would have to turn it round.
+// Tests of the numbers below n, as loops, for the reason in `nest::seek`.
 ghost use Rattle.std.specs.Prelude.{ℕ, ◌≡◌, ◌≤◌, ◌<◌, Bool};
 ghost use Rattle.nest.specs.Seek.{AnswersAs};
 ghost use Rattle.walk.specs.Check.{each_below, how_many};

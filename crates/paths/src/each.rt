@@ -12,7 +12,7 @@ use crate::up::row_fits;
 use nest::Job;
 use spec::ids::{LoopId, TableId};
 
-// 1: every table without repeat segment has one row loop.
+// Row loops: every table without repeat segment has one.
 pub fn tables_once(job: Job) -> bool
     ensures { result ≡ each_table (outline_by job.entry) (one_row_loop (outline_by job.entry)) }
 {
@@ -27,14 +27,14 @@ fn loop_plain(job: Job, l: LoopId) -> bool
     plain_named(job, kind(job, l))
 }
 
-// 1: no loop names another table.
+// Row loops: no loop names a repeat table, or one that the spec lacks.
 pub fn loops_plain(job: Job) -> bool
     ensures { result ≡ each_loop (outline_by job.entry) (names_plain (outline_by job.entry)) }
 {
     each(loops(job), |l| loop_plain(job, LoopId(l)))
 }
 
-// 2: every parent has no repeat segment.
+// Entries and orders: every parent has no repeat segment.
 pub fn parents_plain(job: Job) -> bool
     ensures { result ≡ each_table (outline_by job.entry) (parent_plain (outline_by job.entry)) }
 {
@@ -67,21 +67,21 @@ fn loop_ordered(job: Job, l: LoopId) -> bool
     order_loops(job, l) && segments_ordered(job, l) && only_planned(job, l)
 }
 
-// 2: every order lists each child loop and each planned segment once, and nothing more.
+// Entries and orders: every order lists each child loop and each planned segment once, and nothing more.
 pub fn loops_ordered(job: Job) -> bool
     ensures { result ≡ each_loop (outline_by job.entry) (loop_ordered (outline_by job.entry)) }
 {
     each(loops(job), |l| loop_ordered(job, LoopId(l)))
 }
 
-// 3: what stands above every row loop fits its table.
+// Above a row loop: what stands above every row loop fits its table.
 pub fn loops_fit(job: Job) -> bool
     ensures { result ≡ each_loop (outline_by job.entry) (row_fits (outline_by job.entry)) }
 {
     each(loops(job), |l| row_fits(job, LoopId(l)))
 }
 
-// 4: every row loop that anchors a repeat table plans one repeat segment of it.
+// Repeat loops: every row loop that anchors a repeat table plans one repeat segment of it.
 pub fn tables_planned(job: Job) -> bool
     ensures { result ≡ each_table (outline_by job.entry) (repeat_planned (outline_by job.entry)) }
 {
@@ -98,7 +98,7 @@ fn segments_anchored(job: Job, l: LoopId) -> bool
     )
 }
 
-// 4: no other repeat segment is planned.
+// Repeat loops: no other repeat segment is planned.
 pub fn loops_anchored(job: Job) -> bool
     ensures { result ≡ each_loop (outline_by job.entry) (loop_anchored (outline_by job.entry)) }
 {

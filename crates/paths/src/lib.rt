@@ -1,4 +1,4 @@
-// The plan check, conditions 1 to 4 of document 01.
+// The plan check but for places: the first four conditions of a complete plan (docs/RULES.md, "A complete plan").
 #![tactic(auto)]
 
 ghost use Rattle.std.specs.Prelude.{◌≡◌, eqb, get_or, [], ◌∷◌};
@@ -49,7 +49,7 @@ pub fn entries_fit(job: Job) -> bool
     data == all
 }
 
-// Condition 1: row loops.
+// Row loops of a complete plan (docs/RULES.md, "Row loops").
 #[tactic(auto, unfolding(crate::specs::Tests::condition1))]
 pub fn rows_fit(job: Job) -> bool
     ensures { result ≡ condition1 (outline_by job.entry) }
@@ -57,14 +57,14 @@ pub fn rows_fit(job: Job) -> bool
     tables_once(job) && loops_plain(job)
 }
 
-// Condition 2: entries, parents and orders.
+// Entries, parents and orders of a complete plan (docs/RULES.md, "Entries and orders").
 pub fn orders_fit(job: Job) -> bool
     ensures { Decides result (Orders (job_by job.entry)) }
 {
     entries_fit(job) && parents_plain(job) && loops_ordered(job)
 }
 
-// Condition 3: what stands above a row loop.
+// What stands above a row loop of a complete plan (docs/RULES.md, "Above a row loop").
 #[tactic(auto, unfolding(crate::specs::Tests::condition3))]
 pub fn paths_fit(job: Job) -> bool
     ensures { result ≡ condition3 (outline_by job.entry) }
@@ -72,8 +72,8 @@ pub fn paths_fit(job: Job) -> bool
     loops_fit(job)
 }
 
-// Condition 4: repeat segments. The tables come first: where they pass, a loop plans one repeat segment of each table that it anchors, so that no table's
-// list of loops is gone through more than once a loop afterwards.
+// Repeat segments of a complete plan (docs/RULES.md, "Repeat loops"). The tables come first: where they pass, a loop plans one repeat segment of each
+// table that it anchors, so that no table's list of loops is gone through more than once a loop afterwards.
 #[tactic(auto, unfolding(crate::specs::Tests::condition4))]
 pub fn repeats_fit(job: Job) -> bool
     ensures { result ≡ condition4 (outline_by job.entry) }

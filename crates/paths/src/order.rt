@@ -1,4 +1,4 @@
-// Orders (condition 2).
+// Orders of a complete plan (docs/RULES.md, "Entries and orders").
 ghost use Rattle.std.specs.Prelude.{◌≡◌, ◌<◌, eqb, ltb, length};
 ghost use Rattle.format.specs.Ask.{order_of};
 ghost use Rattle.plan.specs.Answers.{item_of};

@@ -1,4 +1,4 @@
-// Row loops and repeat segments (conditions 1 and 4).
+// Row loops and repeat segments of a complete plan (docs/RULES.md, "Row loops" and "Repeat loops").
 ghost use Rattle.std.specs.Prelude.{◌≡◌, ◌<◌, not, ◌||◌, eqb, ltb};
 ghost use Rattle.plan.specs.Answers.{source_of};
 ghost use Rattle.nest.specs.Lists.{is, times};

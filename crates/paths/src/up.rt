@@ -1,4 +1,4 @@
-// From a row loop upwards (condition 3).
+// From a row loop upwards (docs/RULES.md, "Above a row loop").
 ghost use Rattle.std.specs.Prelude.{◌≡◌, ℕ, suc, ◌<◌, eqb, length, true, false, ◌&&◌};
 ghost use Rattle.plan.specs.Answers.{instances_of};
 ghost use Rattle.nest.specs.Lists.{is, on};
@@ -16,7 +16,7 @@ use plan::answers::Instances;
 use spec::ids::{LoopId, TableId};
 use walk::parent_is;
 
-// What a step upwards gives: an end, well or not, or the loop above and the table whose row loop came last. Three ways, so neither Option nor Result is plainer.
+// What a step upwards gives: an end, well or not, or the loop above and the table whose row loop came last.
 #[derive(Clone, Copy)]
 pub enum Up {
     No,

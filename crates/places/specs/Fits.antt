@@ -1,4 +1,4 @@
--- Condition 5 of a complete plan (document 01): the fields of `CompletePlan` that speak of places, separators and codes.
+-- Places of a complete plan (docs/RULES.md, "Places"): the fields of `CompletePlan` that speak of places, separators and codes.
 use Rattle.format.specs.Job.{Job}
 use Rattle.complete.specs.Complete.{Segments, SegmentFits, SeparatorsAlone, CodesClear}
 use Rattle.codes.specs.Fits.{MapsFit, RulesFit}

@@ -1,5 +1,5 @@
--- The places of a planned segment, as tests (document 01, "A complete plan", 5). Collisions in a full chunk are found by arithmetic on element, step and
--- reach, and not by listing places.
+-- The places of a planned segment, as tests (docs/RULES.md, "Places"). Collisions in a full chunk are found by arithmetic on element, step and reach, and
+-- not by listing places.
 use Rattle.std.specs.Prelude.{ℕ, ◌-◌, ◌/◌, ◌%◌, max, List, [], ◌∷◌, Bool, true, false, not, leb, ltb, eqb}
 use Rattle.codec.specs.Codec.{pick}
 use Rattle.codec.specs.Limits.{any, any_of}

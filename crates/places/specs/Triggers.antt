@@ -1,4 +1,4 @@
--- Envelope fields that give a separator, as tests (document 01, "A complete plan", 5): such a field is planned at no component.
+-- Envelope fields that give a separator, as tests (docs/RULES.md, "Places"): such a field is planned at no component.
 use Rattle.std.specs.Prelude.{ℕ, List, [], Bool, true, false, not, eqb}
 use Rattle.codec.specs.Codec.{pick}
 use Rattle.codec.specs.Limits.{any_of}

@@ -1,4 +1,4 @@
-// Condition 5 of a complete plan (document 01): places, separators and codes, judged where the job stands.
+// Places of a complete plan (docs/RULES.md, "Places"): places, separators and codes, judged where the job stands.
 #![tactic(auto)]
 
 mod job_section;
@@ -50,7 +50,7 @@ pub fn separators_alone(job: Job) -> bool
     !triggers::loops_wrong(plan_of(job), at as usize)
 }
 
-// Condition 5, where the plan has one entry a loop.
+// Places of a complete plan, where the plan has one entry a loop.
 pub fn places_fit(job: Job) -> bool
     requires { length (job_by job).plan ≡ length (job_by job).spec.loops }
     ensures { Decides result (Fits5 (job_by job.entry)) }

@@ -53,7 +53,7 @@ impl Filled {
 
 // ---- two places
 
-// That x is not behind y ties two arguments: a struct of both would be made for each pair that is tried, and be no plainer.
+// Whether y is the place of one of r rows whose places start at x and lie `step` apart; x is not behind y.
 fn hit(step: usize, r: usize, x: usize, y: usize) -> bool
     requires { x ≤ y }
     ensures { result ≡ hits step r x y }

@@ -21,9 +21,8 @@ pub enum Source {
 }
 
 // A planned segment: whether the plan has it, what fills it, which occurrence of its loop it is, how many elements it has and from where on they stand.
-// An Option would be no plainer: past the plan's last segment the definitions go by these values all the same (`planned_of`), and three of the four
-// callers take them without asking whether it is there. Which segment it is (`PlannedIs`) is asked, and no
-// ghost field: a ghost field holds a fact of several proofs, as this, only truncated, to be opened by each proof that uses it; no plainer.
+// Past the plan's last segment the values are those of `planned_of`, and most callers take them without asking whether the segment is there. Which
+// segment it is (`PlannedIs`) is asked by who uses it.
 #[derive(Clone, Copy)]
 pub struct Planned {
     pub there: bool,

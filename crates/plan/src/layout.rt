@@ -52,7 +52,7 @@ pub fn item(job: Indexed, l: LoopId, k: u32) -> Item
     ensures { item_of result ≡ get_or (order_of (job_of job.entry.bytes.now) l.0) k no_item }
 {
     let o = order(job, l);
-    // an Option would be no plainer: past the order's end the definitions go by this item (`no_item`)
+    // past the order's end the definitions go by this item (`no_item`)
     if o.count <= k {
         return Item::Segment(0);
     }

@@ -117,8 +117,8 @@ pub fn value_at(job: &[u8], element: u32, component: Option<u32>, at: usize) -> 
     }
 }
 
-// The planned element that stands at a place, and the place behind it. The callers' loops over the elements are no one function: each keeps a state of
-// its own from element to element, with a clause of its own on it, so that the closure and its clause would be as long as the loop.
+// The planned element that stands at a place, and the place behind it. Callers go through the elements in loops of their own, since each keeps another
+// state from element to element.
 pub fn element_at(job: &[u8], at: usize) -> ElementPlan
     requires { Stands element_plan_c job.now at }
     ensures { (e : ℕ) (v : ElementPlanIn) → e ≤ length job.now → Is element_plan_c job.now e at v → ElementRead job.now e at v result }

@@ -1,4 +1,4 @@
--- The numbers of document 01's table ("What a call gives back"): of each refusal, and of an answer, 0 where there is no refusal from 1 to 5.
+-- The number of each refusal, and of an answer: 0 where there is no refusal from 1 to 5 (docs/RULES.md, "Answers").
 use Rattle.std.specs.Prelude.{ℕ, Result, Ok, Err}
 use Rattle.refusal.specs.declared.Refusal.{Refusal}
 use Rattle.refusal.specs.declared.Refusal.TheVariants.{Size, Structure, Limit, Loops, Text}

@@ -1,22 +1,29 @@
-// Whether a job is refused, and with which of document 01's numbers 1 to 5: the lowest that applies. Judged where the job stands.
+// Whether a job is refused, and with which of the numbers 1 to 5: the lowest that applies. Judged where the job stands.
 #![tactic(auto)]
 
 ghost use Rattle.std.specs.Prelude.{◌≡◌};
 ghost use Rattle.format.specs.Refusal.{refusal_of};
 ghost use Rattle.refusal.specs.Answer.{number, number_of};
 
-// What a job is refused for.
+/// Why a job is refused before anything of it is written, in the order in which the reasons are tried: where several apply, the first of them is told
+/// (docs/RULES.md, "Answers").
 #[derive(Clone, Copy, Debug, PartialEq, Eq)]
 pub enum Refusal {
+    /// Refusal 1: the job is shorter than 24 bytes or longer than 65,536, or its trailer is broken (docs/RULES.md, "Answer 1").
     Size,
+    /// Refusal 2: a section of the job isn't the structure that it should be, or has bytes over (docs/RULES.md, "Answer 2").
     Structure,
+    /// Refusal 3: the job has more of something than the writer takes, as of loops, tables or rows (docs/RULES.md, "Answer 3" and "Limits").
     Limit,
+    /// Refusal 4: the loop numbers don't fit: one is out of range, parents, children and roots make no forest, or an order names a loop that isn't its
+    /// child, or one twice (docs/RULES.md, "Answer 4").
     Loops,
+    /// Refusal 5: separators that are equal or textual, an identifier, a scale, or a text that isn't ASCII (docs/RULES.md, "Answer 5").
     Text,
 }
 
 impl Refusal {
-    // Document 01's number.
+    /// The refusal's number, 1 to 5: `Size` 1, `Structure` 2, `Limit` 3, `Loops` 4, `Text` 5. C callers get it as the answer.
     pub fn number(self) -> u32
         ensures { result ≡ number self }
     {
@@ -30,6 +37,9 @@ impl Refusal {
     }
 }
 
+/// Whether the bytes of a job can be written from: `Ok` where none of the refusals 1 to 5 applies, otherwise the one with the lowest number, each judged
+/// over the whole job (docs/RULES.md, "Answers"). Takes any bytes of any length; nothing is changed. Refusals 6 and 7 aren't tried here: 6 needs the walk
+/// over the job's rows, 7 the lists that `baktuven::write` is lent.
 #[tactic(auto, using(format::specs::Passed::refused_1, format::specs::Passed::refused_2, format::specs::Passed::refused_3, format::specs::Passed::refused_4, format::specs::Passed::refused_5, format::specs::Passed::refused_not))]
 pub fn check(job: &[u8]) -> Result<(), Refusal>
     ensures { number_of result ≡ refusal_of job.now }

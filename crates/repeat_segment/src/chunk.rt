@@ -4,8 +4,7 @@ ghost use Rattle.std.specs.Prelude.{◌≤◌, length};
 use crate::planned::Planned;
 use nest::Job;
 
-// The rows of a chunk, and the planned segment that they fill. That the segment is one of the job (`Of`) is asked, and no ghost field: a ghost field
-// holds a fact of several proofs, as this, only truncated, and every proof that goes along the planned elements would have to open it first; no plainer.
+// The rows of a chunk, and the planned segment that they fill. That the segment is one of the job (`Of`) is asked by what uses it.
 #[derive(Clone, Copy)]
 pub struct Chunk<'a> {
     pub job: Job<'a>,

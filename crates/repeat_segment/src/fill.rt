@@ -29,8 +29,7 @@ use plan::answers::ElementPlan;
 use plan::read;
 use spec::ids::RowId;
 
-// Whether a cell has no finding wherever it stands: null, a number, or bytes that hold no separator. That d has the job's separators is no ghost field of
-// `Delimiters`, which hold no job; a struct of both would be made once a row, and leave `Of` in each contract (`chunk::Chunk` has the reason).
+// Whether a cell has no finding wherever it stands: null, a number, or bytes that hold no separator.
 fn quiet(job: &[u8], cell: Cell, d: Delimiters) -> bool
     requires { Passed job.now × (tried d ≡ separators (job_of job.now).envelope) }
     ensures { (o : Origin) (p : Place) (max : Width) → result ≡ true → found_on o p (cell_text (or_null (cell_at job.now cell)) max) (tried d) ≡ [] }

@@ -111,8 +111,7 @@ pub fn highest_in(chunk: Chunk, q: Option<u32>) -> u32
     best
 }
 
-// Whether every planned element is at 1 or behind. `due::some_column` asks of their columns in such a loop: one function for both would take a closure over
-// an element, and say of it what each of the two contracts says, for two loops of six lines.
+// Whether every planned element is at 1 or behind.
 fn all_above(job: &[u8], s: Planned) -> bool
     requires { Of job.now s }
     ensures { result ≡ all_above (plans_of job.now s) }

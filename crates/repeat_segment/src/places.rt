@@ -28,9 +28,8 @@ pub fn moved(element: u32, step: u32, k: u32) -> u32
     element + k * step
 }
 
-// The place of a planned element for row number k. Of the three bounds none is a ghost field: an `ElementPlan` is read from any bytes, with any element; the
-// step's is part of `Of`; k counts the rows of a chunk, by the side of a row or, where the order is looked at, alone, and a number with its bound
-// would be unwrapped wherever it is counted with.
+// The place of a planned element for row number k. The three bounds are for the sum: of an element read from the job, of the table's step, and of k,
+// which counts the rows of a chunk.
 pub fn place_of(e: ElementPlan, step: u32, k: u32) -> Option<u32>
     requires { (e.element ≤ 255) × (step ≤ 255) × (k < 256) }
     ensures { (b : List ℕ) → result ≡ place_in step k (element_of b e) }
@@ -43,8 +42,7 @@ pub fn place_of(e: ElementPlan, step: u32, k: u32) -> Option<u32>
     }
 }
 
-// The row number for which an element moved by the step stands at another place p, or 256. No Option, as at `row_at`, whose answer this is: no chunk
-// has a row 256.
+// The row number for which an element moved by the step stands at another place p, or 256: no chunk has a row of that number.
 fn group_row(element: u32, step: u32, p: u32) -> u32
     ensures { (result < 256 → element + result * step ≡ p) × ((m : ℕ) → m < result → element + m * step ≡ p → element ≡ p) }
 {
@@ -60,8 +58,7 @@ fn group_row(element: u32, step: u32, p: u32) -> u32
     256
 }
 
-// The lowest row number for which a planned element stands at p; 256 and more: none.
-// No Option: a row that no chunk has is as good as none, so callers compare the number with the count of the rows in any case.
+// The lowest row number for which a planned element stands at p; 256 and more: none. Callers compare it with the count of the rows.
 pub fn row_at(e: ElementPlan, step: u32, p: u32) -> u32
     ensures { (b : List ℕ) → Lowest step p result (element_of b e) }
 {
@@ -78,7 +75,7 @@ pub fn row_at(e: ElementPlan, step: u32, p: u32) -> u32
 
 // ---- texts
 
-// What gives a planned element its text: a column's cell, or a code. row_segment has the same cases, for its parts (a line there).
+// What gives a planned element its text: a column's cell, or a code.
 #[derive(Clone, Copy)]
 pub enum Source {
     Cell(u32),

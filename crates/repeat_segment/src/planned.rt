@@ -8,7 +8,7 @@ use spec::ids::{LoopId, Stretch, TableId};
 use spec::loops;
 
 // A planned segment: its loop and its number there, its table and that table's step, its identifier, where its elements stand and how many.
-// That it is the job's (`Of`) is no ghost field, neither here nor at `Chunk`, which has the job too; the reason stands there.
+// That it is the job's (`Of`) is asked by what uses it.
 #[derive(Clone, Copy)]
 pub struct Planned {
     pub l: LoopId,

@@ -16,7 +16,7 @@ use segment::Value;
 use spec::ids::RowId;
 
 // A planned element and the number of the row for which it stands at a place. Where none is found, the number is the count of the rows:
-// any row of the chunk comes before it, so no case of its own is needed.
+// any row of the chunk comes before it.
 #[derive(Clone, Copy)]
 pub struct First {
     pub row: u32,

@@ -23,8 +23,7 @@ use repeat_segment::{fill_row, write_chunk};
 use spec::ids::{LoopId, RowId, TableId};
 use walk::Nest;
 
-// A repeat table: where its rows stand among all, up to which of them they are gone through, and how many go into a segment. No `nest::TableRows`: it is
-// made of the job alone (`table_of`), and the definitions (`PartIs`, `left`) take nest's list beside it, which would stand in both then.
+// A repeat table: where its rows stand among all, up to which of them they are gone through, and how many go into a segment.
 #[derive(Clone, Copy)]
 pub struct Table {
     pub t: TableId,
@@ -49,9 +48,7 @@ pub struct Repeated {
 }
 
 // A chunk that rows are still added to: the table's highest row, the counts, how many segments stand before it, its first row, and how many rows it has.
-// That it is filled as it should be (`Holds`) speaks of the table and of the list of rows too. A struct of all three is no plainer: it would borrow that
-// list in order to write to it, and each function that adds a row would take it apart and make it anew. The room for its segments is asked by what is
-// still to be written, and that a row is the table's of the job, the table and the row, which stand in no struct together: no plainer by one for this alone.
+// That it is filled as it should be (`Holds`) is said of the table and of the list of rows too.
 #[derive(Clone, Copy)]
 pub struct Chunk {
     pub mark: Mark,
@@ -82,8 +79,7 @@ fn table_of(job: Job, t: TableId) -> Table
     }
 }
 
-// The rows of table t that may go into an instance that row p opens: where the rows hang on rising rows, those that hang on p. That p is below 4096 is no
-// ghost field of `RowId`: repeat_segment makes one of each number in a chunk, of which it knows no bound.
+// The rows of table t that may go into an instance that row p opens: where the rows hang on rising rows, those that hang on p.
 fn part_of(nest: Nest, t: TableId, p: RowId) -> Part
     requires { (p.0 < 4096) × (repeated (outline_by nest.job) t.0 ≡ true) }
     ensures { (l : ℕ) → PartIs nest.entry.job.at.bytes.now nest.entry.array.now t.0 l p.0 result }
@@ -272,7 +268,7 @@ fn add_rows(
     };
     let mut c = first;
     let mut k = from;
-    // No `for`: each row tells where the next is looked for.
+    // each row tells where the next is looked for
     while let Some(r) = all.next_hooked(k, s.l, p) {
         c = add_next(nest, rows, doc, segments, findings, stops, c, s, w, r);
         k = r.0 as usize + 1;
@@ -377,7 +373,7 @@ pub fn write_repeats(
 {
     let again = spec::tables::repeats(nest.job.at, t);
     if again {
-        // An array, no `Vec`: the project has no heap; no more than 255 rows go into a segment.
+        // no more than 255 rows go into a segment
         let mut rows: [u32; 256] = [0; 256];
         return write_hooked(
             nest, &mut rows, doc, segments, findings, stops, m, c, l, i, t, p,

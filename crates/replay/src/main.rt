@@ -27,7 +27,7 @@ fn replay(rt: &(impl Print + Eprint), s: &[u8], at: usize) -> io::Result<usize>
 fn all(rt: &(impl Print + Eprint), s: &[u8]) -> io::Result<()> {
     if s.len() < 4000000 {
         let mut at: usize = 0;
-        // No `for`: each job tells where the next stands.
+        // each job tells where the next stands
         while at < s.len() {
             at = replay(rt, s, at)?;
         }

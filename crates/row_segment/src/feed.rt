@@ -20,8 +20,7 @@ use emit::{cells, findings, signs};
 use nest::Job;
 use segment::{Pen, Separators};
 
-// The pen behind a part, how many numbers of findings there are then, and how many trace entries. They go in apart (`pen`, `from`, `entries`): put_parts
-// keeps each for itself, and would put them together for every part alone, to be taken apart again below.
+// The pen behind a part, how many numbers of findings there are then, and how many trace entries.
 #[derive(Clone, Copy)]
 pub struct Behind {
     pub pen: Pen,
@@ -54,8 +53,7 @@ fn put_stretch(
     }
 }
 
-// A cell that was read, and whose text is its own: it holds no separator. repeat_segment puts such a text alike, but notes no reason there: one
-// function for both would hand the reason out, and be no plainer.
+// A cell that was read, and whose text is its own: it holds no separator.
 fn put_own(
     job: Job,
     doc: &mut [u8],
@@ -121,8 +119,7 @@ fn put_value(
     }
 }
 
-// A cell: a stretch of the job or a text of its own; one that holds a separator goes by its value. That d has the job's separators is no ghost field of
-// `Delimiters`, which hold no job; a struct of both would be made once a line, and leave `Lined` in each contract.
+// A cell: a stretch of the job or a text of its own; one that holds a separator goes by its value.
 fn put_cell(
     job: Job,
     doc: &mut [u8],

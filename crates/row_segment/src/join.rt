@@ -32,7 +32,7 @@ fn scan(job: Job, findings: &mut [u64], t: Tally, x: Line, y: Tried, n: Look, e:
     let mut a = n;
     let mut s = t;
     let mut m: usize = 0;
-    // No `for`: the cursor over the planned elements counts itself.
+    // the cursor over the planned elements counts itself
     while let Some(p) = a.part {
         if p.element != e {
             return Scanned {
@@ -61,7 +61,7 @@ fn component_value(job: Job, x: Line, n: Look, e: u32, c: u32) -> Value
     ensures { value_text job.entry.at.bytes.now result ≡ component_text (here e (ahead job.entry.at.bytes.now x n).parts) c }
 {
     let mut a = n;
-    // No `for`: the cursor over the planned elements counts itself.
+    // the cursor over the planned elements counts itself
     while let Some(p) = a.part {
         if p.element != e {
             return segment::held(0, 0);
@@ -130,7 +130,7 @@ fn put_groups(
     let mut q = pen;
     let mut u = t;
     let mut done: usize = 1;
-    // No `for`: the cursor over the planned elements counts itself.
+    // the cursor over the planned elements counts itself
     while let Some(p) = a.part {
         let place = p.element as usize;
         if place < done {

@@ -50,8 +50,7 @@ fn join_line(
     }
 }
 
-// The row segment of a line, written and traced. That counts are within the cap, `Within`, is no ghost field of theirs: `state::finish_segment` makes
-// counts of any numbers, and each step's contract says of the ones behind it what they are.
+// The row segment of a line, written and traced.
 fn put_line(
     job: Job,
     doc: &mut [u8],

@@ -18,8 +18,7 @@ use emit::{findings, signs};
 use nest::Job;
 use texts::render::Refused;
 
-// How many numbers of findings there are, how many trace entries, and the last filled element. That entries find room is asked where they are counted:
-// how much room there has to be goes by what is still to come.
+// How many numbers of findings there are, how many trace entries, and the last filled element. That entries find room is asked where they are counted.
 #[derive(Clone, Copy)]
 pub struct Tally {
     pub findings: usize,
@@ -27,8 +26,7 @@ pub struct Tally {
     pub last: usize,
 }
 
-// The end of a segment, how many numbers of findings there are then, and its trace entries. `trigger::opener::Put` has the same three fields. One struct
-// for both is no plainer: it would stand in `emit`, and the sources and definitions of both crates would import it in the place of these five lines.
+// The end of a segment, how many numbers of findings there are then, and its trace entries.
 #[derive(Clone, Copy)]
 pub struct Ended {
     pub bytes: usize,
@@ -36,7 +34,7 @@ pub struct Ended {
     pub entries: usize,
 }
 
-// The identifier as a number, and the separators that texts are tried for. That they are a line's (`Tries`) speaks of the job and the line too.
+// The identifier as a number, and the separators that texts are tried for. `Tries` says that they are a line's.
 #[derive(Clone, Copy)]
 pub struct Tried {
     pub name: u64,
@@ -55,8 +53,7 @@ pub fn tried_of(job: Job, x: Line) -> Tried
     }
 }
 
-// The findings on a cell's text. repeat_segment takes the same steps; one function for both would take the spot by value, which repeat_segment, that
-// has no number of the identifier at hand, would make for a text without a finding too. It would save the test alone, and be no plainer.
+// The findings on a cell's text.
 fn note_cell(
     job: &[u8],
     findings: &mut [u64],
@@ -148,7 +145,7 @@ pub fn note_rest(job: Job, findings: &mut [u64], t: Tally, x: Line, y: Tried, n:
 {
     let mut s = t;
     let mut a = n;
-    // No `for`: the cursor over the planned elements counts itself.
+    // the cursor over the planned elements counts itself
     while let Some(p) = a.part {
         let w = parts::text_of(job, x, p);
         s = note_text(job.at.bytes, findings, s, x, y, p, w);

@@ -12,8 +12,7 @@ use plan::answers::{ElementPlan, Planned as PlannedSegment, ValueSource};
 use spec::ids::{LoopId, RowId, Stretch, TableId};
 
 // A planned segment of a loop, with its identifier, how many elements it has and from where on they stand, and the row that fills it. That it is the
-// job's (`Lined`) is asked, and no ghost field: a ghost field holds a fact of several proofs, as this, only truncated, and every proof that goes along
-// the planned elements would have to open it first; no plainer. The lists that are lent stay beside it, as in `writer`.
+// job's (`Lined`) is asked by what uses it.
 #[derive(Clone, Copy)]
 pub struct Line {
     pub l: LoopId,
@@ -25,8 +24,7 @@ pub struct Line {
     pub r: RowId,
 }
 
-// What gives a part its text. repeat_segment has the same cases, made of other values: a `Group` value is no part here (`seen`), and a cell there. A type
-// for both, of two cases and without a function, would put imports of emit in the sources and the definitions of both in the place of four lines.
+// What gives a part its text. A `Group` value is no part here (`seen`); in a repeat segment it is a cell.
 #[derive(Clone, Copy)]
 pub enum Source {
     Cell(u32),
@@ -40,8 +38,8 @@ pub struct Planned {
     pub source: Source,
 }
 
-// The next part, if there is one; the number and the place of the planned element behind it. That it looks on from where it stands (`Sees`), and that
-// the entries behind it find room (`Room`), speak of the job and the line too, as `Line` says of its own.
+// The next part, if there is one; the number and the place of the planned element behind it. `Sees` says that it looks on from where it stands, `Room`
+// that the entries behind it find room.
 #[derive(Clone, Copy)]
 pub struct Look {
     pub part: Option<Planned>,
@@ -121,8 +119,7 @@ pub fn first_part(job: Job, x: Line) -> Look
     next_part(job, x, 0, x.first)
 }
 
-// The text of a part, and the reason why it has none. repeat_segment's `text` has the same two arms: one function for both would take the job, the
-// identifier, the table, the row, the element, the component and the source, to call one of two functions with them, and be no plainer.
+// The text of a part, and the reason why it has none.
 pub fn text_of(job: Job, x: Line, p: Planned) -> Written
     requires { Lined job.at.bytes.now x }
     ensures { Writes job.entry.at.bytes.now result (outcome_of job.entry.at.bytes.now x p) }

@@ -34,8 +34,7 @@ struct Visited {
     pub instances: usize,
 }
 
-// Every instance of loop l in a context, so many levels deep. `Walks` stays a clause: it is of the state and the context, and each of them changes while
-// the other stands.
+// Every instance of loop l in a context, so many levels deep.
 #[cycle(items_visits)]
 fn visits(
     nest: Nest,
@@ -62,7 +61,7 @@ fn visits(
     let mut cur = instances(nest, l, c, height);
     let mut written: usize = 0;
     let mut n: usize = 0;
-    // No `for`: the cursor of the instances counts itself.
+    // the cursor of the instances counts itself
     while let Some(next) = next_instance(nest, cur) {
         let d = context_in(cur, next);
         enter_own(nest, findings, stops, s, l, d);

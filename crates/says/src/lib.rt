@@ -3,14 +3,13 @@
 
 pub mod lists;
 
-// That the job isn't broken, and its sections not spoilt, is asked where a test of refusals 3 to 5 begins: `refusal::check`, their one caller, has told
-// it, and a struct that says it would be made there for each test alone.
+// Where a test of refusals 3 to 5 begins, it asks that the job isn't broken and its sections not spoilt: `refusal::check`, their one caller, has tested
+// that before.
 ghost use Rattle.std.specs.Prelude.{◌≡◌, ◌+◌, ◌-◌, length, false};
 ghost use Rattle.codec.specs.Codec.{le};
 ghost use Rattle.format.specs.Sections.{broken};
 
-// One of the trailer's numbers: k is its place there. Not `spec::read::start`: each caller here knows that the job isn't broken, which by that
-// one's clause would be two bounds to show at each call.
+// One of the trailer's numbers, of a job that isn't broken: k is its place there.
 pub fn start(b: &[u8], k: u8) -> u32
     requires { broken b.now ≡ false }
     ensures { result ≡ le 4 b.now (length b.now - 24 + k) }

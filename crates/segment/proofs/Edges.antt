@@ -1,4 +1,4 @@
--- Segments written out: the definitions, computed. The first two are document 01's edge values; the others are what the Rust writes where
+-- Segments written out: the definitions, computed. The first two are edge values (docs/RULES.md, "Edge values"); the others are what the Rust writes where
 -- places repeat, do not rise or start at 0.
 use Prim.Native.Nat.{ℕ}
 use Prim.Native.Char.{code}

@@ -36,7 +36,7 @@ fed = record { element = 42; component = 58; segment = 10; line_break = true }
 three : List Segment
 three = segment "CLP" ("A1" ∷ []) ∷ segment "SVC" ("HC" ∷ "100" ∷ []) ∷ segment "CLP" ("B2" ∷ []) ∷ []
 
--- document 01's listing, read and written
+-- the document of docs/RULES.md, "The listing", read and written
 listing_read : read_document usual (bytes "CLP*A1~SVC*HC*100~CLP*B2~") ≡ Some three
 unfolding read_document read_up_to front feed ahead cut usual three segment bytes
 listing_read = refl
@@ -78,7 +78,7 @@ stray = refl
 
 -- ---- places
 
--- components HC, empty, X (document 01, "Edge values"): written, and read at each place
+-- components HC, empty, X (docs/RULES.md, "Edge values"): written, and read at each place
 hc_x : component_bytes usual (trimmed (bytes "HC" ∷ [] ∷ bytes "X" ∷ [] ∷ [])) ≡ bytes "HC::X"
 unfolding component_bytes trimmed behind usual bytes
 hc_x = refl

@@ -1,4 +1,4 @@
--- The grammar of a document (X12.6; document 01, "Grammar"): a document is segments, their list its reading; a segment is an identifier, not
+-- The grammar of a document (X12.6; docs/RULES.md, "Grammar"): a document is segments, their list its reading; a segment is an identifier, not
 -- empty, elements each behind an element separator, the terminator (neither byte inside identifier or element), then one line feed if line
 -- breaks are on. An element planned with components is read at the component separator. A place past the end reads as empty.
 use Rattle.std.specs.Prelude.{ℕ, ◌≡◌, ◌≢◌, List, [], ◌∷◌, ◌++◌}
@@ -32,7 +32,7 @@ pub record Plain (s : Separators) (text : List ℕ) : Type 0 where
   pub no_element : Without s.element text
   pub no_segment : Without s.segment text
 
--- the separators differ (document 01, refusal 5)
+-- the separators differ; a job in which two are equal is refused (docs/RULES.md, "Answer 5")
 pub record Apart (s : Separators) : Type 0 where
   pub element_segment : s.element ≢ s.segment
   pub element_component : s.element ≢ s.component

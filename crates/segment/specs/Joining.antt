@@ -1,4 +1,4 @@
--- A segment's bytes (X12.6; document 01, "Grammar"): the identifier, each element behind an element separator, the terminator, then one line
+-- A segment's bytes (X12.6; docs/RULES.md, "Joining"): the identifier, each element behind an element separator, the terminator, then one line
 -- feed if line breaks are on. A composite element is its components with the component separator between them.
 use Rattle.std.specs.Prelude.{ℕ, Bool, true, false, List, [], ◌∷◌, ◌++◌}
 use Rattle.segment.specs.declared.Separators.{Separators}

@@ -1,4 +1,4 @@
--- From the parts of a segment to its elements (document 01, `write/render.rs`; the reference is the Rust's `write_segment`).
+-- From the parts of a segment to its elements (the Rust's `write_segment` in write/render.rs; docs/RULES.md, "Joining").
 -- Trailing empty elements and components go. Of parts at one place the first stands.
 use Rattle.std.specs.Prelude.{ℕ, zero, suc, ◌+◌, max, Bool, true, false, List, [], ◌∷◌, eqb, leb, ltb, Option, None, Some}
 use Rattle.segment.specs.declared.Separators.{Separators}

@@ -1,5 +1,6 @@
--- Writing a segment in the standard's sequence (X12.6): identifier, then for each filled place the separators that are still due and its text,
--- then the terminator. A pen holds how many bytes are written, how many element separators, and how many component separators in that element.
+-- Writing a segment in the standard's sequence (X12.6; docs/RULES.md, "Joining"): identifier, then for each filled place the separators that are
+-- still due and its text, then the terminator. A pen holds how many bytes are written, how many element separators, and how many component separators
+-- in that element.
 use Rattle.std.specs.Prelude.{ℕ, ◌-◌, ◌≤◌, ◌≡◌, Bool, true, false, List, [], ◌∷◌, ◌++◌, take, replicate, eqb, ltb}
 use Rattle.lent.specs.Fit.{stretch, Stored}
 use Rattle.segment.specs.declared.Separators.{Separators}

@@ -1,5 +1,5 @@
--- The texts at a segment's places (document 01, "Grammar": an element planned with components is read at the component separator; a place past
--- the end reads as empty), and elements and components made of texts ("render.rs": trailing empty elements and components go).
+-- The texts at a segment's places (docs/RULES.md, "Grammar": an element planned with components is read at the component separator; a place past
+-- the end reads as empty), and elements and components made of texts ("Joining": trailing empty elements and components go).
 use Rattle.std.specs.Prelude.{ℕ, zero, suc, ◌≤◌, ◌<◌, ◌≡◌, ◌≢◌, List, [], ◌∷◌, get_or}
 use Rattle.segment.specs.declared.Separators.{Separators}
 use Rattle.segment.specs.Grammar.{Segment, All, Without, Plain}

@@ -1,4 +1,4 @@
--- What a segment joined of parts is read as (document 01, "A complete plan": the text planned for a place is its first part's; demand 3).
+-- What a segment joined of parts is read as: at each place its first part's text, which is the text planned for it (docs/RULES.md, "One reading").
 use Rattle.std.specs.Prelude.{ℕ, ◌≤◌, ◌<◌, ◌≡◌, ◌≢◌, Bool, false, List, [], ◌∷◌, ◌++◌, eqb, Option, None, Some}
 use Rattle.segment.specs.declared.Separators.{Separators}
 use Rattle.segment.specs.Grammar.{Segment, All, Without, Plain}

@@ -1,4 +1,4 @@
--- The grammar as functions on bytes: the reading of a document, if it has one.
+-- The grammar as functions on bytes: the reading of a document, if it has one (docs/RULES.md, "Grammar").
 use Rattle.std.specs.Prelude.{ℕ, zero, suc, Bool, true, false, List, [], ◌∷◌, length, eqb, Option, None, Some}
 use Rattle.segment.specs.declared.Separators.{Separators}
 use Rattle.segment.specs.Grammar.{Segment}

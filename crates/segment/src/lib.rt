@@ -18,8 +18,7 @@ pub struct Separators {
     pub line_break: bool,
 }
 
-// A text: zeros, the first `count` of `bytes`, `len` bytes of the job from `start` on, spaces. An array with a count, since there is no heap. No
-// `texts::Text` with a `spec::ids::Stretch`, and none in `held`, `begin` and `part`: this crate stands on `lent` alone and knows neither type.
+// A text: zeros, the first `count` of `bytes`, `len` bytes of the job from `start` on, spaces.
 #[derive(Clone, Copy)]
 pub struct Value {
     pub zeros: usize,
@@ -30,8 +29,8 @@ pub struct Value {
     pub spaces: usize,
 }
 
-// How far a segment is written: bytes of the document, element separators, component separators in the last element. The document and the separators go
-// beside it: a struct of the three would borrow the document in order to write to it, and be made anew at each part; no plainer.
+// How far a segment is written: bytes of the document, element separators, component separators in the last element. The document itself is passed
+// beside it.
 #[derive(Clone, Copy)]
 pub struct Pen {
     pub at: usize,
@@ -238,8 +237,7 @@ fn put_filled(
     put_value(doc, a, job, v)
 }
 
-// A text at component c of element p: nothing if it is empty, else the separators that are due and the text. Pen, element and component go one by
-// one: `put_components` moves the pen and the component on and `finish` takes the last for it, so a struct of them would be made at each call.
+// A text at component c of element p: nothing if it is empty, else the separators that are due and the text.
 #[inline(always)]
 pub fn component(
     doc: &mut [u8],
@@ -259,8 +257,8 @@ pub fn component(
     reach(a, p, c)
 }
 
-// A stretch of a list at component c of element p. Not `component` of a held text: that would be put together to be taken apart, which takes more
-// instructions (docs/BENCHMARKS.md).
+// A stretch of a list at component c of element p. `component` with a text made of the stretch writes the same, in more instructions
+// (docs/BENCHMARKS.md).
 #[inline(always)]
 pub fn part(
     doc: &mut [u8],

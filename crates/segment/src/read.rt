@@ -20,8 +20,7 @@ pub enum SegmentAt {
     End,
 }
 
-// The first place of a byte from `at` on, or the document's end. No Option: the grammar's `run` counts up to the byte or the end, and `segment_at`
-// tells a segment by that place.
+// The first place of a byte from `at` on, or the document's end.
 pub fn find(document: &[u8], at: usize, b: u8) -> usize
     ensures { result ≡ at + run b (drop at document.now) }
 {

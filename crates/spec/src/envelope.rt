@@ -1,4 +1,4 @@
-// The envelope of a job. Fifteen readers and not one over the field's number: each promises a field of its own, in the type of that field.
+// The envelope of a job: a reader for each field, since each promises a field of its own, in the type of that field.
 ghost use Rattle.std.specs.Prelude.{◌≡◌};
 ghost use Rattle.format.specs.Sections.{job_of};
 ghost use Rattle.spec.specs.Answers.{Holds, HoldsByte, HoldsText};

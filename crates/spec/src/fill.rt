@@ -19,8 +19,8 @@ use codec::forms::{Bytes, Items, Le, NumMap, Opt};
 use codec::{Form, Section};
 use format::{Control, Element, Repeat};
 
-// Stores where the parts of a loop stand. The fields are written out, as those of a table and of the envelope: here each place is kept, elsewhere
-// others, so that a walk with a hook for each field would be no plainer.
+// Stores where the parts of a loop stand. The fields are written out, as those of a table and of the envelope, since each pass over them keeps other
+// places.
 pub fn loop_into(s: Section, index: &mut [u16], k: u32, at: usize) -> usize
     ensures { (result ≡ skip loop_c s.entry.bytes.now at s.entry.end) × (index.new ≡ stored index.old k (loop_row s.entry.bytes.now s.entry.end at)) }
 {

@@ -1,6 +1,6 @@
 // The numbers of loops, tables and rows, and the answers that stand for parts of a job.
 
-// A loop's number. No field says that it is below 32: it is read from the job, readers answer for any, and such a field would ask more of whoever makes one.
+// A loop's number. It may be any: readers answer for each, and what needs it below 32 asks for that.
 #[derive(Clone, Copy, PartialEq, Eq)]
 pub struct LoopId(pub u32);
 
@@ -10,8 +10,7 @@ pub struct TableId(pub u32);
 #[derive(Clone, Copy, PartialEq, Eq, PartialOrd, Ord)]
 pub struct RowId(pub u32);
 
-// A byte string, where it stands in the job. That it lies within the job is said by whoever reads it: no job stands here, whose length a ghost field
-// could name, and one beside these two numbers would go along with every answer that holds a stretch.
+// A byte string, where it stands in the job. That it lies within the job is said by whoever reads it.
 #[derive(Clone, Copy)]
 pub struct Stretch {
     pub start: usize,
@@ -35,8 +34,7 @@ pub struct VersionRule {
     pub first: Stretch,
 }
 
-// What is left of the elements of a segment. No Iterator: it would keep the job beside these two numbers, and say again of its bytes what each
-// caller's `requires` says.
+// What is left of the elements of a segment. The job goes beside it.
 #[derive(Clone, Copy)]
 pub struct Elements {
     pub left: u32,

@@ -12,8 +12,7 @@ pub mod segments;
 pub mod tables;
 pub mod version;
 
-// A job's bytes and the index of its parts. No ghost field says what the index holds: while it is filled only parts of it do, and a
-// reader asks for its own part alone.
+// A job's bytes and the index of its parts. While the index is filled only parts of it hold, and a reader asks for its own part alone.
 #[derive(Clone, Copy)]
 pub struct Indexed<'a> {
     pub bytes: &'a [u8],

@@ -11,7 +11,7 @@ use crate::read::{
     control_at, flag_at, item_at, number_at, row_place, spec_of, stretch_at, string_at, text_at,
 };
 
-// Readers of one field each, as in `envelope`: each promises a field of its own, in the type of that field.
+// A reader for each field: each promises a field of its own, in the type of that field.
 pub fn loop_count(job: Indexed) -> u32
     requires { SpecIndexed job.bytes.now job.index.now }
     ensures { result ≡ length (job_of job.entry.bytes.now).spec.loops }

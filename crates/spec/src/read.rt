@@ -1,6 +1,5 @@
-// Readers by place. All but `string_at` and `start` ask that what they read stands there, and so don't test where the job ends.
-// How long the bytes are (24 to 65,536) is asked where a sum or a cast needs it: bytes with that in their type would be one more struct round those of
-// `Indexed`, made wherever bytes come in.
+// Readers by place. All but `string_at` and `start` ask that what they read stands there, and so don't test where the job ends. How long the bytes are
+// (24 to 65,536) is asked where a sum or a cast needs it.
 ghost use Rattle.std.specs.Prelude.{ℕ, ◌+◌, ◌-◌, ◌*◌, ◌<◌, ◌≤◌, ◌≡◌, List, get_or, length, Option};
 ghost use Rattle.codec.specs.Codec.{le, list_c};
 ghost use Rattle.codec.specs.Skip.{Is, steps};
@@ -35,7 +34,7 @@ pub fn number_at(b: &[u8], at: usize) -> Option<u32>
     Some(codec::num_in(b, at + 1) as u32)
 }
 
-// Number k of a list, 0 past its last: the definition is `get_or` with 0, so that an Option would be taken apart at once.
+// Number k of a list, 0 past its last, as the definition (`get_or`) has it.
 pub fn item_at(b: &[u8], at: usize, k: u32) -> u32
     requires { Stands (list_c num_c) b.now at }
     ensures { (e : ℕ) (vs : List ℕ) → Is (list_c num_c) b.now e at vs → result ≡ get_or vs k 0 }
@@ -67,7 +66,7 @@ pub fn text_at(b: &[u8], at: usize) -> Option<Stretch>
     Some(stretch_at(b, at + 1))
 }
 
-// The step of a repeat segment, 0 where there is none: the definition is `on` with 0, so that an Option would be taken apart at once.
+// The step of a repeat segment, 0 where there is none.
 pub fn step_at(b: &[u8], at: usize) -> u32
     requires { Stands (opt_c repeat_c) b.now at }
     ensures { (e : ℕ) (v : Option Repeat) → Is (opt_c repeat_c) b.now e at v → result ≡ on v (λ (s : Repeat). s.step) 0 }

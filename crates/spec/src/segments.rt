@@ -27,7 +27,7 @@ pub fn key_is(b: &[u8], s: Stretch, p: usize) -> bool
 }
 
 // Where the definition of a number stands in the map of elements or components at a place. The map is gone through one by one: its entries differ in
-// width, so that where the middle one stands isn't known, and there is no heap for a map of std's.
+// width, so that where the middle one stands isn't known.
 pub fn map_place<F: Form>(s: Section, at: usize, number: u32) -> Option<usize>
     requires { at < 4294967296 }
     ensures { (xs : List (ℕ × F.Value)) → Is (num_map_c F.codec) s.entry.bytes.now s.entry.end at xs → PlaceOf F.codec s.entry.bytes.now s.entry.end result (found (eqb number) xs) }

@@ -8,7 +8,7 @@ use crate::Indexed;
 use crate::ids::{LoopId, TableId};
 use crate::read::{flag_at, item_at, number_at, row_place, step_at};
 
-// Readers of one field each, as in `envelope`: each promises a field of its own, in the type of that field.
+// A reader for each field: each promises a field of its own, in the type of that field.
 pub fn table_count(job: Indexed) -> u32
     requires { SpecIndexed job.bytes.now job.index.now }
     ensures { result ≡ length (job_of job.entry.bytes.now).spec.tables }

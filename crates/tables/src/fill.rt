@@ -12,7 +12,7 @@ use codec::{Form, Section};
 use format::Column;
 use spec::region::list_into;
 
-// Where the references of the table at p stand. Its fields one after the other, as in `format::TableData`: a hook for each field would be no plainer.
+// Where the references of the table at p stand: its fields are gone through one after the other, as in `format::TableData`.
 fn refs_at(s: Section, p: usize) -> usize
     ensures { result ≡ refs_from s.entry.bytes.now s.entry.end p }
 {
@@ -21,8 +21,7 @@ fn refs_at(s: Section, p: usize) -> usize
     Opt::<Column>::ends_at(s, segment)
 }
 
-// Stores the place of table t and those of its columns; answers the place behind it. That there are 16 tables at most is asked at each: a number of
-// tables with that in its type would be made of the job's count in one place, and taken apart in each.
+// Stores the place of table t and those of its columns; answers the place behind it. There are 16 tables at most (docs/RULES.md, "Limits").
 pub fn table_into(s: Section, index: &mut [u16], t: u32, p: usize) -> usize
     requires { t < 16 }
     ensures { (start : ℕ) (old : List ℕ) → DataLists s.entry.bytes.now s.entry.end start t p old index.old → DataLists s.entry.bytes.now s.entry.end start (t + 1) result old index.new }

@@ -1,4 +1,4 @@
--- Document 01's edge values of days, seconds and decimals, one table, computed of the definitions.
+-- The edge values of days, seconds and decimals (docs/RULES.md, "Edge values"), one table, computed of the definitions.
 use Rattle.std.proofs.Common.{◌≡◌, ℕ, zero, suc, ◌+◌, ◌/◌, ◌%◌, List, [], ◌∷◌, ◌++◌, ℤ, pos, negsuc, ◌+ℤ◌, refl, ap, ◌∙◌, Some, None}
 use Rattle.texts.specs.Calendar.{Day, near}
 use Rattle.texts.specs.Reason.{Width, Outcome, gives, refuses, pick}

@@ -1,5 +1,5 @@
 -- The Gregorian calendar, run forwards and backwards over all years, the year 0 and those before it too (ISO 8601), told day by day from
--- 1970-01-01, which is day 0.
+-- 1970-01-01, which is day 0 (docs/RULES.md, "Dates").
 use Rattle.std.specs.Prelude.{ℕ, zero, suc, ◌+◌, ◌-◌, ◌%◌, ◌≤◌, Bool, true, false, not, [], ◌∷◌, ℤ, pos, negsuc, ◌+ℤ◌, ◌-ℤ◌, ◌==◌, int_le, nat_lt, slice_index, unsigned_abs, Option}
 use Rattle.std.proofs.Math.IntN.{suc_ℤ, pred_ℤ}
 use Rattle.std.specs.Bool.{then_some}
@@ -97,7 +97,7 @@ from_march e = civil_of (pos e -ℤ pos 719468)
 abbrev pub dated : Day → Date
 dated t = record { year = t.year; month = t.month; day = t.day }
 
--- 719,468 days more do not overflow an i32 (document 01, module `render`)
+-- 719,468 days more do not overflow an i32; a day for which they do has no text, for reason 1 (docs/RULES.md, "Reasons")
 abbrev pub near : ℤ → Bool
 near d = int_le (d +ℤ pos 719468) (pos 2147483647)
 

@@ -1,4 +1,4 @@
--- Times of day as X12.6 writes them, HHMM or HHMMSS, from the seconds since midnight, with the reasons of document 01 (module `render`).
+-- Times of day as X12.6 writes them, HHMM or HHMMSS, from the seconds since midnight, or the reason why there is none (docs/RULES.md, "Times").
 use Rattle.std.specs.Prelude.{ℕ, ◌/◌, ◌%◌, Bool, List, ◌++◌, ℤ, ◌==◌, unsigned_abs}
 use Rattle.texts.specs.Calendar.{or}
 use Rattle.texts.specs.Reason.{Width, Outcome, gives, refuses, pick, shorter}

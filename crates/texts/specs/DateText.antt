@@ -1,4 +1,4 @@
--- Dates as X12.6 writes them, CCYYMMDD or YYMMDD, with the years and reasons of document 01 (module `render`).
+-- Dates as X12.6 writes them, CCYYMMDD or YYMMDD, or the reason why there is none: the years that fit (docs/RULES.md, "Dates").
 use Rattle.std.specs.Prelude.{ℕ, ◌+◌, ◌/◌, ◌%◌, Bool, true, false, List, [], ◌∷◌, ◌++◌, drop, ℤ, pos, negsuc, nat_le, unsigned_abs, None}
 use Rattle.texts.specs.Calendar.{Day, and, civil_of, near}
 use Rattle.texts.specs.Reason.{Width, Outcome, gives, refuses, pick, shorter}

@@ -1,5 +1,5 @@
 -- Numbers as X12 writes them: decimal digits, a minus sign in front where negative, a decimal point only before a fraction
--- (X12.6, numeric and decimal data elements). What goes and stays of a fraction is document 01's: trailing zeros go, with the point.
+-- (X12.6, numeric and decimal data elements). Trailing zeros of a fraction go, and its point with them (docs/RULES.md, "Numbers").
 use Rattle.std.specs.Prelude.{ℕ, zero, suc, ◌+◌, ◌/◌, ◌%◌, ◌^◌, Bool, true, false, cond, List, [], ◌∷◌, ◌++◌, ℤ, pos, negsuc, ◌==◌, nat_lt, unsigned_abs}
 
 -- the digit of n at place i, counted from the right, the ones at place 0

@@ -1,4 +1,4 @@
--- Padding of envelope values (document 01, `write/envelope.rs`): numbers to the left with 0, fixed widths to the right with spaces.
+-- Padding of envelope values (write/envelope.rs; docs/RULES.md, "Padding"): numbers to the left with 0, fixed widths to the right with spaces.
 use Rattle.std.specs.Prelude.{ℕ, ◌-◌, Bool, false, cond, List, ◌++◌, length, replicate, ◌==◌, Some, None}
 use Rattle.texts.specs.Number.{count_text}
 use Rattle.texts.specs.Reason.{Width}

@@ -1,4 +1,4 @@
--- The text of a cell, or why it has none: document 01's reasons 1 to 4 (its module `render`), and what an answer of the code stands for.
+-- The text of a cell, or why it has none: the reasons 1 to 4 (docs/RULES.md, "Reasons"), and what an answer of the code stands for.
 use Rattle.std.specs.Prelude.{◌≡◌, ℕ, Bool, true, false, List, [], nat_lt, Option, Some, None, Result, Ok, Err}
 use Rattle.texts.specs.declared.render.Refused.{Refused}
 use Rattle.texts.specs.declared.render.Refused.TheVariants.{Year, Window, Day, Seconds}

@@ -9,8 +9,7 @@ mod signed;
 
 use std::fmt;
 
-// A text of at most 48 bytes: the first `len` of `bytes`, the others 0. An array, since there is no heap; and no ghost field says so, since
-// `held` gives a text of any list.
+// A text of at most 48 bytes: the first `len` of `bytes`, the others 0. A text is passed by value, since there is no heap.
 #[derive(Clone, Copy)]
 pub struct Text {
     pub bytes: [u8; 48],

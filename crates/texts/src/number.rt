@@ -23,7 +23,7 @@ impl Wide {
     }
 }
 
-// Zero less w, by halves, as document 01 names it (docs/DECISIONS.md, Forms): the high half gives one more where the low half borrows.
+// Zero less w, by halves, as cells hold a number of 128 bits: the high half gives one more where the low half borrows.
 fn negated(w: Wide) -> Wide
     requires { 0 < w.hi }
     ensures { value result + value w ≡ 2 ^ 128 }
@@ -57,7 +57,7 @@ fn tenth(n: u128) -> (u128, u8)
     (n / 10, (n % 10) as u8)
 }
 
-// The digits of a number as bytes of text, the lowest first, and how many there are; zeros stand behind them. An array, since there is no heap.
+// The digits of a number as bytes of text, the lowest first, and how many there are; zeros stand behind them.
 #[derive(Clone, Copy)]
 struct Places {
     bytes: [u8; 48],
@@ -70,7 +70,7 @@ fn places_of(n: u128) -> Places
     let mut bytes = [48u8; 48];
     let mut count: usize = 0;
     let mut rest = n;
-    // No `for`: the digits end the loop, and no count that is known before it.
+    // the loop ends with the digits, whose count is not known before
     while 0 < rest {
         let (above, digit) = tenth(rest);
         bytes[count] = 48 + digit;
@@ -156,7 +156,7 @@ fn without_zeros(n: u64, scale: usize) -> Shortened
     Shortened { rest, scale: 0 }
 }
 
-// How many digits a number is written with. A match, since `map_or` with a closure would say the same two cases, the one for none first, and be no plainer.
+// How many digits a number is written with.
 fn size_of(n: u64) -> usize
     ensures { (result ≡ size n) × (result ≤ 20) }
 {

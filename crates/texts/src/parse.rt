@@ -4,7 +4,7 @@ ghost use Rattle.std.specs.Int.Signed.{mag};
 ghost use Rattle.texts.specs.Floor.{signed32};
 ghost use Rattle.texts.specs.Calendar.{civil_from, day_of, from_march};
 
-// A day of the calendar. Its fields are any numbers: a bound here would be asked of everyone who makes one.
+// A day of the calendar. Its fields are any numbers; what writes them asks for bounds.
 #[derive(Clone, Copy)]
 pub struct Date {
     pub year: i32,

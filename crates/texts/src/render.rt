@@ -36,8 +36,7 @@ fn is_below(max: Option<usize>, n: usize) -> bool
 }
 
 impl Text {
-    // Two more digits. That a number has no more is asked here, and of a `Date`'s fields by what writes them: a type for such numbers, or a bound in
-    // `Date`, would ask it of everyone who makes one.
+    // Two more digits, of a number below 100.
     fn pair(self, n: u32) -> Text
         requires { (self.len ≤ 46) × (n < 100) }
         ensures { result ≡ added self (two n) }

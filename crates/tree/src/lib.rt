@@ -21,8 +21,7 @@ use codec::{Form, Section};
 use format::{Control, Item, Table};
 pub use loops::Loops;
 
-// ---- numbers that are no loop's, of n loops. The section and n go through these tests, and the place changes at each: a struct of the two would save a
-// parameter, and be no plainer.
+// ---- numbers that are no loop's, of n loops
 
 fn outside_at(s: Section, at: usize, n: usize) -> bool
     ensures { Says num_c s.entry.bytes.now s.entry.end at (outside n) result }
@@ -42,8 +41,7 @@ fn outsides_at(s: Section, at: usize, n: usize) -> bool
     says::lists::any_at::<Le<4>, _>(s, at, |p| outside_at(s, p, n))
 }
 
-// Where the children of a loop stand. The fields are written out: each test keeps other places, so that a walk with a hook for each field would be no
-// plainer.
+// Where the children of a loop stand. The fields are written out, since each pass over them keeps other places.
 fn children_at(s: Section, at: usize) -> usize
     ensures { result ≡ loop_children s.entry.bytes.now s.entry.end at }
 {

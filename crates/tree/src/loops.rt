@@ -82,8 +82,7 @@ impl<'a, 'p> Loops<'a, 'p> {
         member_at(self.section, children, i)
     }
 
-    // Whether some loop is found, by a test that is told its number, where it stands and where its children do. What the test may ask is each function's
-    // own clause: a type for three numbers and that fact would be made here, and taken apart in each test; no plainer.
+    // Whether some loop is found, by a test that is told its number, where it stands and where its children do.
     pub fn some<T: Fn(usize, usize, usize) -> bool>(self, test: T) -> bool
         requires { (k : ℕ) (p : ℕ) (q : ℕ) → LoopAt self.section.bytes.now self.section.end self.at k p q → T.pre test k p q }
         ensures { (f : ℕ → Loop → Bool) → TestsLoops self.entry.section.bytes.now self.entry.section.end self.entry.at (T.post test) f → Says (list_c loop_c) self.entry.section.bytes.now self.entry.section.end self.entry.at (any_from f 0) result }

@@ -112,7 +112,7 @@ fn repetition_source(job: Job, f: u8, x: Element) -> Option<Source>
     Some(of_byte(Some(f), b))
 }
 
-// What a field gives an element. Fields stay numbers: the layout and the findings have them so, and an enum would be made of its number and turned back into it.
+// What a field gives an element. A field is its number, as the layout of the triggers and the findings have it (docs/RULES.md, "Envelope fields").
 fn field_source(job: Job, f: u8, x: Element) -> Option<Source>
     ensures { (y : ℕ × ElementDef) → ElementSays job.entry.at.bytes.now x y → Tells job.entry.at.bytes.now result (fielded (job_by job.entry).envelope y.1 f) }
 {

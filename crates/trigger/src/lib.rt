@@ -70,7 +70,7 @@ fn open_loop(
     )
 }
 
-// The counts, and the loop's next control number. They go in apart: the counts are the walk's, and the number is the loop's of the walk's array.
+// The counts, and the loop's next control number.
 #[derive(Clone, Copy)]
 pub struct Numbered {
     pub counts: Counts,

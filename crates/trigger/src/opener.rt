@@ -244,7 +244,7 @@ fn put_elements(
         last: 0,
     };
     let mut rest = c;
-    // No `for`: the cursor over the elements counts itself.
+    // the cursor over the elements counts itself
     while 0 < rest.left {
         let x = elements::element(w.job.at.bytes, rest);
         drawn = put_element(doc, findings, w, x, drawn);
@@ -265,8 +265,7 @@ fn elements_in(job: Job, id: Stretch) -> Elements
     }
 }
 
-// What a trigger came to: the bytes of the document, the numbers of findings, the trace entries. `row_segment::notes::Ended` has the same fields; the
-// reason why there are two stands there.
+// What a trigger came to: the bytes of the document, the numbers of findings, the trace entries.
 #[derive(Clone, Copy)]
 pub struct Put {
     pub bytes: usize,

@@ -15,13 +15,12 @@ fn count(counts: &mut [u64], answer: u32) {
     }
 }
 
-// A digit's number; what is none gives a number above those of answers. No Option: `judge` tells both answers as numbers in a line of its own.
+// A digit's number; what is none gives a number above those of answers, and is told by it.
 fn digit(c: u8) -> u32 {
     u32::from(c.checked_sub(b'0').unwrap_or(9))
 }
 
-// The answer to the first n bytes, which were edited at a place. Where there are fewer, 6 is told, which is none's: the line and the counts take a
-// number.
+// The answer to the first n bytes, which were edited at a place. Where there are fewer, 6 is told, which `check` never answers.
 pub(crate) fn judge(
     rt: &impl Print,
     s: &[u8],

@@ -26,8 +26,7 @@ pub(crate) fn number(s: &[u8], at: usize) -> usize {
     u32::from_le_bytes(bytes) as usize
 }
 
-// The n bytes of s from a place on, into t. Byte by byte here, in `fill` and in what prints a text: past an end bytes read as 0 and aren't written, so that a
-// slice's method would need both lengths tested before; no plainer.
+// The n bytes of s from a place on, into t, byte by byte: past an end bytes read as 0 and aren't written.
 pub(crate) fn copy(s: &[u8], from: usize, t: &mut [u8], to: usize, n: usize) {
     for k in 0..n {
         put(t, plus(to, k), byte(s, plus(from, k)));

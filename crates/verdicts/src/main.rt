@@ -11,7 +11,7 @@
 //                           R length:4 byte (one byte repeated); a point ends them
 //   N length:1 text         ends a group: its name, and how often each answer came
 //
-// An answer is the digit of document 01's refusal, 0 for none.
+// An answer is the digit of the refusal, 1 to 5, or 0 for none (docs/RULES.md, "Answers").
 #![tactic(auto)]
 
 use input::read_up_to;

@@ -1,4 +1,4 @@
--- Condition 3 is one walk up from each row loop.
+-- What may stand above a row loop (docs/RULES.md, "Above a row loop") is told by one walk up from each row loop.
 use Prim.Native.Nat.{ℕ, zero, suc, ◌<◌}
 use mathlib.Core.Path.{◌≡◌, refl, sym, ap, ◌∙◌, subst}
 use mathlib.Core.Logic.{◌⊎◌, inl, inr}
@@ -33,7 +33,7 @@ past_on j g w (groups v) e = let b : (eqb v w ≡ true) × (g w ≡ true) = both
 not_between : (w v : ℕ) (k : Kind) → k ≡ rows v → between w k ≡ true → ⊥
 not_between w v k e b = false≢true (rw e at b)
 
--- ---- the walk gives condition 3
+-- ---- the walk gives what stands above a row loop
 
 kinds_fit : (j : Outline) (h l w m : ℕ) → fits j h l w ≡ true → Above j m l → may_stand (kind_of j m) ≡ true
 unfolding fits
@@ -149,7 +149,7 @@ module _ (j : Outline) (T : Tree j) (bottom-loop : ℕ) where
           climbed (inl s) = subst (λ n. Above j p n) s (clear_above c e)
           climbed (inr s) = above_trans (clear_above c e) s
 
--- ---- condition 3 gives the walk
+-- ---- what stands above a row loop gives the walk
 
 fits_on : (j : Outline) (C : Complete j) (h l w b : ℕ) → climbs j h l ≡ true → kind_of j b ≡ rows w → Stretch j b l → fits j h l w ≡ true
 unfolding fits climbs
@@ -177,7 +177,7 @@ fits_on j C (suc h) l w b c k s = at_parent (parent_of j l) refl (fits_on j C h)
 
 -- ---- both ways
 
--- condition 3 in document 01's words
+-- what stands above row loop l of table t, said of loops and tables (docs/RULES.md, "Above a row loop")
 pub record Three (j : Outline) (l t : ℕ) : Type 0 where
   pub above_kinds : (m : ℕ) → Above j m l → may_stand (kind_of j m) ≡ true
   pub above_only : (m u : ℕ) → Above j m l → kind_of j m ≡ rows u → TableAbove j u t

@@ -1,5 +1,5 @@
--- Document 01's listing: a complete plan; its steps. A row that lacks its parent (row 1 of table 1) has no stop, and the segment of row 2 of table 1,
--- whose cell is null, is skipped.
+-- The job of docs/RULES.md, "The listing": a complete plan; its steps. A row that lacks its parent (row 1 of table 1) has no stop, and the segment of
+-- row 2 of table 1, whose cell is null, is skipped.
 use Prim.Native.Nat.{ℕ}
 use mathlib.Core.Path.{◌≡◌, refl}
 use mathlib.Core.Bool.{true}

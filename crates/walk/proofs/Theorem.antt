@@ -1,4 +1,4 @@
--- Demand 3, the stops: a complete plan gives each row its one stop, in its loop, and no other.
+-- Every row stops (docs/RULES.md, "Every row stops"): a complete plan gives each row its one stop, in its loop, and no other.
 use Prim.Native.Nat.{ℕ, zero, suc, ◌<◌}
 use mathlib.Core.Path.{◌≡◌, refl, ap, ◌∙◌}
 use mathlib.Core.Logic.{◌⊎◌, inl, inr}

@@ -1,4 +1,4 @@
--- Counting instances up to the limit of refusal 6: 65,536 may be entered, and one more is too many.
+-- Counting instances up to the limit of refusal 6 (docs/RULES.md, "Answer 6"): 65,536 may be entered, and one more is too many.
 use Rattle.std.specs.Prelude.{ℕ, ◌+◌, min}
 
 abbrev pub too_many : ℕ

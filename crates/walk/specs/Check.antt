@@ -1,4 +1,5 @@
--- The plan check's conditions 1 to 4 as tests, as code would make them (`proofs/CheckRight`: they pass exactly when the conditions hold).
+-- Four conditions of a complete plan (row loops, orders, what stands above a row loop, repeat loops) as tests, as code would make them
+-- (`proofs/CheckRight`: they pass exactly when the conditions hold).
 use Rattle.std.specs.Prelude.{ℕ, zero, suc, ◌+◌, Bool, true, false, not, ◌&&◌, ◌||◌, List, [], ◌∷◌, length, eqb, ltb, leb, Option, None, Some}
 use Rattle.nest.specs.Lists.{once, on, times, is}
 use Rattle.nest.specs.Outline.{Outline, Kind, rows, absent, envelope, implied, inside, groups, row_table, Source, of_envelope, of_row, of_repeat, item_loops, item_segments, loop_of, plan_of, table_of, parent_of, kind_of, order_of, segment_of, table_parent, plain, repeated}
@@ -47,7 +48,7 @@ abbrev pub all_pass : List Bool → Bool
 all_pass [] = true
 all_pass (b ∷ bs) = b && all_pass bs
 
--- ---- condition 3: from a row loop upwards, with the table whose row loop came last
+-- ---- above a row loop: from it upwards, with the table whose row loop came last
 
 abbrev pub past : Outline → (ℕ → Bool) → ℕ → Kind → Bool
 past j on_up w absent = false

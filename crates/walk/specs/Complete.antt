@@ -1,5 +1,5 @@
--- A complete plan, conditions 1 to 4 of document 01, and the tree that refusal 4 leaves. Of condition 2 the lists that the walk does not
--- look at here (forced, group columns, depth, data, capacities) are left out.
+-- A complete plan as far as the walk looks at it (docs/RULES.md, "Row loops", "Entries and orders", "Above a row loop", "Repeat loops"), and the tree
+-- that refusal 4 leaves. Of "Entries and orders" the lists that the walk does not look at (forced, group columns, depth, data, capacities) are left out.
 use Rattle.std.specs.Prelude.{ℕ, zero, suc, ◌≤◌, ◌<◌, ◌≡◌, ◌⊎◌, Bool, true, false, ◌&&◌, length, ltb, eqb, Some}
 use Rattle.nest.specs.Lists.{once, on, times, is}
 use Rattle.nest.specs.Outline.{Outline, Kind, rows, absent, envelope, implied, inside, groups, of_repeat, item_loops, item_segments, loop_of, plan_of, table_of, parent_of, kind_of, order_of, segment_of, table_parent, plain, repeated}

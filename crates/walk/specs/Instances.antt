@@ -1,4 +1,4 @@
--- The instances of a loop inside an instance (write/walk.rs).
+-- The instances of a loop inside an instance (write/walk.rs; docs/RULES.md, "Instances" and "Groups").
 use Rattle.std.specs.Prelude.{ℕ, zero, suc, ◌+◌, Bool, true, false, cond, not, ◌&&◌, ◌||◌, List, [], ◌∷◌, map, length, eqb, Option, None, Some}
 use Rattle.nest.specs.Lists.{some_of, is_empty_list, on, from, is, part}
 use Rattle.nest.specs.Outline.{Outline, Kind, rows, absent, envelope, implied, inside, groups, inside_table, source_table, loop_of, kind_of, segment_of, planned, table_parent, row_count, plain}

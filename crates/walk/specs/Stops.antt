@@ -1,4 +1,4 @@
--- Demand 3, the stops: what the list of stops of a job with a complete plan is.
+-- What the list of stops of a job with a complete plan is (docs/RULES.md, "Every row stops").
 use Rattle.std.specs.Prelude.{ℕ, ◌<◌, ◌≡◌, ◌⊎◌, true, ◌&&◌, List, length, eqb, Some}
 use Rattle.nest.specs.Lists.{once, sum, All}
 use Rattle.nest.specs.Outline.{Outline, rows, kind_of, row_count, plain}

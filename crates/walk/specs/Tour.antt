@@ -1,5 +1,5 @@
--- The walk as a list of steps (write/emit.rs, `run` and `instance`). A step needs no history: what depends on it, such as control numbers and
--- the highest row of a table, is a fold over the steps.
+-- The walk as a list of steps (write/emit.rs, `run` and `instance`; docs/RULES.md, "The walk"). A step needs no history: what depends on it, such as
+-- control numbers and the highest row of a table, is a fold over the steps.
 use Rattle.std.specs.Prelude.{ℕ, zero, suc, ◌-◌, max, Bool, true, false, cond, ◌&&◌, ◌||◌, List, [], ◌∷◌, ◌++◌, length, ltb, Option, None}
 use Rattle.std.specs.Option.{option_map}
 use Rattle.nest.specs.Lists.{each, some_of, on, sum}

@@ -22,8 +22,8 @@ pub struct Run {
 }
 
 // The rows an instance sits in: for each table a row plus one, or 0; and inside an instance given by a run of grouped rows the run.
-// No Option for the rows: there is no heap, and a context stands by value in each level of the walk's calls, whose stack is bounded and stated
-// (docs/BENCHMARKS.md, "Stack"); 16 of Option<RowId> are twice as large at each level.
+// A context stands by value in each level of the walk's calls, whose stack is bounded (docs/BENCHMARKS.md, "Stack"): rows as `Option<RowId>` would take
+// twice as much at each level.
 #[derive(Clone, Copy)]
 pub struct Context {
     pub rows: [u32; 16],
@@ -40,8 +40,7 @@ pub fn outside() -> Context
     }
 }
 
-// Row r of table t is entered: no run bounds what is below it. That t is below 16 is asked where the rows are indexed by it, and is no field of `TableId`: the job's
-// readers answer for any, as `row_of` does.
+// Row r of table t is entered: no run bounds what is below it.
 pub fn in_row(c: Context, t: TableId, r: RowId) -> Context
     requires { (t.0 < 16) × (r.0 < 4096) }
     ensures { result ≡ kept_row c t.0 r.0 }

@@ -55,7 +55,7 @@ passed_refusal b p = refused_not b p.read.sound unspoilt p.limits p.forest p.fit
     unspoilt : spoilt b ≡ false
     unspoilt = go (spoilt b) refl (decode_read b (job_of b) p.read)
 
--- ---- demand 3
+-- ---- nothing is lost
 
 kept : (b : List ℕ) → refusal b ≡ 0 → NothingLost (job_of b)
 unfolding refusal

@@ -1,4 +1,4 @@
--- Document 01's number and values for each case of the answer ("What a call gives back").
+-- The number and the values for each case of the answer (docs/RULES.md, "Answers").
 use Rattle.std.specs.Prelude.{ℕ, List, [], ◌∷◌, Result, Ok, Err}
 use Rattle.refusal.specs.Answer.{number}
 use Rattle.writer.specs.declared.Totals.{Totals}

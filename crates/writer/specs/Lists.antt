@@ -1,4 +1,4 @@
--- What a lent list then holds: as many first items as fit at the front, the rest untouched (document 01, "What a call gives back").
+-- What a lent list then holds: as many first items as fit at the front, the rest untouched (docs/RULES.md, "Answer 7").
 use Rattle.std.specs.Prelude.{ℕ, zero, suc, List, ◌++◌, length, take, drop}
 use Rattle.nest.specs.Lists.{each}
 

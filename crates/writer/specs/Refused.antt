@@ -1,4 +1,4 @@
--- Refusals 1 to 6: the lowest that applies (document 01, "What a call gives back").
+-- Refusals 1 to 6: the lowest that applies (docs/RULES.md, "Answers").
 use Rattle.std.specs.Prelude.{ℕ, zero, suc, Bool, List, ltb}
 use Rattle.codec.specs.Codec.{pick}
 use Rattle.format.specs.Job.{Job}

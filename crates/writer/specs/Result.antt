@@ -1,4 +1,5 @@
--- What a job comes to, from the job alone: the document, its segments, the findings and the stops (`nest` and `Emitter::run`).
+-- What a job comes to, from the job alone: the document, its segments, the findings and the stops (`nest` and `Emitter::run`; docs/RULES.md, "What a call
+-- tells").
 use Rattle.std.specs.Prelude.{ℕ, List, [], ◌∷◌, ◌++◌, length}
 use Rattle.format.specs.Job.{Job}
 use Rattle.nest.specs.Finding.{Finding}

@@ -1,4 +1,5 @@
--- What `window` answers and what the four lent lists then hold, for every byte string and every length of the lists. Of the findings the list is a window: it holds those from one number on.
+-- What `window` answers and what the four lent lists then hold, for every byte string and every length of the lists (docs/RULES.md, "Answers"). Of the
+-- findings the list is a window: it holds those from one number on.
 use Rattle.std.specs.Prelude.{ℕ, ◌/◌, ◌≡◌, Bool, ◌||◌, List, [], length, take, drop, ltb}
 use Rattle.codec.specs.Codec.{pick}
 use Rattle.format.specs.Sections.{job_of}
@@ -41,5 +42,5 @@ pub record WroteFrom (b d d' g g' w w' p p' : List ℕ) (from room : ℕ) (a : A
   pub segments : g' ≡ unless_refused (refusal b) g (holding (threes g) traced_word (result_of (job_of b)).segments g)
   pub findings : w' ≡ window_from b from w
   pub stops : p' ≡ unless_refused (refusal b) p (holding (threes p) stop_word (result_of (job_of b)).stops p)
-  -- demand 3: of what a job with a complete plan comes to nothing is lost
+  -- of what a job with a complete plan comes to nothing is lost (docs/RULES.md, "Nothing is lost")
   pub nothing_lost : refusal b ≡ 0 → NothingLost (job_of b)

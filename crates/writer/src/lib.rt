@@ -1,4 +1,5 @@
-// The writer: a job's document, segments, findings and stops, in lists that the caller lends. Of the findings it fills a window, a list that holds those from one number on.
+// The writer: a job's document, segments, findings and stops, in lists that the caller lends. Of the findings it fills a window, a list that holds those
+// from one number on.
 #![tactic(auto)]
 
 ghost use Rattle.std.specs.Prelude.{◌≡◌, ◌||◌, ◌+◌, ◌-◌, ◌*◌, ◌≤◌, ◌<◌, ◌/◌, [], ◌∷◌, length, get_or, ltb, MatchOption};
@@ -33,25 +34,33 @@ use spec::envelope::control_number;
 use spec::ids::TableId;
 use walk::Nest;
 
-// How many bytes, segments, findings and stops a job comes to.
+/// How many items each of the four lists has, and so how much room it takes: a list of numbers takes three a segment and three a stop.
 #[derive(Clone, Copy)]
 pub struct Totals {
+    /// Bytes of the document.
     pub bytes: usize,
+    /// Segments of the document.
     pub segments: usize,
+    /// Findings, ten numbers each.
     pub findings: usize,
+    /// Stops: the rows that the walk entered.
     pub stops: usize,
 }
 
-// What a job is refused for: itself, too many loop instances, or that a list is shorter than its count.
+/// Why a job isn't finished. The lowest number that applies is told (docs/RULES.md, "Answers").
 #[derive(Clone, Copy)]
 pub enum Refused {
+    /// Refusals 1 to 5: the job itself is no good. The lists are as they were.
     Job(Refusal),
+    /// Refusal 6: the walk enters more than 65,536 loop instances (docs/RULES.md, "Answer 6"). The lists are as they were.
     Instances,
+    /// Refusal 7: a list is shorter than its count (docs/RULES.md, "Answer 7"). Here are the counts that the job comes to; each list holds as many first
+    /// items as fit, and is untouched behind them.
     Room(Totals),
 }
 
 impl Refused {
-    // Document 01's number.
+    /// The number of the refusal, 1 to 7. C callers get it as the answer.
     pub fn number(self) -> u32
         ensures { result ≡ number_by self }
     {
@@ -71,6 +80,7 @@ impl From<Refusal> for Refused {
     }
 }
 
+/// What a call answers: the counts of a finished job, which is answer 0, or why it isn't finished (docs/RULES.md, "Answers").
 pub type Answer = Result<Totals, Refused>;
 
 // Where the count of findings' numbers starts: place 2^62 is the window's first.
@@ -100,7 +110,8 @@ fn first_state(control: u64, findings: usize) -> State
     }
 }
 
-// The whole result, as far as it fits: nest's findings, then the walk. The job, its index and nest's array go apart down to here: of a slice of its own it is known that its bytes are bytes. The lists go one by one: of bytes behind a borrow in a struct nothing would be known.
+// The whole result, as far as it fits: nest's findings, then the walk. Job, index, nest's array and the lists come here one by one: of a slice of its
+// own a proof knows that its bytes are bytes, of one behind a borrow in a struct it doesn't.
 fn written<'x>(
     job: &'x [u8],
     index: &'x [u16],
@@ -277,7 +288,9 @@ fn passed(
     in_array::<12304>(job, &index, document, segments, window, stops, from, room)
 }
 
-// The whole call: the answer, and what the lent lists then hold. The list of findings has `room` places; the window is to begin with number `from`.
+/// Writes a job, with a window of its findings: `window` gets those from number `from` on, ten numbers each, as many as fit. `room` says how many findings
+/// the caller has room for in all; refusal 7 and its counts go by it and not by the window. The other lists are those of `baktuven::write`, which callers
+/// use, and so is the answer (docs/RULES.md, "Answers" and "What a call tells").
 pub fn window(
     job: &[u8],
     document: &mut [u8],
@@ -293,7 +306,8 @@ pub fn window(
     passed(job, document, segments, window, stops, from, room)
 }
 
-// The findings from number `from` on, and nothing else of the job.
+/// The findings of a job from number `from` on, ten numbers each, as many as fit into the window, which is untouched behind them; of a job that is refused
+/// by 1 to 6 none.
 pub fn later(job: &[u8], window: &mut [u64], from: usize)
     ensures { window.new ≡ window_from job.now from window.old }
 {
@@ -311,7 +325,7 @@ pub fn later(job: &[u8], window: &mut [u64], from: usize)
     );
 }
 
-// The totals of an answer that has some: of a finished job, and of one that a list is too short for.
+/// The totals of an answer that has some: of a finished job, and of one that a list is too short for.
 pub fn totals_of(a: Answer) -> Option<Totals>
     ensures { MatchOption result (values_of a ≡ []) (λ s. values_of a ≡ numbers s) }
 {
@@ -323,7 +337,7 @@ pub fn totals_of(a: Answer) -> Option<Totals>
     }
 }
 
-// How many findings there are; 0 for a refused job.
+/// How many findings there are, whether or not they found room; 0 for a job that is refused by 1 to 6.
 pub fn found(a: Answer) -> usize
     ensures { result ≡ get_or (values_of a) 2 0 }
 {
