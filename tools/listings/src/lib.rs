@@ -13,7 +13,8 @@ const GENERATED: u64 = 1_000;
 const SEED: u64 = 835;
 
 const LISTING: &str = include_str!("../../samples/listing.txt");
-const ADVICE: &str = include_str!("../../samples/advice.txt");
+const REMITTANCE: &str = include_str!("../../samples/remittance.txt");
+const FINDINGS: &str = include_str!("../../samples/findings.txt");
 const LOST: &str = include_str!("../../samples/lost.txt");
 
 /// What the plan check says of a job in the text form, by the tools' own reading of document 01.
@@ -33,14 +34,17 @@ fn listed(text: &str) -> (Vec<u8>, Vec<u8>) {
 /// All files, by their place in the repository: the samples of the programs `advise`, `plan_check` and `replay`.
 pub fn files() -> Vec<(&'static str, Vec<u8>)> {
     let (example, listing) = listed(LISTING);
-    let (advice, advised) = listed(ADVICE);
+    let (remittance, written) = listed(REMITTANCE);
+    let (findings, found) = listed(FINDINGS);
     let (lost, losing) = listed(LOST);
     let all = Listings::all();
     vec![
         ("crates/advise/stdin", example),
         ("crates/advise/stdout", listing),
-        ("samples/remittance.job", advice),
-        ("samples/remittance.out", advised),
+        ("samples/remittance.job", remittance),
+        ("samples/remittance.out", written),
+        ("samples/findings.job", findings),
+        ("samples/findings.out", found),
         ("samples/lost.job", lost.clone()),
         ("samples/lost.out", losing),
         ("crates/plan_check/stdin", lost),
@@ -66,7 +70,8 @@ impl Listings {
         let mut all = Listings::default();
         let listing = job::parse(LISTING.as_bytes()).expect("document 01's example is a job");
         all.job("document 01's example", &job::encode(&listing), MOST);
-        all.job("the sample remittance", &listed(ADVICE).0, MOST);
+        all.job("the sample remittance", &listed(REMITTANCE).0, MOST);
+        all.job("the sample with findings", &listed(FINDINGS).0, MOST);
         all.job("no room", &job::encode(&crowded(&listing)), MOST);
         for Sample { kind, name, bytes } in fixed() {
             // A refusal by the faults and limits is replayed by `verdicts`: one of each number is enough.
