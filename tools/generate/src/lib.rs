@@ -152,7 +152,7 @@ pub fn sample_of(kinds: &[(Kind, u64)], seed: u64, number: u64) -> Sample {
     unreachable!("the kinds cover the total")
 }
 
-/// A fixed list: the sample remittance, every corner and fault, and every limit at its most and one
+/// A fixed list: the remittance of three claims, every corner and fault, and every limit at its most and one
 /// past it. It has every refusal from 1 to 6, kind of finding and kind of instance.
 pub fn fixed() -> Vec<Sample> {
     let sample = |kind, name: &str, bytes| Sample { kind, name: name.to_string(), bytes };

@@ -1,13 +1,14 @@
-//! 835-like jobs: the sample remittance with other rows, separators and envelope.
+//! 835-like jobs: a remittance of three claims with other rows, separators and envelope. Its own claims need not
+//! balance; the sample for readers, `tools/samples/remittance.txt`, is another.
 
 use crate::cells::{self, Kind, Mood};
 use crate::random::Random;
 use crate::rows::{self, Shape};
 use job::{Envelope, Job, Usage, Value};
 
-const SAMPLE: &str = include_str!("../../samples/remittance.txt");
+const SAMPLE: &str = include_str!("../../samples/three_claims.txt");
 
-/// The sample as it is.
+/// The remittance of three claims as it is.
 pub fn sample() -> Job {
     job::parse(SAMPLE.as_bytes()).expect("the sample is a job")
 }

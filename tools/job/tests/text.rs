@@ -13,9 +13,24 @@ fn round(text: &str) {
 
 #[test]
 fn samples_go_round() {
-    for text in [include_str!("../../samples/listing.txt"), include_str!("../../samples/remittance.txt")] {
+    for text in [include_str!("../../samples/listing.txt"), include_str!("../../samples/three_claims.txt")] {
         round(text);
         let job = parse(text.as_bytes()).expect("a sample");
+        assert_eq!(check(&encode(&job)), Ok(job));
+    }
+}
+
+/// The samples for readers have comments and lines of their own making, so only the job goes round.
+#[test]
+fn samples_for_readers_are_jobs() {
+    let samples = [
+        include_str!("../../samples/remittance.txt"),
+        include_str!("../../samples/findings.txt"),
+        include_str!("../../samples/lost.txt"),
+    ];
+    for text in samples {
+        let job = parse(text.as_bytes()).expect("a sample");
+        assert_eq!(parse(print(&job).as_bytes()), Ok(job.clone()));
         assert_eq!(check(&encode(&job)), Ok(job));
     }
 }

@@ -13,10 +13,11 @@ const GENERATED: u64 = 1_000;
 const SEED: u64 = 835;
 
 const LISTING: &str = include_str!("../../samples/listing.txt");
-const ADVICE: &str = include_str!("../../samples/advice.txt");
+const REMITTANCE: &str = include_str!("../../samples/remittance.txt");
+const FINDINGS: &str = include_str!("../../samples/findings.txt");
 const LOST: &str = include_str!("../../samples/lost.txt");
 
-/// What the plan check says of a job in the text form, by the tools' own reading of document 01.
+/// What the plan check says of a job in the text form, by the tools' own reading of the rules.
 fn judged(text: &str) -> Vec<u8> {
     let job = job::parse(text.as_bytes()).expect("a sample is a job");
     let word: &[u8] = if job::complete::gap(&job).is_none() { b"complete\n" } else { b"incomplete\n" };
@@ -33,14 +34,17 @@ fn listed(text: &str) -> (Vec<u8>, Vec<u8>) {
 /// All files, by their place in the repository: the samples of the programs `advise`, `plan_check` and `replay`.
 pub fn files() -> Vec<(&'static str, Vec<u8>)> {
     let (example, listing) = listed(LISTING);
-    let (advice, advised) = listed(ADVICE);
+    let (remittance, written) = listed(REMITTANCE);
+    let (findings, found) = listed(FINDINGS);
     let (lost, losing) = listed(LOST);
     let all = Listings::all();
     vec![
         ("crates/advise/stdin", example),
         ("crates/advise/stdout", listing),
-        ("samples/remittance.job", advice),
-        ("samples/remittance.out", advised),
+        ("samples/remittance.job", remittance),
+        ("samples/remittance.out", written),
+        ("samples/findings.job", findings),
+        ("samples/findings.out", found),
         ("samples/lost.job", lost.clone()),
         ("samples/lost.out", losing),
         ("crates/plan_check/stdin", lost),
@@ -60,13 +64,14 @@ pub struct Listings {
 }
 
 impl Listings {
-    /// Document 01's example, the fixed list, a job for whose lists the program has no room, and generated jobs
+    /// The listing's example, the fixed list, a job for whose lists the program has no room, and generated jobs
     /// as far as they fit; those on which the Rust gives no answer are left out.
     pub fn all() -> Listings {
         let mut all = Listings::default();
-        let listing = job::parse(LISTING.as_bytes()).expect("document 01's example is a job");
-        all.job("document 01's example", &job::encode(&listing), MOST);
-        all.job("the sample remittance", &listed(ADVICE).0, MOST);
+        let listing = job::parse(LISTING.as_bytes()).expect("the listing's example is a job");
+        all.job("the listing's example", &job::encode(&listing), MOST);
+        all.job("the sample remittance", &listed(REMITTANCE).0, MOST);
+        all.job("the sample with findings", &listed(FINDINGS).0, MOST);
         all.job("no room", &job::encode(&crowded(&listing)), MOST);
         for Sample { kind, name, bytes } in fixed() {
             // A refusal by the faults and limits is replayed by `verdicts`: one of each number is enough.
