@@ -1,4 +1,4 @@
--- What the list lent to `baktuven_nest` then holds (document 01, "What a call gives back": everything is stored as far as it fits).
+-- What the list lent to `baktuven_nest` and `hanging::hang` then holds (document 01, "What a call gives back": everything is stored as far as it fits).
 use Rattle.std.specs.Prelude.{List, ℕ, eqb}
 use Rattle.std.proofs.lemmas.List.Edits.{sets}
 use Rattle.codec.specs.Codec.{pick}
