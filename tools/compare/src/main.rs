@@ -30,8 +30,8 @@ fn main() -> ExitCode {
             Err(_) => return usage(),
         }
     }
-    if !native::LINKED {
-        eprintln!("compare: built without the static library; see tools/README.md");
+    if !native::is_there() {
+        eprintln!("compare: neither the static library nor the program replies is there; see tools/README.md");
         return ExitCode::from(2);
     }
     let [count, seed, threads, seconds] = numbers;

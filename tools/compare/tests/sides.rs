@@ -99,7 +99,7 @@ mod nesting {
 
     #[test]
     fn nest_as_proved() {
-        if native::LINKED {
+        if native::is_there() {
             assert_eq!(differing(native::nest), (0, String::new()));
         }
     }
@@ -107,7 +107,7 @@ mod nesting {
     /// A side that refuses what is a job.
     #[test]
     fn a_job_refused() {
-        if native::LINKED {
+        if native::is_there() {
             let (count, text) = differing(|job, nest| if native::nest(job, nest) == 0 { 4 } else { 0 });
             assert!(count > 0 && text.contains("nest gives 4, the tools 0"), "{text}");
         }
@@ -116,7 +116,7 @@ mod nesting {
     /// A side that hangs the first row nowhere.
     #[test]
     fn a_row_that_hangs_nowhere() {
-        if native::LINKED {
+        if native::is_there() {
             let (count, text) = differing(|job, nest| {
                 let answer = native::nest(job, nest);
                 // The row above plus one, where there is a row that has one.
@@ -132,7 +132,7 @@ mod nesting {
     /// A side that touches what a refused job leaves alone.
     #[test]
     fn a_refused_job() {
-        if native::LINKED {
+        if native::is_there() {
             let (count, text) = differing(|job, nest| {
                 let answer = native::nest(job, nest);
                 if let (1.., Some(first)) = (answer, nest.first_mut()) {
@@ -210,7 +210,7 @@ mod writing {
     /// More findings than one window of the writer takes, in lists of many lengths.
     #[test]
     fn many_findings() {
-        if native::LINKED {
+        if native::is_there() {
             let rows = "  | \"A*\"\n".repeat(200);
             let text = format!("loop 0 LX rows 0\n  row! 0 LX 1=c0\ntable 0\n  : text\n{rows}");
             let job = job::parse(text.as_bytes()).expect("a job");

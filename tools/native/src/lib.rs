@@ -1,7 +1,19 @@
-//! The proved functions as the static library gives them, each behind a safe one.
+//! The proved functions, each behind a safe one: from the static library where that was there when this was built, else
+//! from the program `replies`.
 
-/// Whether the library was there when this was built. Without it a call panics.
+#[cfg(not(linked))]
+mod program;
+
+/// Whether the static library was there when this was built.
 pub const LINKED: bool = cfg!(linked);
+
+/// Whether there is a library or a program to call. Without one a call panics.
+pub fn is_there() -> bool {
+    #[cfg(linked)]
+    return true;
+    #[cfg(not(linked))]
+    program::is_there()
+}
 
 /// A slice goes over as its pointer and its length.
 #[cfg(linked)]
@@ -37,8 +49,8 @@ pub fn check(job: &[u8]) -> u32 {
 }
 
 #[cfg(not(linked))]
-pub fn check(_: &[u8]) -> u32 {
-    panic!("built without the static library")
+pub fn check(job: &[u8]) -> u32 {
+    program::check(job)
 }
 
 /// Where each row hangs, three numbers a row as far as the list takes them. The refusal, 1 to 5, or 0.
@@ -49,8 +61,8 @@ pub fn nest(job: &[u8], nest: &mut [u32]) -> u32 {
 }
 
 #[cfg(not(linked))]
-pub fn nest(_: &[u8], _: &mut [u32]) -> u32 {
-    panic!("built without the static library")
+pub fn nest(job: &[u8], nest: &mut [u32]) -> u32 {
+    program::nest(job, nest)
 }
 
 /// A finding: its kind and nine values.
@@ -120,8 +132,8 @@ pub fn write(job: &[u8], lists: Lists) -> u32 {
 }
 
 #[cfg(not(linked))]
-pub fn write(_: &[u8], _: Lists) -> u32 {
-    panic!("built without the static library")
+pub fn write(job: &[u8], lists: Lists) -> u32 {
+    program::write(job, lists)
 }
 
 /// Whether the plan of a job is complete: 0, or 16 where it isn't; the refusal, 1 to 5.
@@ -132,6 +144,6 @@ pub fn plan(job: &[u8]) -> u32 {
 }
 
 #[cfg(not(linked))]
-pub fn plan(_: &[u8]) -> u32 {
-    panic!("built without the static library")
+pub fn plan(job: &[u8]) -> u32 {
+    program::plan(job)
 }

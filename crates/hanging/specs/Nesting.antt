@@ -1,4 +1,4 @@
--- What the list lent to `baktuven_nest` then holds: where each row hangs (docs/RULES.md, "Nesting"), as far as it fits.
+-- What the list lent to `hanging::hang` and `baktuven_nest` then holds: where each row hangs (docs/RULES.md, "Nesting"), as far as it fits.
 use Rattle.std.specs.Prelude.{List, ℕ, eqb}
 use Rattle.std.proofs.lemmas.List.Edits.{sets}
 use Rattle.codec.specs.Codec.{pick}

@@ -18,7 +18,7 @@ use Rattle.nest.proofs.Stored.{rows_counted, array_rows}
 use Rattle.refusal.specs.declared.Refusal.{Refusal}
 use Rattle.refusal.specs.declared.Refusal.TheVariants as refusal
 use Rattle.refusal.specs.Answer.{number}
-use Rattle.exports.specs.Nesting.{nest_lent}
+use Rattle.hanging.specs.Nesting.{nest_lent}
 
 -- three numbers a row, and few rows
 pub array_long : (j : Job) (n m : ℕ) → rows_of_all j.tables ≤ 4096 → n ≡ length j.tables → m ≡ T.rows_before j.tables n → (m * 3 ≡ length (nest_array (outline_of j))) × (m * 3 ≤ 12288)

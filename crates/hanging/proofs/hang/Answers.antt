@@ -1,8 +1,8 @@
 use Rattle.std.proofs.Common.{rules, sym, ap, ◌∙◌}
 use Rattle.format.specs.Passed.{passed}
 use Rattle.refusal.specs.Answer.{number_of}
-use Rattle.exports.proofs.Laws.{nested, refused}
-use Rattle.exports.proofs.nesting.baktuven_nest.Goals as goal
+use Rattle.hanging.proofs.Laws.{nested, refused}
+use Rattle.hanging.proofs.hang.Goals as goal
 
 -- the job is refused: the list is as it was
 pub returns-in-Err-clause-nest_after : goal.returns-in-Err-clause-nest_after
