@@ -6,6 +6,7 @@
 pub mod bitmap;
 pub mod data;
 pub mod get;
+pub mod laws;
 pub mod same;
 
 // A cell: None where there is no answer; bytes as a stretch of the job (start, length); a number by its bits;

@@ -12,3 +12,4 @@ pub mod Passed
 pub mod Ends
 pub mod Fields
 pub mod Ask
+pub mod Sample

@@ -1,6 +1,6 @@
 -- The sections of a job and the trailer behind them (docs/RULES.md, "Trailer"): which bytes are which job.
-use Rattle.std.specs.Prelude.{ℕ, ◌+◌, ◌-◌, ◌≤◌, List, [], ◌∷◌, ◌++◌, Bool, not, length, ltb, eqb, Option, None, Some}
-use Rattle.codec.specs.Codec.{Got, got, bad, pick, le, enc_le}
+use Rattle.std.specs.Prelude.{ℕ, ◌+◌, ◌-◌, ◌≤◌, ◌≡◌, List, [], ◌∷◌, ◌++◌, Bool, not, length, ltb, eqb, Option, None, Some}
+use Rattle.codec.specs.Codec.{Got, got, bad, pick, le, enc_le, Bytes}
 use Rattle.codec.specs.Whole.{used_up}
 use Rattle.codec.specs.Limits.{any}
 use Rattle.format.specs.Spec.{spec_c}
@@ -97,3 +97,10 @@ pub record Fits (j : Job) : Type 0 where
   pub envelope : envelope_c.Fits j.envelope
   pub tables : data_c.Fits j.tables
   pub size : length (encode j) ≤ 65536
+
+-- Encoding and decoding undo each other: a law of these definitions.
+pub record RoundTrip : Type 0 where
+  -- a job that bytes can hold comes back from its bytes
+  pub there : (j : Job) → Fits j → decode (encode j) ≡ Some j
+  -- bytes that are a job are the bytes of that job, and of no other
+  pub back : (b : List ℕ) (j : Job) → Bytes b → decode b ≡ Some j → (encode j ≡ b) × Fits j

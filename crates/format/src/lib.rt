@@ -3,6 +3,7 @@
 
 pub mod data;
 pub mod envelope;
+pub mod laws;
 pub mod layout;
 pub mod plan;
 pub mod spec;

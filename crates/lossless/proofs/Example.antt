@@ -14,7 +14,8 @@ use Rattle.format.specs.Words.{member_of}
 use Rattle.format.specs.Sections.{or_else, job_of}
 use Rattle.format.specs.Passed.{passed}
 use Rattle.format.specs.Refusal.{separators}
-use Rattle.format.proofs.Sample.{listing, listing_bytes, listing_decodes, listing_passes}
+use Rattle.format.specs.Sample.{listing, listing_bytes}
+use Rattle.format.proofs.Sample.{listing_decodes, listing_passes}
 use Rattle.segment.specs.Joining.{behind, line_feed, segment_bytes}
 use Rattle.segment.specs.Parts.{Part, highest, here, after, all_plain, first_text, element_text, elements_from, elements_of, joined}
 use Rattle.segment.specs.ReadParts.{joined_all}

@@ -1,4 +1,4 @@
--- That the element separator is not the terminator is the least that will do: where they are one byte, some document has two readings.
+-- Where the element separator and the terminator are one byte some document has two readings.
 use Prim.Native.Nat.{ℕ}
 use mathlib.Core.Path.{◌≡◌, refl, sym, ap, ◌∙◌, subst}
 use mathlib.Core.Logic.{◌≢◌}
@@ -12,6 +12,7 @@ use Rattle.segment.specs.declared.Separators.{Separators}
 use Rattle.segment.specs.Joining.{line_feed, segment_bytes, behind}
 use Rattle.segment.specs.Grammar.{Segment, Without, Plain, Grammatical, Reads, document_bytes}
 use Rattle.segment.specs.Reading.{segment_of}
+use Rattle.segment.specs.OneReading.{Ambiguous}
 use Rattle.segment.proofs.Cuts.{all_map, cut_miss, cut_without, joined_cut}
 use Rattle.segment.proofs.OneReading.{segment_bytes_lem}
 
@@ -77,7 +78,14 @@ module _ (s : Separators) (same : s.element ≡ s.segment) where
   unfolding single
   reads_single = record { bytes = same_bytes_lem; each = (single_grammatical, tt) }
 
--- where no document has two readings, the element separator is not the terminator
-pub apart_needed : (s : Separators) → ((doc : List ℕ) (xs ys : List Segment) → Reads s doc xs → Reads s doc ys → xs ≡ ys) → s.element ≢ s.segment
+pub two_readings : Ambiguous
 unfolding twice single
-apart_needed s one same = let e : ◌≡◌ {A = ℕ} 2 1 = ap length (one _ (twice s same) (single s same) (reads_twice s same) (reads_single s same)) in omega arith
+two_readings s same =
+    record {
+      document = document_bytes s (twice s same);
+      first = twice s same;
+      second = single s same;
+      reads_first = reads_twice s same;
+      reads_second = reads_single s same;
+      differ = λ e. let n : ◌≡◌ {A = ℕ} 2 1 = ap length e in omega arith;
+    }

@@ -16,15 +16,10 @@ use Rattle.segment.specs.Joining.{behind, component_bytes, segment_bytes, kept_o
 use Rattle.segment.specs.Parts.{is_empty, texts}
 use Rattle.segment.specs.Pen.{due, placed, ending}
 use Rattle.segment.specs.Calls.{Group, next, finish}
+use Rattle.segment.specs.Elements.{Elements, OneMore}
 use Rattle.segment.proofs.Strokes.{anew, finished_some, finished_none}
 use Rattle.segment.proofs.Pending.{replicate_snoc, behind_empty, inside, components, inside_step, inside_finish, Room, room_first, room_next}
 use Rattle.segment.proofs.Groups.{texts_some, texts_none}
-
--- `done` are the elements so far, filled or empty
-pub record Elements (s : Separators) (id : List ℕ) (done : List (List ℕ)) (pen : Pen) (written : List ℕ) : Type 0 where
-  pub text : written ≡ id ++ behind s.element (trimmed done)
-  pub standing : pen.elements ≡ length (trimmed done)
-  pub pending : done ≡ trimmed done ++ replicate (length done - pen.elements) []
 
 -- the joining of the elements so far, less the terminator
 pub less_terminator : (s : Separators) (id : List ℕ) (done : List (List ℕ)) (pen : Pen) (written : List ℕ) → Elements s id done pen written
@@ -157,12 +152,6 @@ inside_stored {s} {k} {f} {p} {c} (finish {pen = pen} {r = r} e w) two room i = 
   stored = rw (e, texts_none f k (k + 1) (omega arith), inside_finish s k pen p two) w.stored;
   stands = w.elements ∙ ap (λ x. x.elements) (finished_some s pen p k two);
 }
-
--- what the calls for one element have written, whatever its components
-pub record OneMore (s : Separators) (id : List ℕ) (done : List (List ℕ)) (t : List ℕ) (pen r : Pen) (written d d₂ : List ℕ) : Type 0 where
-  pub bytes : List ℕ
-  pub stored : Stored d pen.at bytes r.at d₂
-  pub elements : Elements s id (done ++ (t ∷ [])) r (written ++ bytes)
 
 -- the separator between two components fills the element
 composite_filled : (s : Separators) (f : ℕ → List ℕ) (k : ℕ) → 2 ≤ k → is_empty (component_bytes s (texts f k 1)) ≡ false

@@ -7,3 +7,6 @@ pub mod Reading
 pub mod Places
 pub mod ByPlace
 pub mod ReadParts
+pub mod OneReading
+pub mod Elements
+pub mod Examples

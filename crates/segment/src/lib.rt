@@ -1,6 +1,7 @@
 // A segment's bytes, from the texts at its places.
 #![tactic(auto)]
 
+pub mod laws;
 pub mod read;
 
 ghost use Rattle.std.specs.Prelude.{◌≡◌, List, [], ◌++◌, ℕ, ◌+◌, ◌-◌, ◌≤◌, ◌<◌, max, take, replicate};

@@ -1,9 +1,11 @@
 -- The texts of numbers read back as the numbers, without needless zeros.
+use Rattle.std.specs.Prelude.{◌≢◌, Some, slice_get}
+use Rattle.std.proofs.lemmas.Option.{none-some, same_Some}
 use Rattle.std.proofs.Common.{◌≡◌, ℕ, zero, suc, ◌+◌, ◌-◌, ◌*◌, ◌/◌, ◌%◌, ◌^◌, ◌<◌, ◌≤◌, Bool, true, false, cond, eqb, List, [], ◌∷◌, ◌++◌, length, get_or, replicate, ℤ, pos, negsuc, nat_abs, sym, refl, ap, ◌∙◌, subst, append-nil, suc-le-suc, le_trans, add-zero, mod-eq_of_lt, mul_assoc, add-mul, div-add-mod', zero-mul, mul-one, add-one, arith, lit<, ne_eqb, eqb-true}
 use native.Mathlib.Nat.{pow-succ', mod-one}
 use lib.Arith.{mod-mul}
 use Rattle.texts.specs.Number.{digit, figures, size, count_text, int_text, before, trimmed, pointed, fixed_text, decimal_text, negative}
-use Rattle.texts.specs.Spelling.{worth, before_point, after_point, is_minus, unsigned, places, number}
+use Rattle.texts.specs.Spelling.{worth, before_point, after_point, is_minus, unsigned, places, number, SpellsBack}
 use Rattle.texts.proofs.Numbers.{ten_pos, below_power, below_power_back, size_pos, size_above, size_least, figures_length}
 use Rattle.texts.proofs.Signs.{fixed_whole}
 
@@ -143,12 +145,6 @@ fixed_worth n scale =
     ∙ worth_figures q scale n
     ∙ div-add-mod' n (10 ^ scale)
 
--- a decimal reads back as its number: the sign, and the digits with as many of the scale's tens as there are no places for
-pub record SpellsBack (z : ℤ) (scale : ℕ) (t : List ℕ) : Type 0 where
-  pub sign : is_minus t ≡ negative z
-  pub few : places t ≤ scale
-  pub value : number t * 10 ^ (scale - places t) ≡ nat_abs z
-
 spells : (z : ℤ) (n scale : ℕ) (t : List ℕ) → n ≡ nat_abs z → is_minus t ≡ negative z → unsigned t ≡ fixed_text n scale → SpellsBack z scale t
 unfolding places number
 spells z n scale t e m u =
@@ -181,9 +177,9 @@ leading k n h z =
     let none : n / 10 ^ k ≡ 0 = sym (mod-eq_of_lt small) ∙ z in
     subst (λ (j : ℕ). n < 10 ^ j) (add-zero k) (below_power_back n k 0 (rw none (lit< tt)))
 
-pub no_leading_zero : (n : ℕ) → 1 < size n → get_or (count_text n) 0 0 ≡ 48 → ⊥
+zero_first : (n : ℕ) → 1 < size n → get_or (count_text n) 0 0 ≡ 48 → ⊥
 unfolding count_text figures
-no_leading_zero n = go (size n) refl
+zero_first n = go (size n) refl
   where
     go : (k : ℕ) → size n ≡ k → 1 < k → get_or (figures k n) 0 0 ≡ 48 → ⊥
     go zero e h x = omega arith
@@ -192,3 +188,10 @@ no_leading_zero n = go (size n) refl
         let l : n < 10 ^ suc k = subst (λ (j : ℕ). n < 10 ^ j) e (size_above n) in
         let o : size n ≤ k = size_least n k (omega arith) (leading k n l z) in
         omega arith
+
+at_front : (ds : List ℕ) (d : ℕ) → slice_get ds 0 ≡ Some d → get_or ds 0 0 ≡ d
+at_front [] d e = absurd (none-some d e)
+at_front (x ∷ ds) d e = same_Some x d e
+
+pub no_leading_zero : (n : ℕ) → 1 < size n → slice_get (count_text n) 0 ≢ Some 48
+no_leading_zero n h e = zero_first n h (at_front (count_text n) 48 e)

@@ -1,6 +1,6 @@
 -- The Gregorian calendar, run forwards and backwards over all years, the year 0 and those before it too (ISO 8601), told day by day from
 -- 1970-01-01, which is day 0 (docs/RULES.md, "Dates").
-use Rattle.std.specs.Prelude.{ℕ, zero, suc, ◌+◌, ◌-◌, ◌%◌, ◌≤◌, Bool, true, false, not, [], ◌∷◌, ℤ, pos, negsuc, ◌+ℤ◌, ◌-ℤ◌, ◌==◌, int_le, nat_lt, slice_index, unsigned_abs, Option}
+use Rattle.std.specs.Prelude.{ℕ, zero, suc, ◌+◌, ◌-◌, ◌%◌, ◌≤◌, ◌≡◌, Bool, true, false, not, [], ◌∷◌, ℤ, pos, negsuc, ◌+ℤ◌, ◌-ℤ◌, ◌==◌, int_le, nat_lt, slice_index, unsigned_abs, Option}
 use Rattle.std.proofs.Math.IntN.{suc_ℤ, pred_ℤ}
 use Rattle.std.specs.Bool.{then_some}
 use Rattle.texts.specs.declared.parse.Date.{Date}
@@ -104,3 +104,14 @@ near d = int_le (d +ℤ pos 719468) (pos 2147483647)
 -- what is answered of a day: its date, or none
 unfoldable pub civil_from : ℤ → Option Date
 civil_from d = then_some (near d) (dated (civil_of d))
+
+-- Days and dates, one for one: a law of these definitions.
+pub record DaysAndDates : Type 0 where
+  -- the date of a day is one of the calendar
+  pub valid : (d : ℤ) → Valid (civil_of d)
+  -- its number is the day
+  pub day : (d : ℤ) → day_number (civil_of d) ≡ d
+  -- a valid date is the date of its number
+  pub date : (t : Day) → Valid t → civil_of (day_number t) ≡ t
+  -- no two valid dates have the same number
+  pub one_date : (t u : Day) → Valid t → Valid u → day_number t ≡ day_number u → t ≡ u

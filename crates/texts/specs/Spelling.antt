@@ -1,6 +1,7 @@
--- How a decimal is read (X12.6, decimal data elements): a minus sign, digits, and digits behind a point. Not used by any contract: that each text
--- of Number reads back as its number shows that those definitions are right.
-use Rattle.std.specs.Prelude.{ℕ, ◌+◌, ◌-◌, ◌*◌, Bool, false, cond, List, [], ◌∷◌, ◌++◌, length, ◌==◌}
+-- How a decimal is read (X12.6, decimal data elements): a minus sign, digits, and digits behind a point; and that each text of Number reads back as
+-- its number (docs/RULES.md, "Numbers").
+use Rattle.std.specs.Prelude.{◌≡◌, ◌≢◌, ℕ, ◌+◌, ◌-◌, ◌*◌, ◌^◌, ◌<◌, ◌≤◌, ℤ, nat_abs, Bool, false, cond, List, [], ◌∷◌, ◌++◌, length, ◌==◌, Some, slice_get}
+use Rattle.texts.specs.Number.{size, count_text, int_text, decimal_text, negative}
 
 -- the number of digits that follow a number n
 unfoldable pub worth : ℕ → List ℕ → ℕ
@@ -29,3 +30,21 @@ places t = length (after_point (unsigned t))
 
 unfoldable pub number : List ℕ → ℕ
 number t = worth 0 (before_point (unsigned t) ++ after_point (unsigned t))
+
+-- text t reads back as the number z of that scale
+pub record SpellsBack (z : ℤ) (scale : ℕ) (t : List ℕ) : Type 0 where
+  -- a minus sign for numbers below zero alone
+  pub sign : is_minus t ≡ negative z
+  -- no more places than the scale has
+  pub few : places t ≤ scale
+  -- the digits are the number, once the places that are left out are added as zeros
+  pub value : number t * 10 ^ (scale - places t) ≡ nat_abs z
+
+-- The texts of numbers read back as the numbers: a law of these definitions.
+pub record NumbersSpell : Type 0 where
+  -- a decimal of any scale
+  pub decimal : (z : ℤ) (scale : ℕ) → SpellsBack z scale (decimal_text z scale)
+  -- a whole number
+  pub whole : (z : ℤ) → SpellsBack z 0 (int_text z)
+  -- of two digits or more none starts with a zero
+  pub no_leading_zero : (n : ℕ) → 1 < size n → slice_get (count_text n) 0 ≢ Some 48

@@ -2,6 +2,7 @@
 #![tactic(auto)]
 
 pub mod envelope;
+pub mod laws;
 pub mod number;
 pub mod parse;
 pub mod render;
