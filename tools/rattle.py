@@ -159,7 +159,7 @@ class Source:
 
 
 VARIANT = r"(?:^|(?<=[,{]))\s*([A-Z]\w*)\s*(?=[({,=}]|$)"
-FUNCTION = re.compile(r'^[ \t]*(pub )?(?:(?:unsafe|const|extern\s+)\s*)*\s*fn (\w+)', re.M)
+FUNCTION = re.compile(r'^[ \t]*(?:(pub )|pub\([^)]*\) )?(?:(?:unsafe|const|extern\s+)\s*)*\s*fn (\w+)', re.M)
 TYPE = re.compile(r"^[ \t]*(?:pub(?:\([^)]*\))? )?(struct|enum|type) ([A-Z]\w*)", re.M)
 
 
