@@ -3,7 +3,8 @@
 
     tools/believed.py            writes the page
     tools/believed.py --check    exits with 1 where the page is out of date, where a text cites a section that docs/RULES.md
-                                 doesn't have, or where docs/PROVED.md names a function that isn't there
+                                 doesn't have, where docs/PROVED.md names a function that isn't there, or where the first line
+                                 of a file in specs/ says that it isn't to be believed though it is, or the other way round
 
 It starts at the clauses of the public functions of the crates in CALLED, and follows each name to its definition in specs/, or
 to a type or constant in src/, until nothing new turns up. A law (a declaration that says something and gives nothing to
@@ -337,6 +338,22 @@ def count(number, word):
     return f"{number:,} {word}" + ("" if number == 1 else "s")
 
 
+MARK = "-- Not to be believed"
+
+
+def is_marked(file):
+    return file.lines[0].startswith(MARK)
+
+
+def rest_of_specs(spec_files):
+    """What the page says of what else stands in specs/."""
+    marked = sum(map(is_marked, spec_files))
+    if not marked:
+        return "What else stands in `specs/` is vocabulary of inner contracts, laws, and theorems about the definitions."
+    return (f"Of the rest of `specs/`, {count(marked, 'file')} hold vocabulary of inner contracts alone, and begin with the words “Not to "
+            "be believed”; what else there is are laws that definitions hold, and the theorems' statements.")
+
+
 def page_head(tree, believed):
     everything = {i for f in tree.files.values() if ".specs." in f.module for i in f.items}
     definitions, lines, files = totals(tree, believed.definitions, believed.headers())
@@ -349,7 +366,7 @@ def page_head(tree, believed):
                   "first and last, the comment above a definition among them.", "") + "\n"
     yield wrapped(f"In all these are {count(definitions, 'definition')} on {count(lines, 'line')} in {count(files, 'file')}, of "
                   f"{count(len(everything), 'declaration')} on {count(all_lines, 'line')} in {count(len(spec_files), 'file')} of "
-                  "`specs/`. What else stands in `specs/` is vocabulary of inner contracts, laws, and theorems about the definitions.", "") + "\n"
+                  f"`specs/`. {rest_of_specs(spec_files)}", "") + "\n"
     yield wrapped("`tools/believed.py` computes the page, and `.ci/run` fails where it is out of date. It starts at the clauses of the "
                   f"public functions of {', '.join(f'`{c}`' for c in CALLED[:-1])} and `{CALLED[-1]}` and follows each name to its "
                   "definition in `specs/`, or to the type in `src/` that it stands for, until nothing new turns up. A law is a "
@@ -412,8 +429,7 @@ def page_theorems(tree, believed):
     yield wrapped("Each is the contract of a public function that takes nothing and does nothing, so that it can't be dropped or "
                   "weakened unseen. Below each stands what it rests on beside the definitions above.", "") + "\n"
     for f in functions:
-        own = Believed(tree)
-        own.add_function(f)
+        own = rests_on(tree, f)
         statement = "; ".join(re.sub(r"\s+", " ", c.text.strip()) for c in f.clauses)
         yield wrapped(f"- `{f.path}` ({f.source.path}, {span(f)}): `{statement}`")
         for _, parts in in_order(tree, own.definitions - believed.definitions):
@@ -430,6 +446,13 @@ def page_words(words):
         by_module[module].add(name or "(the module)")
     for module in sorted(by_module):
         yield wrapped(f"- {module}: {' '.join(f'`{n}`' for n in sorted(by_module[module]))}")
+
+
+def rests_on(tree, function):
+    """What one function's contract rests on."""
+    own = Believed(tree)
+    own.add_function(function)
+    return own
 
 
 def believed_of(tree):
@@ -489,22 +512,38 @@ def missing_functions(tree):
             yield f"docs/PROVED.md names {name}, which is no public function"
 
 
-def check(tree, text):
+def wrong_marks(tree, believed):
+    """Files of specs/ whose first line is wrong about whether they are to be believed."""
+    spec_files = [f for f in tree.files.values() if ".specs." in f.module and f.items]
+    if not any(map(is_marked, spec_files)):
+        return
+    needed = {i.module for b in [believed, *map(functools.partial(rests_on, tree), theorem_functions(tree))] for i in b.definitions}
+    for file in spec_files:
+        if is_marked(file) and file.module in needed:
+            yield f"{file.path} begins with “Not to be believed”, but a contract of what users call, or a theorem, rests on it"
+        if not is_marked(file) and file.module not in needed:
+            yield f"{file.path} has nothing that is to be believed: its first line should begin with “{MARK}”"
+
+
+def check(tree, believed, text):
     """Messages of what is out of date."""
     path = os.path.join(tree.root, PAGE)
     if not os.path.exists(path) or open(path).read() != text:
         yield f"{PAGE} is out of date: run tools/believed.py"
     yield from wrong_citations(tree.root)
     yield from missing_functions(tree)
+    yield from wrong_marks(tree, believed)
 
 
 def main():
     tree = Tree()
     believed = believed_of(tree)
-    failures = [f"{where} names {name}, which means nothing here" for where, name in believed.unknown]
+    theorems = [rests_on(tree, f) for f in theorem_functions(tree)]
+    unknown = [u for b in [believed, *theorems] for u in b.unknown]
+    failures = [f"{where} names {name}, which means nothing here" for where, name in unknown]
     text = page(tree, believed)
     if "--check" in sys.argv[1:]:
-        failures += list(check(tree, text))
+        failures += list(check(tree, believed, text))
     else:
         open(os.path.join(tree.root, PAGE), "w").write(text)
     for failure in failures:
