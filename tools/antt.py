@@ -195,20 +195,22 @@ class Scope:
                 for part in filter(None, name.split("◌")):
                     self.parts.setdefault(part, []).append(name)
 
+    def own(self, name):
+        """Whether a name is an item or a constructor of the file that stands above, or at, the item at hand."""
+        item = self.file.by_name.get(name) or self.file.constructors.get(name)
+        return item is not None and item.start <= self.item.start
+
     def full(self, word):
         """An operator's whole names for one of its parts, or the word itself."""
-        if word in self.file.by_name or word in self.file.constructors or word in self.file.imports:
+        if self.own(word) or word in self.file.imports:
             return [word]
-        return self.parts.get(word.strip("◌"), [])
+        return [name for name in self.parts.get(word.strip("◌"), []) if self.own(name) or name in self.file.imports]
 
     def find(self, path):
         """Notes the use of a name that is not bound."""
         head, _, rest = path.partition(".")
         for name in self.full(head):
-            if name in self.file.by_name:
-                self.uses.add((self.file.module, name))
-                return
-            if name in self.file.constructors:
+            if self.own(name):
                 self.uses.add((self.file.module, name))
                 return
             imported = self.file.imports[name]
@@ -226,8 +228,8 @@ class Scope:
         if "." in name:
             return True
         for full in self.full(head):
-            if full in self.file.constructors:
-                return True
+            if self.own(full):
+                return full in self.file.constructors
             if full in self.file.imports:
                 imported = self.file.imports[full]
                 return self.is_constructor(imported.module, imported.name)
