@@ -1,5 +1,5 @@
 #!/usr/bin/env python3
-"""Counts the places of each point of docs/DESIGN-PASS.md in crates/*/src.
+"""Counts the places of each point of docs/history/DESIGN-PASS.md in crates/*/src.
 
     python3 tools/places.py [--list POINT] [CRATE ..]
 

@@ -16,7 +16,7 @@ const LISTING: &str = include_str!("../../samples/listing.txt");
 const ADVICE: &str = include_str!("../../samples/advice.txt");
 const LOST: &str = include_str!("../../samples/lost.txt");
 
-/// What the plan check says of a job in the text form, by the tools' own reading of document 01.
+/// What the plan check says of a job in the text form, by the tools' own reading of the rules.
 fn judged(text: &str) -> Vec<u8> {
     let job = job::parse(text.as_bytes()).expect("a sample is a job");
     let word: &[u8] = if job::complete::gap(&job).is_none() { b"complete\n" } else { b"incomplete\n" };
@@ -60,12 +60,12 @@ pub struct Listings {
 }
 
 impl Listings {
-    /// Document 01's example, the fixed list, a job for whose lists the program has no room, and generated jobs
+    /// The listing's example, the fixed list, a job for whose lists the program has no room, and generated jobs
     /// as far as they fit; those on which the Rust gives no answer are left out.
     pub fn all() -> Listings {
         let mut all = Listings::default();
-        let listing = job::parse(LISTING.as_bytes()).expect("document 01's example is a job");
-        all.job("document 01's example", &job::encode(&listing), MOST);
+        let listing = job::parse(LISTING.as_bytes()).expect("the listing's example is a job");
+        all.job("the listing's example", &job::encode(&listing), MOST);
         all.job("the sample remittance", &listed(ADVICE).0, MOST);
         all.job("no room", &job::encode(&crowded(&listing)), MOST);
         for Sample { kind, name, bytes } in fixed() {

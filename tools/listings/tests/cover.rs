@@ -2,7 +2,7 @@
 
 use listings::Listings;
 
-/// Every refusal, every kind of finding, and document 01's example first.
+/// Every refusal, every kind of finding, and the listing's example first.
 #[test]
 fn everything_is_there() {
     let all = Listings::all();
