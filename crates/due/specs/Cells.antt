@@ -1,4 +1,4 @@
--- What the helpers below the contracts of this crate look at: a cell, and the cell that a planned value names (`nest/specs/OfJob`).
+-- What the functions below the contracts of this crate look at: a cell, and the cell that a planned value names (`nest/specs/OfJob`).
 use Rattle.std.specs.Prelude.{ℕ, Bool, not, Option, Some, None}
 use Rattle.format.specs.Plan as P
 use Rattle.format.specs.Job.{Job}

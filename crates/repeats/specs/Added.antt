@@ -1,4 +1,4 @@
--- What the helpers of this crate do: the rows of a table, a chunk that rows are added to, and what adding one leaves.
+-- What the functions of this crate do: the rows of a table, a chunk that rows are added to, and what adding one leaves.
 use Rattle.std.specs.Prelude.{ℕ, ◌+◌, ◌≤◌, ◌<◌, max, ◌≡◌, Bool, List, length, take}
 use Rattle.format.specs.Job.{Job}
 use Rattle.format.specs.Refusal.{rows_of_all}

@@ -1,11 +1,12 @@
-//! Demand 3 on what `write` gives, by a reader of the tools' own. Of a finished job with a complete plan:
+//! Nothing is lost of what `write` gives (docs/RULES.md, "What is promised"), by a reader of the tools' own. Of a finished
+//! job with a complete plan:
 //!
 //! 1. every row stops once, in the walk's order, or never where it or a row above it lacks its parent;
 //! 2. without a delimiter finding the document has one reading, and that is the due segments, each with the planned
 //!    texts at its places and nothing elsewhere;
 //! 3. there is a delimiter finding exactly when a cell or envelope text of a due segment holds a separator.
 //!
-//! Segments, texts and stops that are due are those of `job::due`, which is written from document 01.
+//! Segments, texts and stops that are due are those of `job::due`, which is written from the rules.
 
 use crate::subject::{Agreed, Subject, Writing};
 use generate::Kind;
@@ -16,7 +17,7 @@ use job::hanging::Hanging;
 use native::{Lists, Room};
 use std::collections::{BTreeSet, HashMap};
 
-/// `write` against the demand's words.
+/// `write` against what is promised.
 pub struct Kept<F>(pub F);
 
 impl Kept<Writing> {
@@ -42,7 +43,7 @@ impl<F: Fn(&[u8], Lists) -> u32 + Sync> Subject for Kept<F> {
             Err(refusal) => return Ok(Agreed { answer: refusal.number(), seen: Vec::new() }),
         };
         if let Some(condition) = job::complete::gap(&job) {
-            return Ok(Agreed { answer: 0, seen: vec![format!("condition {condition} doesn't hold")] });
+            return Ok(Agreed { answer: 0, seen: vec![job::complete::broken(condition)] });
         }
         let (answer, room) = self.lend(bytes)?;
         if answer != 0 {

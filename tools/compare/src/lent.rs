@@ -25,8 +25,8 @@ impl<T: Clone + PartialEq + Debug> Lent<T> {
         &mut self.all[BESIDE..end]
     }
 
-    /// Document 01: the items stand at the front, as many as fit, the rest is untouched. In words, if
-    /// that doesn't hold.
+    /// How a list differs from what it should be: the items at the front, as many as fit, the rest untouched
+    /// (docs/RULES.md, "Answer 7").
     pub fn differs(&self, name: &str, items: &[T]) -> Option<String> {
         let room = self.all.len() - 2 * BESIDE;
         let mut wanted = self.untouched.clone();

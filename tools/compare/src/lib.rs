@@ -3,7 +3,7 @@
 //! - [`subject`]: what is compared; a new comparison is one more [`Subject`];
 //! - `nesting`, `writing`: the subjects `nest` and `write`, with the Rust's sources at hand;
 //! - `records`: what the Rust gave, as the numbers of the lent lists;
-//! - [`kept`]: the subject `kept`, demand 3 on what `write` gives;
+//! - [`kept`]: the subject `kept`, that nothing is lost of what `write` gives;
 //! - [`lent`]: lists to lend, of many lengths, that tell what was touched;
 //! - [`run`]: the jobs, the summary and the first difference;
 //! - [`smallest`]: a byte string made smaller while it keeps its difference.

@@ -17,7 +17,7 @@ pub trait Subject: Sync {
 /// What both sides gave.
 #[derive(Debug, Clone, Default, PartialEq, Eq)]
 pub struct Agreed {
-    /// Document 01's number, 0 to 7.
+    /// The answer's number, 0 to 7.
     pub answer: u8,
     /// What else was seen, such as kinds of findings, for the summary.
     pub seen: Vec<String>,
@@ -41,7 +41,7 @@ impl<F: Fn(&[u8]) -> u32 + Sync> Subject for Check<F> {
         let wanted = job::check(bytes).map_or_else(|refusal| refusal.number(), |_| 0);
         let got = (self.0)(bytes);
         if got != u32::from(wanted) {
-            return Err(format!("check gives {got}, document 01 read apart from it {wanted}"));
+            return Err(format!("check gives {got}, the rules read apart from it {wanted}"));
         }
         Ok(Agreed { answer: wanted, seen: Vec::new() })
     }
@@ -64,11 +64,11 @@ impl<F: Fn(&[u8]) -> u32 + Sync> Subject for Plan<F> {
             Err(refusal) => (refusal.number(), u32::from(refusal.number()), Vec::new()),
             Ok(job) => match job::complete::gap(&job) {
                 None => (0, 0, vec!["complete".to_string()]),
-                Some(condition) => (0, 16, vec![format!("condition {condition} doesn't hold")]),
+                Some(condition) => (0, 16, vec![job::complete::broken(condition)]),
             },
         };
         if got != wanted {
-            return Err(format!("the plan check gives {got}, document 01 read apart from it {wanted}"));
+            return Err(format!("the plan check gives {got}, the rules read apart from it {wanted}"));
         }
         Ok(Agreed { answer, seen })
     }

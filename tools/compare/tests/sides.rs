@@ -29,7 +29,7 @@ fn a_limit_passed_over() {
     let summary = run(&subject, 0, 1, 1, Duration::MAX);
     assert!(summary.differing() > 0);
     let text = summary.difference(&subject).expect("a difference");
-    assert!(text.contains("check gives 0, document 01 read apart from it 3"), "{text}");
+    assert!(text.contains("check gives 0, the rules read apart from it 3"), "{text}");
     assert!(text.contains("loop 32"), "{text}");
     assert!(!text.contains("table 0"), "{text}");
 }
@@ -219,7 +219,7 @@ mod writing {
         }
     }
 
-    /// Demand 3 on what the Rust gives, spoiled before it is read: how often it doesn't hold, and how first.
+    /// What the Rust gives, spoiled before it is read: how often something is lost, and how first.
     fn kept(spoil: fn(&mut Lists)) -> (u64, String) {
         let subject = Kept(|bytes: &[u8], mut lists: Lists<'_>| {
             let whole = Lists {

@@ -1,4 +1,4 @@
-//! Random complete plans: document 01, "A complete plan", by construction.
+//! Random complete plans (docs/RULES.md, "A complete plan"), by construction.
 
 use crate::cells::{self, Kind, Mood};
 use crate::random::Random;

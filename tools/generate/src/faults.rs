@@ -1,4 +1,4 @@
-//! One fault a way in which document 01's table refuses a job with 1 to 5.
+//! One fault for each way in which a job is refused with 1 to 5 (docs/RULES.md, "Answers").
 
 use crate::remit;
 use job::*;

@@ -21,8 +21,8 @@ pub fn strange(random: &mut Random, mood: Mood) -> Job {
     job
 }
 
-/// A job whose plan breaks one condition: 3, 4 or 5 alone, or 1 or 2 by one change. Complete where no such change
-/// was found.
+/// A job whose plan breaks one condition, numbered as in `job::complete`: 3, 4 or 5 alone, or 1 or 2 by one change.
+/// Complete where no such change was found.
 pub fn broken(random: &mut Random, mood: Mood) -> Job {
     let condition = 1 + random.below(5) as u8;
     let job = strange(random, mood);

@@ -141,7 +141,7 @@ fn complete_plans_are_complete() {
     assert!(gaps.iter().all(|&count| count > 0), "{gaps:?}");
 }
 
-/// Strange plans are complete all the same; broken ones break each condition, 3 to 5 alone.
+/// Strange plans are complete all the same; broken ones break each condition, the last three alone.
 #[test]
 fn strange_and_broken_plans() {
     let mut gaps = [0; 6];

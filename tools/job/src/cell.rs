@@ -1,4 +1,4 @@
-//! What a column answers for a row, and the text of an answer (document 01, `column/mod.rs` and `write/render.rs`).
+//! What a column answers for a row, and the text of an answer (docs/RULES.md, "Cells", "Dates", "Times", "Numbers").
 
 use crate::*;
 
@@ -106,7 +106,7 @@ mod tests {
         String::from_utf8(text).expect("ASCII")
     }
 
-    /// Document 01, "Edge values".
+    /// docs/RULES.md, "Edge values".
     #[test]
     fn edge_values() {
         let no = "not written";

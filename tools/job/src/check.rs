@@ -1,4 +1,4 @@
-//! Refusals 1 to 5 of document 01's table: the lowest number that applies, each judged over the
+//! Refusals 1 to 5 (docs/RULES.md, "Answers"): the lowest number that applies, each judged over the
 //! whole job.
 
 use crate::*;

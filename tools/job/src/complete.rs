@@ -1,14 +1,24 @@
-//! Document 01, "A complete plan", judged on a job that passes refusals 1 to 5.
+//! A complete plan (docs/RULES.md, "A complete plan"), judged on a job that passes refusals 1 to 5. The five
+//! conditions are numbered from 1 in their order there: [`NAMES`].
 //!
-//! Where its words leave a choice: row segments' places rise strictly; every planned element is a
+//! Row segments' places rise strictly; every planned element is a
 //! place, those of `Group` values in row segments and the lists of `Envelope` segments included; a
-//! control rule counts also without `end`; the version's element is no place; "one entry a loop"
-//! speaks of the outer lists; occurrence numbers exist for `Envelope` segments too; an envelope field
+//! control rule counts also without `end`; the version's element is no place; that there is one entry a
+//! loop is said of the outer lists; occurrence numbers exist for `Envelope` segments too; an envelope field
 //! that gives a separator is planned at no component where neither the definition of that element
 //! nor the segment's own list has one.
 
 use crate::*;
 use std::collections::BTreeSet;
+
+/// The conditions by their headings in docs/RULES.md.
+pub const NAMES: [&str; 5] =
+    ["row loops", "entries and orders", "above a row loop", "repeat loops", "places"];
+
+/// That a condition doesn't hold, in words.
+pub fn broken(condition: u8) -> String {
+    format!("not complete: {}", NAMES[usize::from(condition) - 1])
+}
 
 /// The first of the five conditions that doesn't hold, if any.
 pub fn gap(job: &Job) -> Option<u8> {
@@ -36,7 +46,7 @@ fn row_loops(job: &Job, table: u32) -> Vec<u32> {
     loops.filter(|&number| job.plan[number as usize].instances == Instances::Rows(table)).collect()
 }
 
-/// 1: each table without repeat segment has one row loop; no other tables are named.
+/// Row loops: each table without repeat segment has one row loop; no other tables are named.
 fn tables_named(job: &Job) -> bool {
     let named = job.plan.iter().all(|plan| match plan.instances {
         Instances::Rows(table) | Instances::Groups(table) => is_row_table(job, table),
@@ -46,7 +56,7 @@ fn tables_named(job: &Job) -> bool {
     named && tables.filter(|&table| is_row_table(job, table)).all(|table| row_loops(job, table).len() == 1)
 }
 
-/// 2: lengths, orders, occurrences, parents.
+/// Entries and orders: lengths, orders, occurrences, parents.
 fn lists_agree(job: &Job) -> bool {
     let (layout, loops, tables) = (&job.layout, job.spec.loops.len(), job.spec.tables.len());
     let by_loop = [
@@ -85,7 +95,7 @@ pub(crate) fn above(job: &Job, number: u32) -> Vec<u32> {
     all
 }
 
-/// 3: what stands above the row loop of a table.
+/// Above a row loop: what stands above the row loop of a table.
 fn path_fits(job: &Job, table: u32) -> bool {
     if !is_row_table(job, table) {
         return true;
@@ -128,7 +138,7 @@ fn group_fits(job: &Job, row_loop: u32, path: &[u32], at: usize) -> bool {
         .is_some_and(|&number| kind(number) == Instances::Rows(table))
 }
 
-/// 4: one repeat segment in each row loop of a repeat table's list, and no other.
+/// Repeat loops: one repeat segment in each row loop of a repeat table's list, and no other.
 fn repeats_fit(job: &Job) -> bool {
     let due = |number: usize, table: u32| {
         matches!(job.plan[number].instances, Instances::Rows(_))
@@ -153,7 +163,7 @@ fn repeats_fit(job: &Job) -> bool {
     })
 }
 
-/// 5: places start at 1, in plan, maps and control rules; closer and count elements differ.
+/// Places: places start at 1, in plan, maps and control rules; closer and count elements differ.
 fn places_start_at_1(job: &Job) -> bool {
     let planned = job.plan.iter().flat_map(|plan| &plan.segments).flat_map(|segment| &segment.elements);
     let maps = job.spec.segments.0.iter().flat_map(|(_, def)| &def.elements.0);
@@ -170,7 +180,7 @@ fn places_start_at_1(job: &Job) -> bool {
         })
 }
 
-/// 5: row segments' places rise, those of a full chunk don't collide, and no element has both plain
+/// Places: row segments' places rise, those of a full chunk don't collide, and no element has both plain
 /// and component parts.
 fn segments_fit(job: &Job) -> bool {
     job.plan.iter().flat_map(|plan| &plan.segments).all(|segment| {
@@ -204,7 +214,7 @@ fn places(job: &Job, segment: &SegmentPlan) -> Vec<(u32, Option<u32>)> {
     all
 }
 
-/// 5: an envelope field that gives a separator is planned at no component.
+/// Places: an envelope field that gives a separator is planned at no component.
 fn separators_stand_alone(job: &Job) -> bool {
     (0..job.plan.len()).all(|number| {
         let def = &job.spec.loops[number];
@@ -226,7 +236,7 @@ fn separators_stand_alone(job: &Job) -> bool {
     })
 }
 
-/// 5: codes and the version's first value hold no element, component or segment separator.
+/// Places: codes and the version's first value hold no element, component or segment separator.
 fn codes_free(job: &Job) -> bool {
     let separators = [job.envelope.element, job.envelope.component, job.envelope.segment];
     let free = |text: &[u8]| !text.iter().any(|byte| separators.contains(byte));

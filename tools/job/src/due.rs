@@ -1,7 +1,7 @@
 //! The due segments of a job, in order, with their planned places and texts, and its stops: nest, walk and skipping
-//! as document 01 has them ("The Rust's modules as they stay", "A complete plan").
+//! as the rules have them (docs/RULES.md, "Due segments").
 //!
-//! It is meant for jobs with a complete plan. Where document 01 leaves a thing to the Rust, it follows the list of corners
+//! It is meant for jobs with a complete plan. Where the rules leave a thing to the Rust, it follows the list of corners
 //! (read off the Rust and tried by running it), not the code of either side:
 //!
 //! - a loop's instances: `Absent` none, `Envelope` one, `Rows` one a row, `Groups` one a run of neighbours that agree

@@ -1,4 +1,5 @@
-//! What the elements of an envelope segment hold (document 01, `write/envelope.rs`; positions as X12 has them).
+//! What the elements of an envelope segment hold (docs/RULES.md, "Envelope fields"; positions as X12 has
+//! them).
 
 use crate::cell::{date, time};
 use crate::*;

@@ -1,4 +1,4 @@
-//! Documents as document 01's grammar has them (X12.6).
+//! Documents as the grammar has them (X12.6; docs/RULES.md, "Grammar").
 
 use crate::Envelope;
 

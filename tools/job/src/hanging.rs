@@ -1,4 +1,4 @@
-//! Which row hangs on which (document 01, `write/nest.rs` and "A complete plan").
+//! Which row hangs on which (docs/RULES.md, "Nesting").
 
 use crate::cell::Cell;
 use crate::*;

@@ -1,4 +1,4 @@
-//! Jobs of the 835 writer, written from document 01 ("The job") and its field-by-field layout.
+//! Jobs of the 835 writer, written from the rules and the job's field-by-field layout (docs/RULES.md, "A job").
 //!
 //! - this file: a job as a tree of records and lists;
 //! - [`codec`]: the byte string, with refusals 1 and 2;

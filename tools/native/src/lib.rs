@@ -109,7 +109,7 @@ impl Room {
     }
 }
 
-/// Writes a job. Document 01's number, 0 to 7.
+/// Writes a job. The answer's number, 0 to 7 (docs/RULES.md, "Answers").
 #[cfg(linked)]
 pub fn write(job: &[u8], lists: Lists) -> u32 {
     // SAFETY: the pairs are those of slices, which are only used during the call; the job is only read.

@@ -1,4 +1,4 @@
-//! What the Rust makes of a job: `nest` and `Emitter::run`, with document 01's settings.
+//! What the Rust makes of a job: `nest` and `Emitter::run`, with the settings that docs/RULES.md states.
 //!
 //! The Rust is compiled twice: as it is (`plain`), and with the named lines of a patch (`probed`)
 //! that note the stops and count the loop instances, which the Rust doesn't. Both run on every job,
@@ -32,8 +32,8 @@ pub struct Outcome {
     pub instances: u64,
     /// The same by loop, as far as one was entered.
     pub entered: Vec<u64>,
-    /// A counter went on from its highest number: the outcome is document 01's, where it goes on at
-    /// 0, and not the Rust's, where it stays.
+    /// A counter went on from its highest number: the outcome is that of the proved writer, where it goes on
+    /// at 0, and not the Rust's, where it stays (docs/DIFFERENCES.md).
     pub counter_at_highest: bool,
     /// The steps that the run took, as the bound on work counts them.
     pub work: u64,

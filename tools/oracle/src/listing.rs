@@ -1,4 +1,4 @@
-//! Document 01's listing.
+//! The listing (docs/RULES.md, "The listing").
 
 use crate::{Answer, Bound, Finding, Origin, Outcome, Place, answer};
 

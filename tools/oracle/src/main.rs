@@ -1,4 +1,4 @@
-//! `oracle < bytes` prints document 01's listing of a job.
+//! `oracle < bytes` prints the listing of a job (docs/RULES.md, "The listing"), as the Rust makes it.
 
 use std::io::{Read as _, Write as _};
 use std::process::ExitCode;

@@ -1,4 +1,4 @@
-//! Document 01's listing and edge values.
+//! The listing's example and the edge values (docs/RULES.md, "The listing" and "Edge values").
 
 use job::{encode, parse};
 use oracle::{Bound, program};

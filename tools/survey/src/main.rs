@@ -24,7 +24,7 @@ struct Summary {
 #[derive(Default, Clone)]
 struct Row {
     samples: u64,
-    /// By refusal, 1 to 7; 7 is that of document 01's program.
+    /// By refusal, 1 to 7; 7 is that of the program `advise`.
     refused: [u64; 8],
     done: u64,
     with_findings: u64,
@@ -77,7 +77,7 @@ fn instances_name(instances: Instances) -> &'static str {
     }
 }
 
-/// Document 01's program lends this much.
+/// The program `advise` lends this much.
 fn fits(outcome: &Outcome) -> bool {
     let [bytes, rest @ ..] = outcome.counts();
     bytes <= 65_536 && rest.into_iter().all(|count| count <= 512)
@@ -222,7 +222,10 @@ impl Summary {
             println!("{name:28} {:>10} {:>8}", tally.all, tally.jobs);
         }
         let [complete, gaps @ ..] = self.gaps;
-        println!("\ncomplete plans: {complete} jobs; not complete by condition 1 to 5: {gaps:?}");
+        println!("\ncomplete plans: {complete} jobs");
+        for (name, jobs) in job::complete::NAMES.iter().zip(gaps) {
+            println!("not complete, first by {name}: {jobs} jobs");
+        }
         println!("a counter at its highest number: {} jobs", self.counter_at_highest);
         for (title, list) in [("panic", &self.panics), ("given up", &self.given_up)] {
             for label in list.iter().take(20) {

@@ -25,7 +25,7 @@ pub use content::{Group, groups};
 pub use files::program;
 pub use replay::replay;
 
-/// The refusal of a byte string by the independent reading of document 01, 0 for none.
+/// The refusal of a byte string by the tools' own reading of the rules, 0 for none.
 pub fn answer(bytes: &[u8]) -> u8 {
     job::check(bytes).map_or_else(|refusal| refusal.number(), |_| 0)
 }

@@ -1,7 +1,7 @@
 //! A short text form of jobs.
 //!
 //! ```text
-//! # document 01's listing
+//! # the example of docs/RULES.md, "The listing"
 //! loop 0 CLP rows 0
 //!   row! 0 CLP 1=c0
 //! loop 1 SVC in 0 rows 1

@@ -15,7 +15,7 @@ pub struct Written {
 #[derive(Debug, Clone, PartialEq, Eq)]
 pub struct Raw {
     pub kind: Kind,
-    /// As the finding's line in document 01's listing has them, without the place.
+    /// As the finding's line in the listing has them (docs/RULES.md, "The listing"), without the place.
     pub numbers: Vec<Option<i128>>,
     /// The finding as the Rust shows it.
     pub shown: String,

@@ -1,5 +1,6 @@
-//! Stands in for the top-level write: runs `nest` and `Emitter::run` on a job with the settings of
-//! document 01 ("Set by the port"), and hands back what they gave.
+//! Stands in for the top-level write: runs `nest` and `Emitter::run` on a job with the settings of the
+//! port (every loop's counter starts at the envelope's control number; the separators are tried as element, component,
+//! segment, then repetition; the walk's findings follow nest's), and hands back what they gave.
 
 mod cells;
 mod data;
