@@ -1,2 +1,3 @@
 -- For the crates above: records of a list of numbers.
 pub mod Records
+mod Halves

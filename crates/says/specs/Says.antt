@@ -1,5 +1,5 @@
 -- What a test answers: of whatever stands at a place, what the definition says of it.
-use Rattle.std.specs.Prelude.{ℕ, ◌<◌, ◌^◌, ◌≡◌, List, [], ◌∷◌, Bool, true, false, length, get_or, Option, Some, None}
+use Rattle.std.specs.Prelude.{ℕ, zero, suc, ◌<◌, ◌^◌, ◌≡◌, List, [], ◌∷◌, Bool, true, false, length, get_or, Option, Some, None}
 use Rattle.codec.specs.Codec.{Codec, pick}
 use Rattle.codec.specs.Skip.{Is, count_at, skip, steps}
 
@@ -48,3 +48,43 @@ TestsBefore C b e t u = (p m q : ℕ) (r : Bool) → p < 2 ^ 64 → m < 2 ^ 64 �
 -- t, told the number of an item of the list at a place and where the item stands, says what f does
 abbrev pub TestsNumbered : {A : Type 0} → Codec A → List ℕ → ℕ → ℕ → (ℕ → ℕ → Bool → Type 0) → (ℕ → A → Bool) → Type 0
 TestsNumbered C b e at t f = (k p : ℕ) (r : Bool) → k < count_at b at e → p < 2 ^ 64 → t k p r → Says C b e p (f k) r
+
+-- ---- what is asked, whatever stands there: n places from p on, one behind the other; u k q r says that at place k, which is q, the test answered r
+
+-- none of them is found
+abbrev pub NotFound : {A : Type 0} → Codec A → List ℕ → ℕ → (ℕ → ℕ → Bool → Type 0) → ℕ → ℕ → Type 0
+NotFound C b e u n p = (i : ℕ) → i < n → u i (steps C b e i p) false
+
+-- one is, and none before it
+pub record Found {A : Type 0} (C : Codec A) (b : List ℕ) (e : ℕ) (u : ℕ → ℕ → Bool → Type 0) (n p : ℕ) : Type 0 where
+  pub number : ℕ
+  pub below : number < n
+  pub yes : u number (steps C b e number p) true
+  pub first : (i : ℕ) → i < number → u i (steps C b e i p) false
+
+-- r tells which of the two
+abbrev pub Searched : {A : Type 0} → Codec A → List ℕ → ℕ → (ℕ → ℕ → Bool → Type 0) → ℕ → ℕ → Bool → Type 0
+Searched C b e u n p true = Found C b e u n p
+Searched C b e u n p false = NotFound C b e u n p
+
+-- and so does r that has the place behind them where none is found
+abbrev pub SearchedTo : {A : Type 0} → Codec A → List ℕ → ℕ → (ℕ → ℕ → Bool → Type 0) → ℕ → ℕ → Option ℕ → Type 0
+SearchedTo C b e u n p None = Found C b e u n p
+SearchedTo C b e u n p (Some q) = (q ≡ steps C b e n p) × NotFound C b e u n p
+
+-- tests that step: from p on, n of them tell a place each, the last of them q
+unfoldable pub Passed : (ℕ → Option ℕ → Type 0) → ℕ → ℕ → ℕ → Type 0
+Passed t zero p q = q ≡ p
+Passed t (suc n) p q = (m : ℕ) × (Passed t n p m × t m (Some q))
+
+-- fewer than n do, and then one finds something
+pub record Stopped (t : ℕ → Option ℕ → Type 0) (n p : ℕ) : Type 0 where
+  pub number : ℕ
+  pub below : number < n
+  pub place : ℕ
+  pub passed : Passed t number p place
+  pub found : t place None
+
+abbrev pub Walked : (ℕ → Option ℕ → Type 0) → ℕ → ℕ → Option ℕ → Type 0
+Walked t n p None = Stopped t n p
+Walked t n p (Some q) = Passed t n p q

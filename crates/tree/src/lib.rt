@@ -3,10 +3,10 @@
 
 mod loops;
 
-ghost use Rattle.std.specs.Prelude.{◌≡◌, Bool, List, ◌<◌, ◌≤◌, ℕ, length, eqb, Some};
-ghost use Rattle.codec.specs.Codec.{list_c};
+ghost use Rattle.std.specs.Prelude.{◌≡◌, ◌≢◌, Bool, false, List, ◌<◌, ◌≤◌, ℕ, length, drop, eqb, Some};
+ghost use Rattle.codec.specs.Codec.{le_c, list_c};
 ghost use Rattle.codec.specs.Forms.{num_c, opt_c};
-ghost use Rattle.codec.specs.Skip.{count_at, Is};
+ghost use Rattle.codec.specs.Skip.{count_at, skip, tag_at, Is};
 ghost use Rattle.codec.specs.Limits.{any_of};
 ghost use Rattle.format.specs.Words.{if_some, repeats};
 ghost use Rattle.format.specs.Spec.{Loop, loop_c, spec_c, table_c};
@@ -82,7 +82,9 @@ fn tables_outside(s: Section, at: usize, n: usize) -> bool
 // Whether the loop that an item of an order names is found; where an item names none, nothing is.
 pub fn named_at<T: Fn(usize) -> bool>(s: Section, at: usize, test: T) -> bool
     requires { T.IsAlwaysCallable test }
-    ensures { (f : ℕ → Bool) → Tests num_c s.entry.bytes.now s.entry.end (T.post test) f → Says item_c s.entry.bytes.now s.entry.end at (on_loop f) result }
+    ensures says { (f : ℕ → Bool) → Tests num_c s.entry.bytes.now s.entry.end (T.post test) f → Says item_c s.entry.bytes.now s.entry.end at (on_loop f) result }
+    ensures there { tag_at s.entry.bytes.now at s.entry.end ≡ 1 → T.post test (skip (le_c 1) s.entry.bytes.now at s.entry.end) result }
+    ensures none { tag_at s.entry.bytes.now at s.entry.end ≢ 1 → result ≡ false }
 {
     if s.case(at) == Some(1) {
         return test(s.le_at(1, at));
@@ -125,9 +127,10 @@ pub fn spec_outside(loops: Loops, roots: usize, tables: usize) -> bool
 
 // ---- where the loops stand, and a number
 
-// Where the loops and their children stand, as far as there is room.
+// Where the loops and their children stand, as far as there is room; behind them the list stays as it was.
 pub fn fill_places(s: Section, at: usize, places: &mut [(usize, usize)])
-    ensures { Placed s.entry.bytes.now s.entry.end at places.new }
+    ensures placed { Placed s.entry.bytes.now s.entry.end at places.new }
+    ensures rest { let n = count_at s.entry.bytes.now at s.entry.end in drop n places.new ≡ drop n places.old }
 {
     let n = s.count_at(at);
     let mut p = s.le_at(4, at);
@@ -141,8 +144,10 @@ pub fn fill_places(s: Section, at: usize, places: &mut [(usize, usize)])
     }
 }
 
+// Whether the number at a place is i; where none stands, 0 does.
 pub fn same_at(s: Section, at: usize, i: usize) -> bool
-    ensures { Says num_c s.entry.bytes.now s.entry.end at (eqb i) result }
+    ensures says { Says num_c s.entry.bytes.now s.entry.end at (eqb i) result }
+    ensures number { result ≡ eqb i (count_at s.entry.bytes.now at s.entry.end) }
 {
     i == s.count_at(at)
 }

@@ -7,7 +7,7 @@ ghost use Rattle.format.specs.Words.{any_from, if_some, member_of};
 ghost use Rattle.format.specs.Spec.{Loop, loop_c};
 ghost use Rattle.format.specs.Fields.{loop_children};
 ghost use Rattle.format.specs.Refusal.{loop_at};
-ghost use Rattle.says.specs.Says.{Says};
+ghost use Rattle.says.specs.Says.{Says, Searched};
 ghost use Rattle.tree.specs.Parts.{LoopAt, Placed, TestsLoops, held};
 
 use codec::forms::Le;
@@ -85,7 +85,8 @@ impl<'a, 'p> Loops<'a, 'p> {
     // Whether some loop is found, by a test that is told its number, where it stands and where its children do.
     pub fn some<T: Fn(usize, usize, usize) -> bool>(self, test: T) -> bool
         requires { (k : ℕ) (p : ℕ) (q : ℕ) → LoopAt self.section.bytes.now self.section.end self.at k p q → T.pre test k p q }
-        ensures { (f : ℕ → Loop → Bool) → TestsLoops self.entry.section.bytes.now self.entry.section.end self.entry.at (T.post test) f → Says (list_c loop_c) self.entry.section.bytes.now self.entry.section.end self.entry.at (any_from f 0) result }
+        ensures says { (f : ℕ → Loop → Bool) → TestsLoops self.entry.section.bytes.now self.entry.section.end self.entry.at (T.post test) f → Says (list_c loop_c) self.entry.section.bytes.now self.entry.section.end self.entry.at (any_from f 0) result }
+        ensures asked { Searched loop_c self.entry.section.bytes.now self.entry.section.end (λ k p. T.post test k p (loop_children self.entry.section.bytes.now self.entry.section.end p)) (count_at self.entry.section.bytes.now self.entry.at self.entry.section.end) (skip (le_c 4) self.entry.section.bytes.now self.entry.at self.entry.section.end) result }
     {
         let n = self.section.count_at(self.at);
         for k in 0..n {

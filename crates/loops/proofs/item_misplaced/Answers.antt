@@ -5,4 +5,4 @@ use Rattle.loops.proofs.item_misplaced.Goals as goal
 
 pub returns : goal.returns
 unfolding misplaced
-returns c ls i = c.named_at.ensures (λ l. not_child ls l c.args.k) (λ p r h q. search rules)
+returns c ls i = c.named_at.ensures.says (λ l. not_child ls l c.args.k) (λ p r h q. search rules)

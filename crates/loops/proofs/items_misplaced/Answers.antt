@@ -5,4 +5,4 @@ use Rattle.loops.proofs.Items.{misplaced_any}
 use Rattle.loops.proofs.items_misplaced.Goals as goal
 
 pub returns : goal.returns
-returns c ls q = says_as _ _ _ _ _ _ _ (c.any_at.ensures (misplaced ls c.args.k) (λ p r h j. search rules)) (misplaced_any ls c.args.k)
+returns c ls q = says_as _ _ _ _ _ _ _ (c.any_at.ensures.says (misplaced ls c.args.k) (λ p r h j. search rules)) (misplaced_any ls c.args.k)

@@ -6,4 +6,4 @@ use Rattle.tree.proofs.ByNumber.{any_each, below_test}
 use Rattle.loops.proofs.loops_repeat.Goals as goal
 
 pub returns : goal.returns
-returns c = says_as _ _ _ _ _ _ _ (c.some.ensures (λ i. repeats_below) (λ k p q r h t. below_test _ _ _ _ repeats _ h.below (search rules))) (any_each _ 0)
+returns c = says_as _ _ _ _ _ _ _ (c.some.ensures.says (λ i. repeats_below) (λ k p q r h t. below_test _ _ _ _ repeats _ h.below (search rules))) (any_each _ 0)

@@ -9,7 +9,7 @@ loop-i-init c = let z : c.count_at-n.result - 0 ≡ c.count_at-n.result = omega 
 pub loop-i-preserved : goal.loop-i-preserved
 loop-i-preserved c =
     let z : c.count_at-n.result - (c.loop-i._i + 1) ≡ c.count_at-n.result - c.loop-i._i - 1 = omega arith in
-    (counted_again _ _ _ c.loop-i.invariant.0, rw z (times_again _ _ _ _ _ _ _ _ _ c.loop-i.invariant.1 (omega arith) c.le_at-p-in-loop-i.ensures c.same_at.ensures))
+    (counted_again _ _ _ c.loop-i.invariant.0, rw z (times_again _ _ _ _ _ _ _ _ _ c.loop-i.invariant.1 (omega arith) c.le_at-p-in-loop-i.ensures c.same_at.ensures.says))
 
 pub returns : goal.returns
 returns c = times_done _ _ _ _ _ _ _ c.loop-i.invariant.1 (omega arith)

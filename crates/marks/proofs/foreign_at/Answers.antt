@@ -5,4 +5,4 @@ use Rattle.marks.proofs.foreign_at.Goals as goal
 
 pub returns : goal.returns
 unfolding foreign
-returns c = c.any_at.ensures high (λ p r h q. search rules)
+returns c = c.any_at.ensures.says high (λ p r h q. search rules)

@@ -5,4 +5,4 @@ use Rattle.tree.proofs.ByNumber.{any_each}
 use Rattle.tree.proofs.loops_outside.Goals as goal
 
 pub returns : goal.returns
-returns c = says_as _ _ _ _ _ _ _ (c.some.ensures (λ i. outside_loop c.args.n) (λ k p q r h t. search rules)) (any_each _ 0)
+returns c = says_as _ _ _ _ _ _ _ (c.some.ensures.says (λ i. outside_loop c.args.n) (λ k p q r h t. search rules)) (any_each _ 0)

@@ -5,4 +5,4 @@ use Rattle.tree.proofs.Tree.{repeats_again}
 use Rattle.tree.proofs.numbers_searched.Goals as goal
 
 pub returns : goal.returns
-returns c = says_as _ _ _ _ _ _ _ (c.any_before.ensures again (λ p m q r h i j k. search rules)) repeats_again
+returns c = says_as _ _ _ _ _ _ _ (c.any_before.ensures.says again (λ p m q r h i j k. search rules)) repeats_again

@@ -7,4 +7,4 @@ use Rattle.tree.proofs.order_outside.Goals as goal
 
 pub returns : goal.returns
 unfolding outside_order
-returns c = says_as _ _ _ _ _ _ _ (c.any_at.ensures (on_loop (outside c.args.n)) (λ p r h q. search rules)) (loops_any (outside c.args.n))
+returns c = says_as _ _ _ _ _ _ _ (c.any_at.ensures.says (on_loop (outside c.args.n)) (λ p r h q. search rules)) (loops_any (outside c.args.n))

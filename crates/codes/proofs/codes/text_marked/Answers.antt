@@ -4,4 +4,4 @@ use Rattle.codes.proofs.codes.text_marked.Goals as goal
 
 pub returns : goal.returns
 unfolding marked
-returns c = c.any_at.ensures (mark c.args.m) (λ p r h q. search rules)
+returns c = c.any_at.ensures.says (mark c.args.m) (λ p r h q. search rules)

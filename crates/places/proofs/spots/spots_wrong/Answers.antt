@@ -5,4 +5,4 @@ use Rattle.places.proofs.Reading.{spots_fail}
 use Rattle.places.proofs.spots.spots_wrong.Goals as goal
 
 pub returns : goal.returns
-returns c = says_as _ _ _ _ _ _ _ (c.any_before.ensures (fails (kind_by c.args.filled) (step_by c.args.filled) (room_by c.args.filled)) (λ p m q r h i j k. search rules)) (spots_fail _ _ _)
+returns c = says_as _ _ _ _ _ _ _ (c.any_before.ensures.says (fails (kind_by c.args.filled) (step_by c.args.filled) (room_by c.args.filled)) (λ p m q r h i j k. search rules)) (spots_fail _ _ _)

@@ -5,4 +5,4 @@ use Rattle.tree.proofs.Tree.{member_any}
 use Rattle.tree.proofs.loops.member_at.Goals as goal
 
 pub returns : goal.returns
-returns c = says_as _ _ _ _ _ _ _ (c.any_at.ensures (eqb c.args.i) (λ p r h q. search rules)) (member_any _)
+returns c = says_as _ _ _ _ _ _ _ (c.any_at.ensures.says (eqb c.args.i) (λ p r h q. search rules)) (member_any _)
