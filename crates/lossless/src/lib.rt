@@ -1,2 +1,4 @@
-// Demand 3 of document 01 over the definitions: with a complete plan, nothing of a job is lost. Definitions and proofs only.
+// What a job with a complete plan promises: nothing is lost. Definitions, proofs and laws.
 #![tactic(auto)]
+
+pub mod laws;
