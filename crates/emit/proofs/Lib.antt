@@ -9,6 +9,6 @@ pub mod JoinLaws
 pub mod StepLaws
 pub mod TableLaws
 pub mod PutLaws
-pub mod Starred
+pub mod EdgeValues
 pub mod TookLaws
 pub mod Plain

@@ -4,3 +4,4 @@ pub mod Fold
 pub mod Written
 pub mod Did
 pub mod Table
+pub mod EdgeValues

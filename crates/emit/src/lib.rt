@@ -5,5 +5,6 @@ pub mod cells;
 pub mod closer;
 pub mod envelope;
 pub mod findings;
+pub mod laws;
 pub mod signs;
 pub mod state;

@@ -3,7 +3,7 @@ use Prim.Native.Nat.{ℕ}
 use mathlib.Core.Path.{◌≡◌, refl, sym, ap, ◌∙◌}
 use mathlib.Core.Logic.{inl}
 use mathlib.Core.Bool.{true, false}
-use mathlib.Core.List.{List, [], ◌∷◌}
+use mathlib.Core.List.{[], ◌∷◌}
 use native.Mathlib.Omega.{arith}
 use Rattle.std.specs.Prelude.{None, Some}
 use Rattle.std.proofs.lemmas.Option.{none-some}
@@ -17,7 +17,7 @@ use Rattle.format.specs.Refusal.{separators}
 use Rattle.format.specs.Sample.{listing, listing_bytes}
 use Rattle.format.proofs.Sample.{listing_decodes, listing_passes}
 use Rattle.segment.specs.Joining.{behind, line_feed, segment_bytes}
-use Rattle.segment.specs.Parts.{Part, highest, here, after, all_plain, first_text, element_text, elements_from, elements_of, joined}
+use Rattle.segment.specs.Parts.{highest, here, after, all_plain, first_text, element_text, elements_from, elements_of, joined}
 use Rattle.segment.specs.ReadParts.{joined_all}
 use Rattle.column.specs.Cell as C
 use Rattle.texts.specs.Number.{figures, first_from, size, count_text, int_text}
@@ -35,6 +35,7 @@ use Rattle.complete.specs.Complete.{CompletePlan}
 use Rattle.lossless.specs.Due.{row_due, step_due, step_counters, steps_due, due_segments, dues_of, sources_of}
 use Rattle.lossless.specs.Separators.{separator_held}
 use Rattle.lossless.specs.NothingLost.{walked_out, ReadsDue}
+use Rattle.lossless.specs.Example.{CLP, SVC, at, ExampleReadsBack}
 use Rattle.lossless.proofs.Words.{all_get}
 use Rattle.lossless.proofs.Bytes.{walked_bytes}
 use Rattle.lossless.proofs.Theorem.{nothing_lost}
@@ -62,15 +63,6 @@ complete = record {
 }
 
 -- ---- its due segments
-
-abbrev at : ℕ → List ℕ → Part
-at e text = record { element = e; component = None; text = text }
-
-abbrev CLP : List ℕ
-CLP = 67 ∷ 76 ∷ 80 ∷ []
-
-abbrev SVC : List ℕ
-SVC = 83 ∷ 86 ∷ 67 ∷ []
 
 steps : tour (outline_of listing)
     ≡ enters 0 ∷ stop 0 0 0 ∷ row_segment 0 0 0 0 ∷ enters 1 ∷ stop 1 1 0 ∷ row_segment 1 0 1 0 ∷ enters 1 ∷ stop 1 1 2 ∷ enters 0 ∷ stop 0 0 1 ∷ row_segment 0 0 0 1 ∷ []
@@ -103,3 +95,6 @@ pub document : (walked_out listing).bytes
     ≡ 67 ∷ 76 ∷ 80 ∷ 42 ∷ 65 ∷ 49 ∷ 126 ∷ 83 ∷ 86 ∷ 67 ∷ 42 ∷ 72 ∷ 67 ∷ 42 ∷ 49 ∷ 48 ∷ 48 ∷ 126 ∷ 67 ∷ 76 ∷ 80 ∷ 42 ∷ 66 ∷ 50 ∷ 126 ∷ []
 unfolding joined_all joined elements_of elements_from element_text here after all_plain first_text highest segment_bytes behind line_feed
 document = walked_bytes listing ∙ rw dues refl
+
+pub example : ExampleReadsBack
+example = record { complete = complete; due = dues; sources = sources; no_separator = no_separator; document = document; reads_back = reads_back }

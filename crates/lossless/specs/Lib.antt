@@ -1,3 +1,5 @@
 pub mod Due
 pub mod Separators
 pub mod NothingLost
+pub mod Example
+pub mod Sample

@@ -12,3 +12,4 @@ pub mod Job
 pub mod Keys
 pub mod Rising
 pub mod Notes
+pub mod Example

@@ -66,7 +66,9 @@ is_missing t r (not_writable g p reason) = 0
 abbrev pub missings_of : ℕ → ℕ → List Finding → ℕ
 missings_of t r = sum (is_missing t r)
 
--- each row that lacks its parent is reported once as such, and no other row is (proofs/Missing)
+-- Reports of missing parents are right: a law of these definitions.
 pub record MissingRight (j : Outline) : Type 0 where
+  -- a row that lacks its parent is reported once as such
   pub one : (t r : ℕ) → t < length j.tables → r < row_count j t → Lacks j t r → missings_of t r (nest_findings j) ≡ 1
+  -- no other row is
   pub none_else : (t r : ℕ) → t < length j.tables → r < row_count j t → (Lacks j t r → ⊥) → missings_of t r (nest_findings j) ≡ 0

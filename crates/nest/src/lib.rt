@@ -23,6 +23,7 @@ pub mod duplicates;
 pub mod hang;
 mod job;
 pub mod keys;
+pub mod laws;
 mod noted;
 pub mod order;
 pub mod report;

@@ -1,4 +1,4 @@
--- A run never passes the end of its list, so cutting the list to it is the Rust's `get(from..to)``.
+-- A run never passes the end of its list.
 use Prim.Native.Nat.{ℕ, zero, suc, ◌+◌, ◌-◌, ◌≤◌, ◌<◌}
 use mathlib.Core.Path.{◌≡◌, refl, sym, ap, ◌∙◌, subst}
 use mathlib.Core.Bool.{Bool, true, false, cond, not}
@@ -14,11 +14,8 @@ use Rattle.nest.specs.Lists.{on, All, some_of, is_empty_list, part}
 use Rattle.nest.specs.Outline.{Outline, Kind, absent, envelope, implied, rows, inside, groups, loop_of, kind_of, table_parent, plain}
 use Rattle.nest.proofs.Alls.{all_map, any}
 use Rattle.walk.specs.Instances.{Context, Run, Piece, outside, at, held_in, cut_to, rows_in, pieces, pieces_of, offset, in_row, in_piece, shown, by_kind, instances}
+use Rattle.walk.specs.Runs.{Fits}
 use Rattle.walk.proofs.Counting.{held_same}
-
-pub record Fits (j : Outline) (c : Context) : Type 0 where
-  pub run_fits : (p : Run) → c.run ≡ Some p → (p.start ≤ p.end) × (p.end ≤ length (held_in j p.table c.row))
-  pub no_ring : (t : ℕ) → table_parent j t ≡ Some t → c.row t ≡ None  -- a table that is its own parent never has a row
 
 pub fits_outside : (j : Outline) → Fits j outside
 fits_outside j = record { run_fits = λ p e. absurd (none-some p e); no_ring = λ t e. refl }

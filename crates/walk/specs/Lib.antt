@@ -6,3 +6,7 @@ pub mod Census
 pub mod Complete
 pub mod Stops
 pub mod Check
+pub mod Height
+pub mod Runs
+pub mod EachKind
+pub mod Example

@@ -6,6 +6,7 @@ ghost use Rattle.nest.specs.Found.{found_by};
 ghost use Rattle.walk.specs.Census.{counted};
 ghost use Rattle.walk.specs.Contexts.{context_by, kept_outside, kept_row, kept_piece, row_by, start_by, end_by};
 
+pub mod laws;
 mod nested;
 mod outline;
 
