@@ -4,8 +4,9 @@
     tools/believed.py            writes the page
     tools/believed.py --check    exits with 1 where the page is out of date, where a text cites a section that
                                  docs/RULES.md doesn't have, where docs/PROVED.md names a function that isn't there,
-                                 or where the first line of a file in specs/ says that it isn't to be believed
-                                 though it is, or the other way round
+                                 where either names a file, or a word in a file, that isn't there, or where the first
+                                 line of a file in specs/ says that it isn't to be believed though it is, or the other
+                                 way round
 
 It starts at the clauses of the public functions of the crates in CALLED, and follows each name to its definition in
 specs/, or to a type or constant in src/, until nothing new turns up. A law (a declaration that says something and gives
@@ -524,6 +525,27 @@ def missing_functions(tree):
             yield f"docs/PROVED.md names {name}, which is no public function"
 
 
+PLACE = re.compile(r"(?<![\w/])((?:crates/\w+/(?:specs|proofs|src)/)?)([\w/]+\.(?:antt|rt))(?:\s+\(([^)]*)\))?")
+NAMED = re.compile(r"`([^`\s]+)`(?! in )")
+
+
+def wrong_places(tree):
+    """Files that docs/RULES.md and docs/PROVED.md name and that aren't there, or don't hold the names in the brackets behind."""
+    by_path = {f.path: set(re.findall(r"[^\s(){}.;,]+", f.text)) for f in tree.files.values()}
+    for page in ("docs/RULES.md", "docs/PROVED.md"):
+        path = os.path.join(tree.root, page)
+        text, folder = open(path).read() if os.path.exists(path) else "", ""
+        for m in PLACE.finditer(text):
+            folder = m.group(1) or folder
+            place = folder + m.group(2)
+            line = text.count("\n", 0, m.start()) + 1
+            if not os.path.exists(os.path.join(tree.root, place)):
+                yield f"{page}:{line}: there is no file {place}"
+            for name in NAMED.findall(m.group(3) or "") if place in by_path else []:
+                if name not in by_path[place]:
+                    yield f"{page}:{line}: {place} has no {name}"
+
+
 def wrong_marks(tree, believed):
     """Files of specs/ whose first line is wrong about whether they are to be believed."""
     spec_files = [f for f in tree.files.values() if ".specs." in f.module and f.items]
@@ -545,6 +567,7 @@ def check(tree, believed, text):
         yield f"{PAGE} is out of date: run tools/believed.py"
     yield from wrong_citations(tree.root)
     yield from missing_functions(tree)
+    yield from wrong_places(tree)
     yield from wrong_marks(tree, believed)
 
 
