@@ -16,8 +16,8 @@ BUILT_IN = set(
 # Constructors of the standard library: in a pattern these are no variables.
 STD_CONSTRUCTORS = set("[] ◌∷◌ zero suc true false None Some inl inr Ok Err pos negsuc tt yes no".split())
 
-TOKEN = re.compile(r'"(?:\\.|[^"\\])*"|[(){};,@]|\.(?=\s|$)|«[^»]*»|(?:[^\s(){}.;,@"«»]|«[^»]*»)+(?:\.(?:[^\s(){}.;,@"«»]|«[^»]*»)+)*'
-                   r'|(?:\.(?:[^\s(){}.;,@"«»]|«[^»]*»)+)+|\.')
+WORD = r'(?:[^\s(){}.;,@"«»]|«[^»]*»)+'
+TOKEN = re.compile(rf'"(?:\\.|[^"\\])*"|[(){{}};,@]|\.(?=\s|$)|{WORD}(?:\.{WORD})*|(?:\.{WORD})+|\.')
 NUMERAL = re.compile(r"^(0x[0-9a-fA-F_]+|0[ob][0-7_]+|[0-9][0-9_]*)$")
 
 
@@ -115,7 +115,8 @@ class File:
 
 # ---- the items of a file
 
-SIGNATURE = re.compile(r"^((?:(?:pattern|unfoldable|abbrev|axiom|pub) )*)(record |data )?([^\s(){}:;,]+)(\s*\{[^}:=]*\})?(?=\s|$)")
+SIGNATURE = re.compile(
+    r"^((?:(?:pattern|unfoldable|abbrev|axiom|pub) )*)(record |data )?([^\s(){}:;,]+)(\s*\{[^}:=]*\})?(?=\s|$)")
 
 
 def _indent(line):
@@ -405,7 +406,7 @@ def _split(tokens, word):
 
 
 def _sections(tokens):
-    """Groups of tokens, each beginning at the first one's column; a line that begins with a closing bracket continues."""
+    """Groups of tokens, each beginning at the first one's column, but for lines that begin with a closing bracket."""
     groups, line = [], None
     for token in tokens:
         new_line = token.line != line

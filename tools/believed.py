@@ -2,13 +2,15 @@
 """Computes docs/BELIEVED.md: the definitions that the contracts of what users call rest on.
 
     tools/believed.py            writes the page
-    tools/believed.py --check    exits with 1 where the page is out of date, where a text cites a section that docs/RULES.md
-                                 doesn't have, where docs/PROVED.md names a function that isn't there, or where the first line
-                                 of a file in specs/ says that it isn't to be believed though it is, or the other way round
+    tools/believed.py --check    exits with 1 where the page is out of date, where a text cites a section that
+                                 docs/RULES.md doesn't have, where docs/PROVED.md names a function that isn't there,
+                                 where either names a file, or a word in a file, that isn't there, or where the first
+                                 line of a file in specs/ says that it isn't to be believed though it is, or the other
+                                 way round
 
-It starts at the clauses of the public functions of the crates in CALLED, and follows each name to its definition in specs/, or
-to a type or constant in src/, until nothing new turns up. A law (a declaration that says something and gives nothing to
-compute with) needs no belief, since the check proves it: it is listed only where a definition holds it.
+It starts at the clauses of the public functions of the crates in CALLED, and follows each name to its definition in
+specs/, or to a type or constant in src/, until nothing new turns up. A law (a declaration that says something and gives
+nothing to compute with) needs no belief, since the check proves it: it is listed only where a definition holds it.
 """
 import collections
 import functools
@@ -28,6 +30,8 @@ CALLED = ("baktuven", "judge", "refusal", "exports")
 WIDTH = 120
 # Words that make a type a statement, and types of values.
 SAYS = set("≡ ≢ ≤ < ≥ > ⊥ ↔ ¬ ≤ℤ <ℤ IsTrue IsFalse IsSome IsNone All".split())
+# What a clause names without an import, beside what its file has.
+BARE = set("Ok Err Some None Self usize u8 u16 u32 u64 i8 i16 i32 i64".split())
 VALUES = set("ℕ ℤ List Bool Option Result Got Type".split())
 
 
@@ -57,7 +61,8 @@ class Tree:
         for path in sorted(glob.glob(f"{base}/src/**/*.rt", recursive=True)):
             modules = os.path.relpath(path, f"{base}/src")[:-3].split("/")
             modules = [m for m in modules if m not in ("lib", "main", "mod")]
-            self.sources[crate].append(rattle.Source(crate, modules, os.path.relpath(path, self.root), open(path).read()))
+            source = rattle.Source(crate, modules, os.path.relpath(path, self.root), open(path).read())
+            self.sources[crate].append(source)
 
     # ---- names
 
@@ -139,7 +144,7 @@ class Tree:
         head = path.split(".")[0]
         types = set(source.types) | {self.type_of(source, n) for n in {**source.uses, **source.public_uses}}
         variants = {v for t in types if t for v in t.variants}
-        return head in variants | source.constants | {"Ok", "Err", "Some", "None", "usize", "u8", "u16", "u32", "u64", "Self"}
+        return head in variants | source.constants | BARE
 
     def uses_of_function(self, function):
         """(uses, types, unknown) of a function's contract."""
@@ -217,7 +222,7 @@ def codomain(text):
 # ---- what is believed
 
 class Believed:
-    """What some functions' contracts rest on: definitions, types, words of libraries, constants, laws held by definitions."""
+    """What some contracts rest on: definitions and the laws that they hold, types, constants, words of libraries."""
 
     def __init__(self, tree):
         self.tree = tree
@@ -294,7 +299,8 @@ def in_order(tree, items):
     for crate in tree.crates:
         modules = sorted(m for m in by_module if m.split(".")[1] == crate)
         if modules:
-            yield crate, [(tree.files[m], sorted(by_module[m], key=lambda i: i.start)) for m in _sorted(by_module, modules)]
+            ordered = _sorted(by_module, modules)
+            yield crate, [(tree.files[m], sorted(by_module[m], key=lambda i: i.start)) for m in ordered]
 
 
 def _sorted(by_module, modules):
@@ -349,49 +355,58 @@ def rest_of_specs(spec_files):
     """What the page says of what else stands in specs/."""
     marked = sum(map(is_marked, spec_files))
     if not marked:
-        return "What else stands in `specs/` is vocabulary of inner contracts, laws, and theorems about the definitions."
-    return (f"Of the rest of `specs/`, {count(marked, 'file')} hold vocabulary of inner contracts alone, and begin with the words “Not to "
-            "be believed”; what else there is are laws that definitions hold, and the theorems' statements.")
+        return "What else stands in `specs/` is vocabulary of inner contracts, laws, and statements of theorems."
+    return (f"Of the rest of `specs/`, {count(marked, 'file')} hold vocabulary of inner contracts alone, and begin with the "
+            "words “Not to be believed”; what else there is are laws that definitions hold, and the theorems' statements.")
+
+
+HEAD = """
+A proof shows that the code does what its contract says. That the contract says what is meant, no proof can show: it has to
+be read. This page lists what there is to read: the definitions that the contracts of the functions which users call rest
+on, in an order in which each stands behind those that it uses. Its numbers are lines, first and last, the comment above a
+definition among them.
+
+In all these are {believed}, of {all} of `specs/`. {rest}
+
+`tools/believed.py` computes the page, and `.ci/run` fails where it is out of date. It starts at the clauses of the public
+functions of {crates} and follows each name to its definition in `specs/`, or to the type in `src/` that it stands for,
+until nothing new turns up. A law is a declaration that proves something; it needs no belief, and is not counted. A
+definition that holds laws, as a codec does, counts without their proofs.
+"""
 
 
 def page_head(tree, believed):
-    everything = {i for f in tree.files.values() if ".specs." in f.module for i in f.items}
-    definitions, lines, files = totals(tree, believed.definitions, believed.headers())
     spec_files = [f for f in tree.files.values() if ".specs." in f.module]
-    all_lines = sum(1 for f in spec_files for l in f.lines if l.strip())
+    all_lines = sum(1 for f in spec_files for line in f.lines if line.strip())
+    numbers = totals(tree, believed.definitions, believed.headers())
+    text = HEAD.strip().format(
+        believed="{} on {} in {}".format(*map(count, numbers, ("definition", "line", "file"))),
+        all="{} on {} in {}".format(count(sum(len(f.items) for f in spec_files), "declaration"),
+                                    count(all_lines, "line"), count(len(spec_files), "file")),
+        rest=rest_of_specs(spec_files),
+        crates=", ".join(f"`{c}`" for c in CALLED[:-1]) + f" and `{CALLED[-1]}`")
     yield "# What has to be believed\n"
-    yield wrapped("A proof shows that the code does what its contract says. That the contract says what is meant, no proof can show: "
-                  "it has to be read. This page lists what there is to read: the definitions that the contracts of the functions "
-                  "which users call rest on, in an order in which each stands behind those that it uses. Its numbers are lines, "
-                  "first and last, the comment above a definition among them.", "") + "\n"
-    yield wrapped(f"In all these are {count(definitions, 'definition')} on {count(lines, 'line')} in {count(files, 'file')}, of "
-                  f"{count(len(everything), 'declaration')} on {count(all_lines, 'line')} in {count(len(spec_files), 'file')} of "
-                  f"`specs/`. {rest_of_specs(spec_files)}", "") + "\n"
-    yield wrapped("`tools/believed.py` computes the page, and `.ci/run` fails where it is out of date. It starts at the clauses of the "
-                  f"public functions of {', '.join(f'`{c}`' for c in CALLED[:-1])} and `{CALLED[-1]}` and follows each name to its "
-                  "definition in `specs/`, or to the type in `src/` that it stands for, until nothing new turns up. A law is a "
-                  "declaration that proves something; it needs no belief, and is not counted. A definition that holds laws, as a codec "
-                  "does, counts without their proofs.", "") + "\n"
+    for paragraph in text.split("\n\n"):
+        yield wrapped(paragraph, "") + "\n"
     yield "| crate | definitions | lines | files |\n|---|---|---|---|"
     for crate, parts in in_order(tree, believed.definitions):
         own = [i for _, items in parts for i in items]
-        numbers = totals(tree, own, [h for h in believed.headers() if h.module.split(".")[1] == crate])
-        yield "| `%s` | %s | %s | %s |" % (crate, *(f"{n:,}" for n in numbers))
-    yield f"| all | {definitions:,} | {lines:,} | {files:,} |\n"
+        heads = [h for h in believed.headers() if h.module.split(".")[1] == crate]
+        yield "| `%s` | %s | %s | %s |" % (crate, *(f"{n:,}" for n in totals(tree, own, heads)))
+    yield "| all | %s | %s | %s |\n" % tuple(f"{n:,}" for n in numbers)
 
 
 def page_functions(tree):
     yield "## The functions\n"
     for f in called_functions(tree):
         uses, _, _ = tree.uses_of_function(f)
-        names = sorted({u[1] for u in uses if isinstance(tree.find(u), antt.Item)})
-        yield wrapped(f"- `{f.path}` ({f.source.path}, {span(f)}): {', '.join(f'`{n}`' for n in names) or 'no definition'}")
+        names = ", ".join(f"`{n}`" for n in sorted({u[1] for u in uses if isinstance(tree.find(u), antt.Item)}))
+        yield wrapped(f"- `{f.path}` ({f.source.path}, {span(f)}): {names or 'no definition'}")
     yield ""
 
 
-def page_types(tree, types, title):
-    if types:
-        yield title
+def page_types(tree, types):
+    yield "## The types\n\nStructs, enums and their other names in `src/` that the contracts name.\n"
     for crate in tree.crates:
         own = sorted((t for t in types if t.source.crate == crate), key=lambda t: (t.source.path, t.first))
         for path in dict.fromkeys(t.source.path for t in own):
@@ -413,8 +428,8 @@ def page_definitions(tree, believed):
 
 def page_laws(tree, believed):
     yield "## Laws that definitions hold\n"
-    yield wrapped("These are proved, and need no belief: a definition takes each as a value, as a codec takes the laws of its "
-                  "reader.", "") + "\n"
+    yield wrapped("These are proved, and need no belief: a definition takes each as a value, as a codec takes the laws of "
+                  "its reader.", "") + "\n"
     for _, parts in in_order(tree, believed.laws):
         for file, items in parts:
             yield wrapped(f"- {file.path}: {listed(items)}")
@@ -426,16 +441,15 @@ def page_theorems(tree, believed):
     if not functions:
         return
     yield "## The theorems\n"
-    yield wrapped("Each is the contract of a public function that takes nothing and does nothing, so that it can't be dropped or "
-                  "weakened unseen. Below each stands what it rests on beside the definitions above.", "") + "\n"
+    yield wrapped("Each is the contract of a public function that takes nothing and does nothing, so that it can't be dropped "
+                  "or weakened unseen. Below each stands what it rests on beside the definitions above.", "") + "\n"
     for f in functions:
         own = rests_on(tree, f)
         statement = "; ".join(re.sub(r"\s+", " ", c.text.strip()) for c in f.clauses)
         yield wrapped(f"- `{f.path}` ({f.source.path}, {span(f)}): `{statement}`")
         for _, parts in in_order(tree, own.definitions - believed.definitions):
             for file, items in parts:
-                yield textwrap.fill(f"- {file.path}: {listed(items)}", WIDTH, initial_indent="  ", subsequent_indent="    ",
-                                    break_long_words=False, break_on_hyphens=False)
+                yield wrapped(f"  - {file.path}: {listed(items)}", "    ")
     yield ""
 
 
@@ -463,9 +477,8 @@ def believed_of(tree):
 
 
 def page(tree, believed):
-    parts = [page_head(tree, believed), page_functions(tree)]
-    parts.append(page_types(tree, believed.types, "## The types\n\nStructs and enums of `src/` that the contracts name.\n"))
-    parts += [page_definitions(tree, believed), page_laws(tree, believed), page_theorems(tree, believed), page_words(believed.words)]
+    parts = [page_head(tree, believed), page_functions(tree), page_types(tree, believed.types), page_definitions(tree, believed),
+             page_laws(tree, believed), page_theorems(tree, believed), page_words(believed.words)]
     return "\n".join(line for part in parts for line in part) + "\n"
 
 
@@ -512,15 +525,37 @@ def missing_functions(tree):
             yield f"docs/PROVED.md names {name}, which is no public function"
 
 
+PLACE = re.compile(r"(?<![\w/])((?:crates/\w+/(?:specs|proofs|src)/)?)([\w/]+\.(?:antt|rt))(?:\s+\(([^)]*)\))?")
+NAMED = re.compile(r"`([^`\s]+)`(?! in )")
+
+
+def wrong_places(tree):
+    """Files that docs/RULES.md and docs/PROVED.md name and that aren't there, or don't hold the names in the brackets behind."""
+    by_path = {f.path: set(re.findall(r"[^\s(){}.;,]+", f.text)) for f in tree.files.values()}
+    for page in ("docs/RULES.md", "docs/PROVED.md"):
+        path = os.path.join(tree.root, page)
+        text, folder = open(path).read() if os.path.exists(path) else "", ""
+        for m in PLACE.finditer(text):
+            folder = m.group(1) or folder
+            place = folder + m.group(2)
+            line = text.count("\n", 0, m.start()) + 1
+            if not os.path.exists(os.path.join(tree.root, place)):
+                yield f"{page}:{line}: there is no file {place}"
+            for name in NAMED.findall(m.group(3) or "") if place in by_path else []:
+                if name not in by_path[place]:
+                    yield f"{page}:{line}: {place} has no {name}"
+
+
 def wrong_marks(tree, believed):
     """Files of specs/ whose first line is wrong about whether they are to be believed."""
     spec_files = [f for f in tree.files.values() if ".specs." in f.module and f.items]
     if not any(map(is_marked, spec_files)):
         return
-    needed = {i.module for b in [believed, *map(functools.partial(rests_on, tree), theorem_functions(tree))] for i in b.definitions}
+    resting = [believed, *(rests_on(tree, f) for f in theorem_functions(tree))]
+    needed = {i.module for b in resting for i in b.definitions}
     for file in spec_files:
         if is_marked(file) and file.module in needed:
-            yield f"{file.path} begins with “Not to be believed”, but a contract of what users call, or a theorem, rests on it"
+            yield f"{file.path} begins with “Not to be believed”, but a theorem or a contract of what users call rests on it"
         if not is_marked(file) and file.module not in needed:
             yield f"{file.path} has nothing that is to be believed: its first line should begin with “{MARK}”"
 
@@ -532,6 +567,7 @@ def check(tree, believed, text):
         yield f"{PAGE} is out of date: run tools/believed.py"
     yield from wrong_citations(tree.root)
     yield from missing_functions(tree)
+    yield from wrong_places(tree)
     yield from wrong_marks(tree, believed)
 
 

@@ -73,7 +73,8 @@ class Type:
         self.variants = set(re.findall(VARIANT, text.partition("{")[2], re.M)) if kind == "enum" else set()
         # what it names besides itself and its variants
         head, brace, inner = text.partition("{")
-        self.parts = re.sub(r"\b%s\b" % name, "", head) + (re.sub(VARIANT, r"(", inner, flags=re.M) if kind == "enum" else inner)
+        inner = re.sub(VARIANT, r"(", inner, flags=re.M) if kind == "enum" else inner
+        self.parts = re.sub(r"\b%s\b" % name, "", head) + inner
 
     @property
     def path(self):
