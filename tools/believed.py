@@ -26,7 +26,7 @@ import rattle
 
 ROOT = os.path.dirname(os.path.dirname(os.path.abspath(__file__)))
 PAGE = "docs/BELIEVED.md"
-CALLED = ("baktuven", "judge", "refusal", "exports")
+CALLED = ("baktuven", "judge", "refusal", "hanging", "exports")
 WIDTH = 120
 # Words that make a type a statement, and types of values.
 SAYS = set("≡ ≢ ≤ < ≥ > ⊥ ↔ ¬ ≤ℤ <ℤ IsTrue IsFalse IsSome IsNone All".split())

@@ -1,10 +1,6 @@
 -- The listing's other lines: docs/RULES.md, "The listing". Those of findings are finding's.
 use Rattle.std.specs.Prelude.{ℕ, ◌-◌, ◌==◌, List, [], ◌∷◌, if◌then◌else◌, codes, decimal}
-use Rattle.std.specs.List.{join_with_byte}
-
--- words, with a space between each two
-abbrev pub spaced : List (List ℕ) → List ℕ
-spaced = join_with_byte 32
+use Rattle.finding.specs.Listing.{spaced}
 
 -- a stop: loop, table, row
 abbrev pub stop_line : ℕ → ℕ → ℕ → List ℕ
