@@ -3,6 +3,7 @@ pub mod Bytes
 pub mod Tours
 pub mod Found
 pub mod Forest
+pub mod Conditions
 pub mod Stopped
 pub mod Marks
 pub mod Fine

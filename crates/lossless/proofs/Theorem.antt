@@ -37,6 +37,7 @@ use Rattle.lossless.proofs.Bytes.{dues_append, walked_bytes, walked_sources, wal
 use Rattle.lossless.proofs.Tours.{Closed, tour_so}
 use Rattle.lossless.proofs.Found.{due_append, due_one, chunk_steps_lem, all_found}
 use Rattle.lossless.proofs.Forest.{passed_tree}
+use Rattle.lossless.proofs.Conditions.{walk_complete}
 use Rattle.lossless.proofs.Stopped.{stops_once}
 use Rattle.lossless.proofs.Marks.{apart, trigger_clear, end_clear}
 use Rattle.lossless.proofs.Fine.{Fine, match_exactly}
@@ -63,8 +64,8 @@ module _ (b : List ℕ) (p : Passed b) (C : CompletePlan (job_of b)) where
       go (Some c) e = rw e (λ h. (
         opener_fine j p.fit l c (get_or cs l 0) (on (segment_def j (loop_of j l).trigger) (λ d. d) []) (trigger_clear j p.fit l c e)
             (segment_so (λ d. rises_from 0 d ≡ true) j (loop_of j l).trigger refl (keys_rise b p))
-            (segment_so (All MapStarts) j (loop_of j l).trigger tt C.maps)
-            (segment_so (All (λ (x : ℕ × ElementDef). All (Clear j) x.1.codes)) j (loop_of j l).trigger tt C.codes.elements)
+            (segment_so (All MapStarts) j (loop_of j l).trigger tt C.places.maps)
+            (segment_so (All (λ (x : ℕ × ElementDef). All (Clear j) x.1.codes)) j (loop_of j l).trigger tt C.places.codes.elements)
             (none_left (some_of (holds_separator j) (field_texts j (loop_of j l).trigger (depth_of j l) c.opener (control_in j l c (get_or cs l 0)) (on (segment_def j (loop_of j l).trigger) (λ d. d) []))) false h),
         tt,
       ))
@@ -152,7 +153,7 @@ pub nothing_lost : (b : List ℕ) → Passed b → NothingLost (job_of b)
 nothing_lost b p = record {
   document = λ C h. reads_due b p C h;
   sources = walked_sources (job_of b);
-  stops = λ C. rw (walked_stops (job_of b)) (stops_once (outline_of (job_of b)) (C.walked (passed_tree b p)));
+  stops = λ C. rw (walked_stops (job_of b)) (stops_once (outline_of (job_of b)) (walk_complete (job_of b) (passed_tree b p) C));
   stop_order = walked_stops (job_of b);
   found = all_found (job_of b);
 }
