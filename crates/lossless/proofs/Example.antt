@@ -93,11 +93,11 @@ no_separator : separator_held listing ≡ false
 unfolding separator_held separators member_of due_segments steps_due step_due step_counters row_due cell_text A.identifier_of A.loop_of A.plan_of A.planned_of A.data_of C.opt_get C.get C.bit_of C.value_of C.held C.cell_in C.bytes_of C.between int_text signed count_text figures size first_from
 no_separator = rw steps refl
 
-pub reads_back : ReadsDue listing
+pub reads_back : ReadsDue listing (walked_out listing).bytes
 unfolding job_of
 reads_back =
     let e : job_of listing_bytes ≡ listing = ap (or_else no_job) listing_decodes in
-    (rw e at (nothing_lost listing_bytes (passed listing_bytes listing_passes))).document complete no_separator
+    (let h = rw e at (nothing_lost listing_bytes (passed listing_bytes listing_passes)) in h.reads_back complete (h.found ∙ no_separator))
 
 -- CLP*A1~SVC*HC*100~CLP*B2~
 pub document : (walked_out listing).bytes

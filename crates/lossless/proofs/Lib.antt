@@ -10,6 +10,7 @@ pub mod Fine
 pub mod Rows
 pub mod Chunks
 pub mod Openers
+pub mod Numbers
 pub mod Keys
 pub mod Theorem
 pub mod Example
