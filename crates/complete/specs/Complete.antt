@@ -190,6 +190,8 @@ pub record CodesClear (j : Job) : Type 0 where
 -- docs/RULES.md, "Places": places start at 1, also in the spec's maps and in control rules; those of a row segment rise, those of a repeat
 -- segment don't collide in a full chunk; no element has both plain and component parts; an envelope field that gives a separator is planned
 -- at no component; closer and count elements differ; and codes and the version's first value hold no separator
+-- rising is strict; every planned element is a place, a `Group` value in a row segment and the lists of `Envelope` segments, which nothing
+-- reads, included; a control rule counts also where its loop has no `end`; the version's element is no place
 pub record Places (j : Job) : Type 0 where
   pub segments : Segments (SegmentFits j) j
   pub maps : All (λ (s : List ℕ × SegmentDef). All MapStarts s.1) j.spec.segments
