@@ -24,6 +24,7 @@ use Rattle.writer.specs.Answer.{Answered, values_of}
 use Rattle.writer.specs.Wrote.{values_for, window_from, WroteFrom}
 use Rattle.baktuven.specs.Wrote.{finding_of, in_places, Wrote}
 use Rattle.baktuven.specs.Windows.{blank, records_of, behind}
+use Rattle.baktuven.proofs.Held.{lists_keep}
 
 -- ---- lists
 
@@ -153,4 +154,5 @@ wrote b d d' g g' w w' p p' f f' a h e = record {
   findings = e ∙ in_places_lem b f;
   stops = h.stops;
   nothing_lost = h.nothing_lost;
+  nothing_lost_in = λ z. rw h.values (lists_keep b d d' g g' p p' f f' (sym h.number ∙ z) h.document h.segments (e ∙ in_places_lem b f) h.stops h.nothing_lost);
 }

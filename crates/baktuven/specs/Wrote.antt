@@ -7,12 +7,12 @@ use Rattle.format.specs.Sections.{job_of}
 use Rattle.nest.specs.Finding as N
 use Rattle.nest.specs.Finding.{record_of}
 use Rattle.emit.specs.Did.{traced_word, stop_word}
-use Rattle.lossless.specs.NothingLost.{NothingLost}
 use Rattle.writer.specs.Answer.{Answered, number_of, values_of}
-use Rattle.writer.specs.Result.{result_of}
+use Rattle.writer.specs.Result.{result_of, ResultKept}
 use Rattle.writer.specs.Refused.{refusal}
 use Rattle.writer.specs.Lists.{in_front, holding, unless_refused}
 use Rattle.writer.specs.Wrote.{threes, number_for, values_for}
+use Rattle.baktuven.specs.Held.{NothingLostIn}
 
 -- a finding as its record of ten numbers
 abbrev pub finding_of : N.Finding → Finding
@@ -30,4 +30,6 @@ pub record Wrote (b d d' g g' : List ℕ) (f f' : List Finding) (p p' : List ℕ
   pub findings : f' ≡ unless_refused (refusal b) f (in_places (map finding_of (result_of (job_of b)).findings) f)
   pub stops : p' ≡ unless_refused (refusal b) p (holding (threes p) stop_word (result_of (job_of b)).stops p)
   -- of what a job with a complete plan comes to nothing is lost (docs/RULES.md, "Nothing is lost")
-  pub nothing_lost : refusal b ≡ 0 → NothingLost (job_of b)
+  pub nothing_lost : refusal b ≡ 0 → ResultKept (job_of b) (result_of (job_of b))
+  -- and of what the lists of a finished job hold
+  pub nothing_lost_in : number_of a ≡ 0 → NothingLostIn (job_of b) (values_of a) d' g' f' p'

@@ -1,17 +1,17 @@
--- A complete plan (docs/RULES.md, "A complete plan"): the five conditions, of a job that is not refused.
--- Row segments' places rise strictly; every planned element is a place, `Group` values in row segments and the unread lists of `Envelope` segments
--- included; a control rule counts also without `end`; the version's element is no place; that plan and layout have one entry a loop is said of
--- their outer lists.
-use Rattle.std.specs.Prelude.{ℕ, ◌+◌, ◌*◌, ◌≤◌, ◌<◌, max, ◌≡◌, ◌≢◌, ◌⊎◌, List, [], ◌∷◌, length, Option, None, Some}
+-- A complete plan: the five conditions on the plan of a job that is not refused (docs/RULES.md, "A complete plan"), each a record below, in
+-- that section's order; `CompletePlan` at the end joins them. What nest and the walk look at of a job is its outline (`outline_of`).
+use Rattle.std.specs.Prelude.{ℕ, ◌+◌, ◌*◌, ◌≤◌, ◌<◌, max, ◌≡◌, ◌≢◌, ◌⊎◌, true, ltb, List, [], ◌∷◌, length, Option, None, Some}
 use Rattle.format.specs.Spec.{Control, Loop, ComponentDef, ElementDef, SegmentDef, Version}
 use Rattle.format.specs.Plan.{Source, from_envelope, from_row, from_repeat, Value, from_column, from_group, from_code, ElementPlan, SegmentPlan, LoopPlan}
 use Rattle.format.specs.Job.{Job}
 use Rattle.format.specs.Ask.{loop_of, plan_of, segment_def, step_of, depth_of, capacity_of}
 use Rattle.segment.specs.Grammar.{Without}
 use Rattle.segment.specs.Parts.{rank}
-use Rattle.nest.specs.Lists.{All, on}
+use Rattle.nest.specs.Lists.{All, once, on, times}
+use Rattle.nest.specs.Outline.{Outline, rows, groups, item_loops, item_segments, kind_of, order_of, table_parent, plain}
+use Rattle.nest.specs.Outline as O
 use Rattle.nest.specs.OfJob.{outline_of}
-use Rattle.walk.specs.Complete as Walk
+use Rattle.walk.specs.Complete.{ExactlyOne, Above, TableAbove, may_stand, GroupEnds, PlansRepeat, Anchors}
 use Rattle.emit.specs.Envelope.{field_at, repetition, component}
 
 -- ---- words
@@ -34,16 +34,59 @@ IfThere P (Some x) = P x
 abbrev pub Segments : (SegmentPlan → Type 0) → Job → Type 0
 Segments P j = All (λ (p : LoopPlan). All P p.segments) j.plan
 
--- ---- 2, but for what the walk looks at: one entry a loop or a table
+-- ---- 1: row loops
 
+-- docs/RULES.md, "Row loops": each table without repeat segment has exactly one `Rows` loop, its row loop; `Rows` and `Groups` loops name
+-- no other tables
+pub record RowLoops (o : Outline) : Type 0 where
+  pub row_loop : (t : ℕ) → plain o t ≡ true → ExactlyOne (λ l. kind_of o l ≡ rows t)
+  pub rows_plain : (l t : ℕ) → kind_of o l ≡ rows t → plain o t ≡ true
+  pub groups_plain : (l t : ℕ) → kind_of o l ≡ groups t → plain o t ≡ true
+
+-- ---- 2: entries and orders
+
+-- one entry a loop in the plan and in each outer list of the layout that goes by loops, one a table in the capacities and in data
 pub record Entries (j : Job) : Type 0 where
+  pub plan : length j.plan ≡ length j.spec.loops
+  pub order : length j.layout.order ≡ length j.spec.loops
   pub forced : length j.layout.forced ≡ length j.spec.loops
   pub group_columns : length j.layout.group_columns ≡ length j.spec.loops
   pub depth : length j.layout.depth ≡ length j.spec.loops
   pub capacity : length j.layout.capacity ≡ length j.spec.tables
-  pub data-tables : length j.tables ≡ length j.spec.tables
+  pub data_tables : length j.tables ≡ length j.spec.tables
 
--- ---- 5: places start at 1
+-- docs/RULES.md, "Entries and orders": besides the entries, an order lists each child loop and each planned segment of its loop once and
+-- nothing else, the spec has the occurrence that a planned segment names, and a table's parent is a table without repeat segment
+pub record EntriesAndOrders (j : Job) : Type 0 where
+  pub entries : Entries j
+  pub order_loops : (l k : ℕ) → times k (item_loops (order_of (outline_of j) l)) ≡ times k (O.loop_of (outline_of j) l).children
+  pub order_segments : (l i : ℕ) → times i (item_segments (order_of (outline_of j) l)) ≡ once (ltb i (length (O.plan_of (outline_of j) l).segments))
+  pub occurrences : (l i : ℕ) → i < length (O.plan_of (outline_of j) l).segments
+      → (O.segment_of (outline_of j) l i).occurrence < (O.loop_of (outline_of j) l).occurrences
+  pub parents_plain : (t u : ℕ) → table_parent (outline_of j) t ≡ Some u → plain (outline_of j) u ≡ true
+
+-- ---- 3: above a row loop
+
+-- docs/RULES.md, "Above a row loop": only `Envelope`, `Implied`, `Rows` and `Groups` loops stand above a row loop; the `Rows` loops among
+-- them are the row loops of the table's parent, that one's parent and so on, all of these and no others; and from a `Groups` loop there
+-- down to its own table's row loop, which stands on the same path, only `Envelope` and `Implied` loops and `Groups` loops of that table
+pub record AboveRowLoop (o : Outline) : Type 0 where
+  pub kinds : (l t m : ℕ) → kind_of o l ≡ rows t → Above o m l → may_stand (kind_of o m) ≡ true
+  pub only_parents : (l t m u : ℕ) → kind_of o l ≡ rows t → Above o m l → kind_of o m ≡ rows u → TableAbove o u t
+  pub all_parents : (l t u : ℕ) → kind_of o l ≡ rows t → TableAbove o u t → (m : ℕ) × (kind_of o m ≡ rows u) × Above o m l
+  pub groups_end : (l t g u : ℕ) → kind_of o l ≡ rows t → Above o g l → kind_of o g ≡ groups u → GroupEnds o g u l
+
+-- ---- 4: repeat loops
+
+-- docs/RULES.md, "Repeat loops": a `Rows` loop in a repeat table's list anchors it, so that its rows may hang on that loop's; each such loop
+-- plans exactly one repeat segment of the table, and no other repeat segment is planned
+pub record RepeatLoops (o : Outline) : Type 0 where
+  pub planned : (l t : ℕ) → Anchors o l t → ExactlyOne (PlansRepeat o l t)
+  pub no_other : (l t i : ℕ) → PlansRepeat o l t i → Anchors o l t
+
+-- ---- 5: places
+
+-- places start at 1
 
 pub record PlanStarts (e : ElementPlan) : Type 0 where
   pub element : 1 ≤ e.element
@@ -60,7 +103,7 @@ pub record RuleFits (c : Control) : Type 0 where
   pub count : 1 ≤ c.count
   pub differ : c.closer ≢ c.count
 
--- ---- 5: the places of a planned segment; of a repeat segment those of a full chunk
+-- the places of a planned segment; of a repeat segment those of a full chunk
 
 -- how many rows of a full chunk fill a planned element: each fills a `Group` value, the first any other; a capacity of 0 counts as 1
 abbrev pub reach : Job → Source → Value → ℕ
@@ -107,7 +150,7 @@ pub record SegmentFits (j : Job) (p : SegmentPlan) : Type 0 where
   pub placed : Placed j p.source p.elements
   pub unmixed : Each2 (Unmixed j p.source) p.elements
 
--- ---- 5: an envelope field that gives a separator is planned at no component
+-- an envelope field that gives a separator is planned at no component
 
 -- an element of a loop's trigger, with its number: not the control number's, but the component separator's, or the repetition separator's where it has no code
 pub record GivesSeparator (j : Job) (l : ℕ) (c : Control) (x : ℕ × ElementDef) : Type 0 where
@@ -125,7 +168,7 @@ SeparatorsAlone j = (l : ℕ) → l < length j.plan → (c : Control) → (loop_
     → All (λ (p : SegmentPlan). p.source ≡ from_envelope
     → All (λ x. GivesSeparator j l c x → StandsAlone p x) (on (segment_def j (loop_of j l).trigger) (λ d. d) [])) (plan_of j l).segments
 
--- ---- 5: codes
+-- codes
 
 -- a text without element, component and segment separator
 pub record Clear (j : Job) (text : List ℕ) : Type 0 where
@@ -144,16 +187,23 @@ pub record CodesClear (j : Job) : Type 0 where
   pub components : All (λ (s : List ℕ × SegmentDef). All (λ (x : ℕ × ElementDef). All (λ (c : ℕ × ComponentDef). All (Clear j) c.1.codes) x.1.components) s.1) j.spec.segments
   pub version : IfThere (λ (v : Version). Clear j v.first) j.spec.version
 
--- ---- the conditions
-
-pub record CompletePlan (j : Job) : Type 0 where
-  -- 1 to 4, where the loops are the tree that refusal 4 leaves (proofs/Forest: of every job that is not refused)
-  pub walked : Walk.Tree (outline_of j) → Walk.Complete (outline_of j)
-  -- 2
-  pub entries : Entries j
-  -- 5
+-- docs/RULES.md, "Places": places start at 1, also in the spec's maps and in control rules; those of a row segment rise, those of a repeat
+-- segment don't collide in a full chunk; no element has both plain and component parts; an envelope field that gives a separator is planned
+-- at no component; closer and count elements differ; and codes and the version's first value hold no separator
+-- rising is strict; every planned element is a place, a `Group` value in a row segment and the lists of `Envelope` segments, which nothing
+-- reads, included; a control rule counts also where its loop has no `end`; the version's element is no place
+pub record Places (j : Job) : Type 0 where
   pub segments : Segments (SegmentFits j) j
   pub maps : All (λ (s : List ℕ × SegmentDef). All MapStarts s.1) j.spec.segments
   pub rules : All (λ (l : Loop). IfThere RuleFits l.control) j.spec.loops
   pub separators_alone : SeparatorsAlone j
   pub codes : CodesClear j
+
+-- ---- the five
+
+pub record CompletePlan (j : Job) : Type 0 where
+  pub row_loops : RowLoops (outline_of j)
+  pub entries_and_orders : EntriesAndOrders j
+  pub above_row_loop : AboveRowLoop (outline_of j)
+  pub repeat_loops : RepeatLoops (outline_of j)
+  pub places : Places j

@@ -1,8 +1,9 @@
 -- What the steps of the tour write, one after the other: bytes, segments, findings and stops (write/emit.rs, write/trace.rs;
 -- docs/RULES.md, "Segments" and "What a call tells").
 -- The state is what a step needs to know of those before it: the highest row of each table, the counter of each loop, and how many trace
--- entries there are, of which those since `begun` belong to the segment that is not finished yet. Entries are counted up to a cap that no
--- job reaches.
+-- entries there are, of which those since `begun` belong to the segment that is not finished yet. Entries are counted here as the code
+-- counts them, up to 2^63; what `write` promises adds them up (`trace_list` in lossless/specs/Due), which is the same for each job that is
+-- not refused (writer/proofs/Entries).
 use Rattle.std.specs.Prelude.{ℕ, ◌+◌, ◌-◌, ◌%◌, ◌^◌, max, Bool, List, [], ◌∷◌, ◌++◌, ltb, get_or, set, replicate, Option, None, Some}
 use Rattle.format.specs.Spec.{Control, Counted, count_segments, count_children}
 use Rattle.format.specs.Job.{Job}
@@ -127,7 +128,7 @@ opener_out j l s = on (loop_of j l).control (λ c.
     let p = opener_put j l c (get_or s.counter l 0) in
     segment_out j (loop_of j l).trigger p.parts p.findings p.entries None (counter_up l s)) (quiet s)
 
--- the number that the last opener took
+-- the number that the last opener took, where n is its loop's next: `next` of it is n
 abbrev pub previous : ℕ → ℕ
 previous n = (n + (2 ^ 64 - 1)) % 2 ^ 64
 

@@ -5,10 +5,11 @@ use Rattle.std.proofs.lemmas.List.Edits.{sets}
 use Rattle.finding.specs.declared.Finding.{Finding}
 use Rattle.format.specs.Sections.{job_of}
 use Rattle.emit.specs.Did.{traced_word, stop_word}
-use Rattle.writer.specs.Result.{result_of}
+use Rattle.writer.specs.Result.{result_of, ResultKept}
 use Rattle.writer.specs.Refused.{refusal}
 use Rattle.writer.specs.Lists.{in_front, holding, unless_refused}
 use Rattle.writer.specs.Wrote.{threes, number_for, values_for}
+use Rattle.baktuven.specs.Held.{NothingLostIn}
 use Rattle.baktuven.specs.Wrote.{finding_of, in_places}
 
 pub record WroteOut (b d d' g g' : List ℕ) (f f' : List Finding) (p p' c c' : List ℕ) (r : ℕ) : Type 0 where
@@ -18,3 +19,7 @@ pub record WroteOut (b d d' g g' : List ℕ) (f f' : List Finding) (p p' c c' : 
   pub segments : g' ≡ unless_refused (refusal b) g (holding (threes g) traced_word (result_of (job_of b)).segments g)
   pub findings : f' ≡ unless_refused (refusal b) f (in_places (map finding_of (result_of (job_of b)).findings) f)
   pub stops : p' ≡ unless_refused (refusal b) p (holding (threes p) stop_word (result_of (job_of b)).stops p)
+  -- of what a job with a complete plan comes to nothing is lost (docs/RULES.md, "Nothing is lost")
+  pub nothing_lost : refusal b ≡ 0 → ResultKept (job_of b) (result_of (job_of b))
+  -- and of what the lists hold where the answer is 0, as many of each as the counts say
+  pub nothing_lost_in : r ≡ 0 → NothingLostIn (job_of b) (values_for b) d' g' f' p'

@@ -9,56 +9,47 @@ use Rattle.format.specs.Refusal.{refusal_of}
 use Rattle.nest.specs.OfJob.{outline_of}
 use Rattle.nest.proofs.Bridge.{loop_count_is, plan_count_is, order_count_is}
 use Rattle.walk.specs.Complete.{Tree, Complete}
-use Rattle.complete.specs.Complete.{CompletePlan}
+use Rattle.complete.specs.Complete.{Entries, Places, CompletePlan}
 use Rattle.complete.specs.Decides.{Decides}
+use Rattle.lossless.proofs.Conditions.{walk_complete, plan_complete}
 use Rattle.walk.proofs.Tests.{both}
 use Rattle.paths.specs.Tests.{condition1, condition3, condition4}
-use Rattle.paths.specs.Entries.{Entries4, Orders}
+use Rattle.paths.specs.Entries.{Orders}
 use Rattle.paths.proofs.Walks.{conditions_walk, walk_conditions}
-use Rattle.places.specs.Fits.{Fits5}
 use Rattle.std.specs.Prelude.{Ok, Err}
 use Rattle.refusal.specs.declared.Refusal.{Refusal}
 use Rattle.refusal.specs.Answer.{number}
 use Rattle.judge.specs.Judged.{Judged}
 
--- ---- the conditions but for places, by the answers to each
+-- ---- the conditions but for places, by the answers to each, where the loops are a tree
 
 decided : (P : Type 0) (b : Bool) → Decides b P → P → b ≡ true
 decided P true d p = refl
 decided P false d p = absurd (d.1 refl p)
 
 module _ {j : Job} {a b c d z : Bool} (one : a ≡ condition1 (outline_of j)) (two : Decides b (Orders j)) (three : c ≡ condition3 (outline_of j)) (four : d ≡ condition4 (outline_of j)) (w : z ≡ a && (b && (c && d))) where
-  -- one entry a loop, as the outline has it
-  pub all_walked : z ≡ true → Entries4 j × (Tree (outline_of j) → Complete (outline_of j))
-  all_walked h =
+  -- the entries, and what the walk's laws ask
+  pub all_walked : Tree (outline_of j) → z ≡ true → Entries j × Complete (outline_of j)
+  all_walked T h =
       let p = both a _ (sym w ∙ h) in
       let q = both b _ p.1 in
       let r = both c d q.1 in
       let o = two.0 q.0 in
       let plan = plan_count_is j ∙ o.entries.plan ∙ sym (loop_count_is j) in
       let order = order_count_is j ∙ o.entries.order ∙ sym (loop_count_is j) in
-      (o.entries, conditions_walk (outline_of j) plan order (sym one ∙ p.0) o.ordered (sym three ∙ r.0) (sym four ∙ r.1))
-
-  -- a complete plan has one entry a loop
-  entries_of : Tree (outline_of j) → CompletePlan j → Entries4 j
-  entries_of T C =
-      let k = C.walked T in
-      record { entries = C.entries; plan = sym (plan_count_is j) ∙ k.plan_entries ∙ loop_count_is j; order = sym (order_count_is j) ∙ k.order_entries ∙ loop_count_is j }
+      (o.entries, conditions_walk (outline_of j) plan order (sym one ∙ p.0) o.ordered (sym three ∙ r.0) (sym four ∙ r.1) T)
 
   pub one_lacks : Tree (outline_of j) → z ≡ false → Decides false (CompletePlan j)
   one_lacks T h = (
     (λ e. cc),
     (λ e C.
-        let k = walk_conditions (outline_of j) (C.walked T) in
-        let m = decided (Orders j) b two (record { entries = entries_of T C; ordered = k.1 }) in
+        let k = walk_conditions (outline_of j) (walk_complete j T C) in
+        let m = decided (Orders j) b two (record { entries = C.entries_and_orders.entries; ordered = k.1 }) in
         true≢false (sym (rw (one ∙ k.0, m, three ∙ k.2, four ∙ k.3) at w) ∙ h)),
   )
 
-pub by_places : {j : Job} {r : Bool} → Entries4 j × (Tree (outline_of j) → Complete (outline_of j)) → Decides r (Fits5 j) → Decides r (CompletePlan j)
-by_places w d = (
-  (λ h. let f = d.0 h in record { walked = w.1; entries = w.0.entries; segments = f.segments; maps = f.maps; rules = f.rules; separators_alone = f.separators_alone; codes = f.codes }),
-  (λ h c. d.1 h (record { segments = c.segments; maps = c.maps; rules = c.rules; separators_alone = c.separators_alone; codes = c.codes })),
-)
+pub by_places : {j : Job} {r : Bool} → Entries j × Complete (outline_of j) → Decides r (Places j) → Decides r (CompletePlan j)
+by_places {j} w d = ((λ h. plan_complete j w.1 w.0 (d.0 h)), (λ h c. d.1 h c.places))
 
 -- ---- the answer
 

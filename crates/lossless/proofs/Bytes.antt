@@ -1,8 +1,9 @@
 -- The bytes of the walk are its due segments, joined; its trace list has their sources; its stops are those of the tour.
-use Prim.Native.Nat.{ℕ}
+use Prim.Native.Nat.{ℕ, ◌+◌}
 use mathlib.Core.Path.{◌≡◌, refl, sym, ap, ◌∙◌}
 use mathlib.Core.Bool.{Bool}
 use mathlib.Core.List.{List, [], ◌∷◌, ◌++◌, append-nil}
+use lib.ListN.{length, length-map}
 use Rattle.std.specs.Prelude.{Option, None, Some}
 use Rattle.format.specs.Spec.{Control}
 use Rattle.format.specs.Job.{Job}
@@ -13,7 +14,7 @@ use Rattle.nest.specs.Lists.{each}
 use Rattle.nest.specs.OfJob.{outline_of}
 use Rattle.walk.specs.Tour.{Step, enters, stop, opener, row_segment, fill, chunk, closer, tour, Stop, stop_of, stop_list}
 use Rattle.emit.specs.Fold.{Traced, State, start, separators_of, stop_out, row_out, fill_out, chunk_out, opener_out, closer_out, step_out, steps_out}
-use Rattle.lossless.specs.Due.{DueSegment, opener_due, row_due, chunk_due, closer_due, step_due, step_counters, steps_due, due_segments, dues_of, sources_of}
+use Rattle.lossless.specs.Due.{DueSegment, opener_due, row_due, chunk_due, closer_due, step_due, step_counters, steps_due, due_segments, dues_of, sources_of, traced_from, trace_list}
 use Rattle.lossless.specs.NothingLost.{walked_out, traced_sources}
 
 pub dues_append : (xs ys : List DueSegment) → dues_of (xs ++ ys) ≡ dues_of xs ++ dues_of ys
@@ -95,6 +96,21 @@ pub walked_stops : (j : Job) → (walked_out j).stops ≡ stop_list (tour (outli
 unfolding stop_list
 walked_stops j = steps_stops j (tour (outline_of j)) (start j)
 
-pub walked_sources : (j : Job) → traced_sources (walked_out j).segments ≡ sources_of (due_segments j)
+walked_sources : (j : Job) → traced_sources (walked_out j).segments ≡ sources_of (due_segments j)
 unfolding due_segments
 walked_sources j = steps_sources j (tour (outline_of j)) (start j)
+
+from_sources : (n : ℕ) (ds : List DueSegment) → traced_sources (traced_from n ds) ≡ sources_of ds
+unfolding traced_from
+from_sources n [] = refl
+from_sources n (d ∷ ds) = ap (λ (l : List (Option (ℕ × ℕ))). d.source ∷ l) (from_sources (n + d.entries) ds)
+
+pub trace_sources : (j : Job) → traced_sources (trace_list j) ≡ sources_of (due_segments j)
+trace_sources j = from_sources 0 (due_segments j)
+
+-- as many as the walk finishes
+pub trace_length : (j : Job) → length (trace_list j) ≡ length (walked_out j).segments
+trace_length j =
+    sym (length-map (trace_list j) (λ (x : Traced). x.row))
+    ∙ ap length (trace_sources j ∙ sym (walked_sources j))
+    ∙ length-map (walked_out j).segments (λ (x : Traced). x.row)

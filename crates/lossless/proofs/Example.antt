@@ -31,13 +31,14 @@ use Rattle.walk.specs.Complete.{climbs, is_root}
 use Rattle.walk.specs.Check.{fits, tree_tests, plan_tests, complete_ok}
 use Rattle.walk.proofs.CheckRight.{check_right}
 use Rattle.emit.specs.Puts.{cell_text, put_cell, row_put}
-use Rattle.complete.specs.Complete.{CompletePlan}
+use Rattle.complete.specs.Complete.{Entries, CompletePlan}
 use Rattle.lossless.specs.Due.{row_due, step_due, step_counters, steps_due, due_segments, dues_of, sources_of}
 use Rattle.lossless.specs.Separators.{separator_held}
 use Rattle.lossless.specs.NothingLost.{walked_out, ReadsDue}
 use Rattle.lossless.specs.Example.{CLP, SVC, at, ExampleReadsBack}
 use Rattle.lossless.proofs.Words.{all_get}
 use Rattle.lossless.proofs.Bytes.{walked_bytes}
+use Rattle.lossless.proofs.Conditions.{plan_complete}
 use Rattle.lossless.proofs.Theorem.{nothing_lost}
 
 tests : complete_ok (outline_of listing) ≡ true
@@ -48,10 +49,11 @@ no_control : (l : ℕ) → (A.loop_of listing l).control ≡ None
 unfolding A.loop_of
 no_control l = all_get (λ (v : Loop). v.control ≡ None) listing.spec.loops no_loop (refl, (refl, tt)) refl l
 
+entries : Entries listing
+entries = record { plan = refl; order = refl; forced = refl; group_columns = refl; depth = refl; capacity = refl; data_tables = refl }
+
 pub complete : CompletePlan listing
-complete = record {
-  walked = λ tree. (check_right (outline_of listing)).0 tests;
-  entries = record { forced = refl; group_columns = refl; depth = refl; capacity = refl; data-tables = refl };
+complete = plan_complete listing ((check_right (outline_of listing)).0 tests) entries (record {
   segments = (
     (record { starts = (record { element = omega arith; component = tt }, tt); placed = (tt, tt); unmixed = ((λ k n p q e z. refl, tt), tt) }, tt),
     ((record { starts = (record { element = omega arith; component = tt }, (record { element = omega arith; component = tt }, tt)); placed = ((inl (omega arith), tt), (tt, tt)); unmixed = ((λ k n p q e z. refl, (λ k n p q e z. refl, tt)), ((λ k n p q e z. refl, (λ k n p q e z. refl, tt)), tt)) }, tt), tt),
@@ -60,7 +62,7 @@ complete = record {
   rules = (tt, (tt, tt));
   separators_alone = λ l h c e. absurd (none-some c (sym (no_control l) ∙ e));
   codes = record { planned = (((tt, tt), tt), (((record { no_element = (λ e. omega (arith, e), (λ e. omega (arith, e), tt)); no_component = (λ e. omega (arith, e), (λ e. omega (arith, e), tt)); no_segment = (λ e. omega (arith, e), (λ e. omega (arith, e), tt)) }, (tt, tt)), tt), tt)); elements = ((tt, tt), ((tt, (tt, tt)), tt)); components = ((tt, tt), ((tt, (tt, tt)), tt)); version = tt };
-}
+})
 
 -- ---- its due segments
 
@@ -84,11 +86,11 @@ no_separator : separator_held listing ≡ false
 unfolding separator_held separators member_of due_segments steps_due step_due step_counters row_due cell_text A.identifier_of A.loop_of A.plan_of A.planned_of A.data_of C.opt_get C.get C.bit_of C.value_of C.held C.cell_in C.bytes_of C.between int_text signed count_text figures size first_from
 no_separator = rw steps refl
 
-pub reads_back : ReadsDue listing
+pub reads_back : ReadsDue listing (walked_out listing).bytes
 unfolding job_of
 reads_back =
     let e : job_of listing_bytes ≡ listing = ap (or_else no_job) listing_decodes in
-    (rw e at (nothing_lost listing_bytes (passed listing_bytes listing_passes))).document complete no_separator
+    (let h = rw e at (nothing_lost listing_bytes (passed listing_bytes listing_passes)) in h.reads_back complete (h.found ∙ no_separator))
 
 -- CLP*A1~SVC*HC*100~CLP*B2~
 pub document : (walked_out listing).bytes

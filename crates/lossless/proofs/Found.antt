@@ -1,6 +1,6 @@
 -- The walk finds a delimiter exactly where a cell or envelope text of a due segment holds a separator.
 use Prim.Native.Nat.{ℕ, zero, suc, ◌+◌, ◌*◌}
-use mathlib.Core.Path.{◌≡◌, refl, sym, ap, ◌∙◌}
+use mathlib.Core.Path.{◌≡◌, refl, sym, ap, ap₂, ◌∙◌}
 use mathlib.Core.Bool.{Bool, true, false, cond, ◌||◌}
 use mathlib.Core.List.{List, [], ◌∷◌, ◌++◌, append_assoc, append-nil}
 use native.Mathlib.Omega.{arith}
@@ -18,7 +18,7 @@ use Rattle.segment.specs.Parts.{pick}
 use Rattle.nest.specs.Lists.{on, each, some_of, from}
 use Rattle.nest.specs.Outline.{Outline, table_of, table_parent, row_count, repeated}
 use Rattle.nest.specs.Nest.{Row, Claim, anchors, claim_in, hangs, first_row}
-use Rattle.nest.specs.Finding.{Finding, Origin, field, Place, delimiter, duplicate, missing, mismatch, out_of_order}
+use Rattle.nest.specs.Finding.{Finding, Origin, cell, field, Place, delimiter, duplicate, missing, mismatch, out_of_order, not_writable, record_of}
 use Rattle.nest.specs.NestFindings.{duplicate_at, duplicates, contradiction_at, contradictions, differing, last_table, missing_at, row_findings, table_findings, nest_findings}
 use Rattle.nest.specs.OfJob.{outline_of}
 use Rattle.walk.specs.Tour.{Step, enters, stop, opener, row_segment, fill, chunk, closer, row_steps, chunk_steps}
@@ -28,7 +28,7 @@ use Rattle.emit.specs.Fold.{State, Out, and_then, start, above, order_findings, 
 use Rattle.emit.proofs.TookLaws.{steps_append, steps_one}
 use Rattle.emit.proofs.JoinLaws.{closer_quiet}
 use Rattle.lossless.specs.Due.{DueSegment, row_cell, row_cells, text_of_cell, chunk_cell, chunk_row, chunk_cells, sourced_text, opener_due, row_due, chunk_due, closer_due, step_due, step_counters, steps_due, due_segments}
-use Rattle.lossless.specs.Separators.{holds_separator, segment_holds, separator_held, is_delimiter, delimiter_found}
+use Rattle.lossless.specs.Separators.{holds_separator, segment_holds, separator_held, is_delimiter, delimiter_found, kinds_of, delimiter_kind}
 use Rattle.lossless.specs.NothingLost.{walked_out}
 use Rattle.std.proofs.Math.Bool.{or-false}
 use Rattle.nest.proofs.Scan.{some_append}
@@ -310,8 +310,29 @@ module _ (o : Outline) where
       ∙ ap (λ b. b || found (each (table_findings o) (from 0 (length o.tables)))) (none_each is_delimiter (duplicates o) (from 0 (length o.row_counts)) (λ t. none_each is_delimiter (duplicate_at o t) (from 0 (row_count o t)) (duplicate_quiet t)))
       ∙ none_each is_delimiter (table_findings o) (from 0 (length o.tables)) (λ t. none_each is_delimiter (row_findings o t) (from 0 (row_count o t)) (row_quiet t))
 
-pub all_found : (j : Job) → delimiter_found (nest_findings (outline_of j) ++ (walked_out j).findings) ≡ separator_held j
+-- ---- the kind alone tells
+
+-- which of them has kind 4
+kind_right : (x : Finding) → eqb 4 (get_or (record_of x) 0 0) ≡ is_delimiter x
+unfolding record_of
+kind_right (duplicate t r k f) = refl
+kind_right (missing t r u None) = refl
+kind_right (missing t r u (Some v)) = refl
+kind_right (mismatch t r a v u p e) = refl
+kind_right (out_of_order t r a v h) = refl
+kind_right (delimiter (cell t r c) p b role) = refl
+kind_right (delimiter (field f) p b role) = refl
+kind_right (not_writable (cell t r c) p reason) = refl
+kind_right (not_writable (field f) p reason) = refl
+
+kinds_right : (xs : List Finding) → delimiter_kind (kinds_of xs) ≡ delimiter_found xs
+unfolding delimiter_kind delimiter_found
+kinds_right [] = refl
+kinds_right (x ∷ xs) = ap₂ ◌||◌ (kind_right x) (kinds_right xs)
+
+pub all_found : (j : Job) → delimiter_kind (kinds_of (nest_findings (outline_of j) ++ (walked_out j).findings)) ≡ separator_held j
 unfolding delimiter_found
 all_found j =
-    some_append is_delimiter (nest_findings (outline_of j)) (walked_out j).findings
+    kinds_right (nest_findings (outline_of j) ++ (walked_out j).findings)
+    ∙ some_append is_delimiter (nest_findings (outline_of j)) (walked_out j).findings
     ∙ ap (λ b. b || found (walked_out j).findings) (nest_quiet (outline_of j)) ∙ walked_found j

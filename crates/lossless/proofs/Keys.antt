@@ -67,14 +67,14 @@ module _ (j : Job) where
   planned_so P nil h l i = all_get P (plan_of j l).segments no_segment_plan (all_get (λ (p : LoopPlan). All P p.segments) j.plan no_loop_plan h tt l) nil i
 
   pub fits_at : CompletePlan j → (l i : ℕ) → SegmentFits j (planned_of j l i)
-  fits_at C = planned_so (SegmentFits j) (record { starts = tt; placed = tt; unmixed = tt }) C.segments
+  fits_at C = planned_so (SegmentFits j) (record { starts = tt; placed = tt; unmixed = tt }) C.places.segments
 
   pub codes_at : CompletePlan j → (l i : ℕ) → All (λ (e : ElementPlan). CodeClear j e.value) (planned_of j l i).elements
-  codes_at C = planned_so (λ (p : SegmentPlan). All (λ (e : ElementPlan). CodeClear j e.value) p.elements) tt C.codes.planned
+  codes_at C = planned_so (λ (p : SegmentPlan). All (λ (e : ElementPlan). CodeClear j e.value) p.elements) tt C.places.codes.planned
 
   pub rule_at : CompletePlan j → (l : ℕ) (c : Control) → (loop_of j l).control ≡ Some c → RuleFits c
   unfolding loop_of
-  rule_at C l c e = rw e at (all_get (λ (v : Loop). IfThere RuleFits v.control) j.spec.loops no_loop C.rules tt l)
+  rule_at C l c e = rw e at (all_get (λ (v : Loop). IfThere RuleFits v.control) j.spec.loops no_loop C.places.rules tt l)
 
   -- ---- in the outline
 

@@ -3,12 +3,14 @@ pub mod Bytes
 pub mod Tours
 pub mod Found
 pub mod Forest
+pub mod Conditions
 pub mod Stopped
 pub mod Marks
 pub mod Fine
 pub mod Rows
 pub mod Chunks
 pub mod Openers
+pub mod Numbers
 pub mod Keys
 pub mod Theorem
 pub mod Example

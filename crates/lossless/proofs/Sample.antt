@@ -13,7 +13,8 @@ use Rattle.nest.specs.OfJob.{outline_of}
 use Rattle.walk.specs.Complete.{climbs, is_root}
 use Rattle.walk.specs.Check.{fits, tree_tests, plan_tests, complete_ok}
 use Rattle.walk.proofs.CheckRight.{check_right}
-use Rattle.complete.specs.Complete.{PlanStarts, MapStarts, SegmentFits, StandsAlone, SeparatorsAlone, CompletePlan}
+use Rattle.complete.specs.Complete.{PlanStarts, MapStarts, SegmentFits, StandsAlone, SeparatorsAlone, Entries, CompletePlan}
+use Rattle.lossless.proofs.Conditions.{plan_complete}
 use Rattle.lossless.specs.Sample.{element, placed, claim, adjustments, job}
 
 tests : complete_ok (outline_of job) ≡ true
@@ -52,13 +53,14 @@ separators_alone zero h c e = ((λ s. (λ g. alone 11, (λ g. alone 13, (λ g. a
 separators_alone (suc zero) h c e = absurd (none-some c e)
 separators_alone (suc (suc l)) h c e = absurd (omega arith)
 
+entries : Entries job
+entries = record { plan = refl; order = refl; forced = refl; group_columns = refl; depth = refl; capacity = refl; data_tables = refl }
+
 pub complete : CompletePlan job
-complete = record {
-  walked = λ tree. (check_right (outline_of job)).0 tests;
-  entries = record { forced = refl; group_columns = refl; depth = refl; capacity = refl; data-tables = refl };
+complete = plan_complete job ((check_right (outline_of job)).0 tests) entries (record {
   segments = ((record { starts = tt; placed = tt; unmixed = tt }, tt), ((claim_fits, (adjustments_fit, tt)), tt));
   maps = ((key 0, tt), ((key 10, (key 12, (key 15, tt))), tt));
   rules = (record { opener = omega arith; closer = omega arith; count = omega arith; differ = λ e. omega (arith, e) }, (tt, tt));
   separators_alone = separators_alone;
   codes = record { planned = ((tt, tt), (((tt, tt), ((tt, (tt, (tt, tt))), tt)), tt)); elements = ((tt, tt), ((tt, (tt, (tt, tt))), tt)); components = ((tt, tt), ((tt, (tt, (tt, tt))), tt)); version = tt };
-}
+})

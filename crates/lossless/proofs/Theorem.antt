@@ -22,21 +22,23 @@ use Rattle.segment.proofs.FromParts as Parts
 use Rattle.segment.proofs.OneReading.{one_reading}
 use Rattle.nest.specs.Lists.{All, some_of, on}
 use Rattle.nest.specs.OfJob.{outline_of}
+use Rattle.nest.specs.NestFindings.{nest_findings}
 use Rattle.nest.proofs.Bridge.{capacity_is}
 use Rattle.nest.proofs.Alls.{all_append, all_weaker}
 use Rattle.walk.specs.Tour.{Step, enters, stop, opener, row_segment, closer}
 use Rattle.emit.proofs.Plain.{Textual}
 use Rattle.emit.specs.Envelope.{control_in, opener_put}
-use Rattle.emit.specs.Fold.{State, start, separators_of, steps_out, count_of}
+use Rattle.emit.specs.Fold.{State, start, separators_of, steps_out, previous, count_of}
 use Rattle.complete.specs.Complete.{Clear, MapStarts, CompletePlan}
-use Rattle.lossless.specs.Due.{DueSegment, row_cells, chunk_cells, field_texts, last_taken, opener_due, row_due, chunk_due, closer_due, step_due, steps_due, due_segments, dues_of}
-use Rattle.lossless.specs.Separators.{holds_separator, segment_holds, separator_held}
+use Rattle.lossless.specs.Due.{DueSegment, row_cells, chunk_cells, field_texts, opener_due, row_due, chunk_due, closer_due, step_due, steps_due, due_segments, dues_of, trace_list}
+use Rattle.lossless.specs.Separators.{holds_separator, segment_holds, separator_held, kinds_of}
 use Rattle.lossless.specs.NothingLost.{walked_out, ReadsDue, NothingLost}
 use Rattle.lossless.proofs.Words.{none_left, none_append}
-use Rattle.lossless.proofs.Bytes.{dues_append, walked_bytes, walked_sources, walked_stops}
+use Rattle.lossless.proofs.Bytes.{dues_append, walked_bytes, walked_stops, trace_sources}
 use Rattle.lossless.proofs.Tours.{Closed, tour_so}
 use Rattle.lossless.proofs.Found.{due_append, due_one, chunk_steps_lem, all_found}
 use Rattle.lossless.proofs.Forest.{passed_tree}
+use Rattle.lossless.proofs.Conditions.{walk_complete}
 use Rattle.lossless.proofs.Stopped.{stops_once}
 use Rattle.lossless.proofs.Marks.{apart, trigger_clear, end_clear}
 use Rattle.lossless.proofs.Fine.{Fine, match_exactly}
@@ -63,8 +65,8 @@ module _ (b : List ℕ) (p : Passed b) (C : CompletePlan (job_of b)) where
       go (Some c) e = rw e (λ h. (
         opener_fine j p.fit l c (get_or cs l 0) (on (segment_def j (loop_of j l).trigger) (λ d. d) []) (trigger_clear j p.fit l c e)
             (segment_so (λ d. rises_from 0 d ≡ true) j (loop_of j l).trigger refl (keys_rise b p))
-            (segment_so (All MapStarts) j (loop_of j l).trigger tt C.maps)
-            (segment_so (All (λ (x : ℕ × ElementDef). All (Clear j) x.1.codes)) j (loop_of j l).trigger tt C.codes.elements)
+            (segment_so (All MapStarts) j (loop_of j l).trigger tt C.places.maps)
+            (segment_so (All (λ (x : ℕ × ElementDef). All (Clear j) x.1.codes)) j (loop_of j l).trigger tt C.places.codes.elements)
             (none_left (some_of (holds_separator j) (field_texts j (loop_of j l).trigger (depth_of j l) c.opener (control_in j l c (get_or cs l 0)) (on (segment_def j (loop_of j l).trigger) (λ d. d) []))) false h),
         tt,
       ))
@@ -73,15 +75,15 @@ module _ (b : List ℕ) (p : Passed b) (C : CompletePlan (job_of b)) where
   unfolding closer_due
   closer_done l o n m cs = go (loop_of j l).control refl (loop_of j l).end refl
     where
-      control : (c : Control) (o : Bool) → Textual (pick o (control_in j l c (last_taken l cs)) [])
-      control c true = control_textual j l c (last_taken l cs)
+      control : (c : Control) (o : Bool) → Textual (pick o (control_in j l c (previous (get_or cs l 0))) [])
+      control c true = control_textual j l c (previous (get_or cs l 0))
       control c false = tt
 
       go : (x : Option Control) → (loop_of j l).control ≡ x → (y : Option (List ℕ)) → (loop_of j l).end ≡ y → AllFine (closer_due j l o n m cs)
       go None e y q = rw e (λ h. tt)
       go (Some c) e None q = rw (e, q) (λ h. tt)
       go (Some c) e (Some id) q = rw (e, q) (λ h.
-          (closer_fine j p.fit id c (pick o (control_in j l c (last_taken l cs)) []) (count_of c.counted n m) (end_clear j p.fit l id q) (rule_at j C l c e) (control c o), tt))
+          (closer_fine j p.fit id c (pick o (control_in j l c (previous (get_or cs l 0))) []) (count_of c.counted n m) (end_clear j p.fit l id q) (rule_at j C l c e) (control c o), tt))
 
   row_done : (l i t r : ℕ) → (planned_of j l i).source ≡ from_row t → (identifier_of j l i ≢ []) × Clear j (identifier_of j l i) → AllFine (row_due j l i t r ∷ [])
   unfolding row_due
@@ -132,7 +134,7 @@ module _ (b : List ℕ) (p : Passed b) (C : CompletePlan (job_of b)) where
   unfolding separator_held due_segments
   all_fine h = tour_so (outline_of j) Done closed (start j) h
 
-  reads_due : separator_held j ≡ false → ReadsDue j
+  reads_due : separator_held j ≡ false → ReadsDue j (walked_out j).bytes
   reads_due h =
       let s = separators_of j in
       let ds = dues_of (due_segments j) in
@@ -148,11 +150,12 @@ module _ (b : List ℕ) (p : Passed b) (C : CompletePlan (job_of b)) where
         segments = match_exactly s ds fine xs (joined_read_as s a ds free xs (joined_reads s a ds free));
       }
 
-pub nothing_lost : (b : List ℕ) → Passed b → NothingLost (job_of b)
+-- the trace list counts the entries by their sum, as long as it may be
+pub nothing_lost : (b : List ℕ) → Passed b → NothingLost (job_of b) (walked_out (job_of b)).bytes (trace_list (job_of b)) (kinds_of (nest_findings (outline_of (job_of b)) ++ (walked_out (job_of b)).findings)) (walked_out (job_of b)).stops
 nothing_lost b p = record {
-  document = λ C h. reads_due b p C h;
-  sources = walked_sources (job_of b);
-  stops = λ C. rw (walked_stops (job_of b)) (stops_once (outline_of (job_of b)) (C.walked (passed_tree b p)));
+  reads_back = λ C h. reads_due b p C (sym (all_found (job_of b)) ∙ h);
+  sources = trace_sources (job_of b);
+  stops_once = λ C. rw (walked_stops (job_of b)) (stops_once (outline_of (job_of b)) (walk_complete (job_of b) (passed_tree b p) C));
   stop_order = walked_stops (job_of b);
   found = all_found (job_of b);
 }

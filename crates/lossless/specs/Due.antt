@@ -1,7 +1,7 @@
 -- A job's due segments (docs/RULES.md, "Due segments"), which the definitions of nest, walk and skipping give, in order, from the job alone: for each
 -- step of the walk that writes, the identifier, the parts, the source, and the texts of its cells and envelope fields. The one thing that a step needs
 -- to know of those before it is the next control number of its loop.
-use Rattle.std.specs.Prelude.{ℕ, zero, suc, ◌+◌, ◌*◌, ◌-◌, ◌%◌, ◌^◌, Bool, List, [], ◌∷◌, ◌++◌, map, get_or, set, replicate, Option, None, Some}
+use Rattle.std.specs.Prelude.{ℕ, zero, suc, ◌+◌, ◌*◌, Bool, List, [], ◌∷◌, ◌++◌, map, get_or, set, replicate, Option, None, Some}
 use Rattle.format.specs.Spec.{ElementDef}
 use Rattle.format.specs.Plan.{Value, from_column, from_group, from_code, ElementPlan}
 use Rattle.format.specs.Job.{Job}
@@ -14,15 +14,16 @@ use Rattle.nest.specs.OfJob.{outline_of}
 use Rattle.walk.specs.Tour.{Step, enters, stop, opener, row_segment, fill, chunk, closer, tour}
 use Rattle.emit.specs.Puts.{cell_text, row_put, chunk_puts}
 use Rattle.emit.specs.Envelope.{Sourced, source_at, padded_to, opener_put, closer_put, control_in}
-use Rattle.emit.specs.Fold.{first_row, next, count_of}
+use Rattle.emit.specs.Fold.{Traced, first_row, next, previous, count_of}
 
 pub record DueSegment : Type 0 where
   pub due : Due  -- identifier and parts
   pub tried : List (List ℕ)  -- its cell and envelope texts, those of codes and closers aside
   pub source : Option (ℕ × ℕ)  -- the table and row that it comes from, of a repeat segment the first of its rows; none: the envelope
+  pub entries : ℕ  -- how many trace entries it has: one for each cell, one for each envelope field and one for a closer's control number
 
-abbrev pub due_with : List ℕ → List Part → List (List ℕ) → Option (ℕ × ℕ) → DueSegment
-due_with id parts tried source = record { due = record { id = id; parts = parts }; tried = tried; source = source }
+abbrev pub due_with : List ℕ → List Part → List (List ℕ) → Option (ℕ × ℕ) → ℕ → DueSegment
+due_with id parts tried source entries = record { due = record { id = id; parts = parts }; tried = tried; source = source; entries = entries }
 
 -- ---- cell texts
 
@@ -66,28 +67,28 @@ unfoldable pub opener_due : Job → ℕ → List ℕ → List DueSegment
 opener_due j l cs = on (loop_of j l).control (λ c.
     let trigger = (loop_of j l).trigger in
     let number = get_or cs l 0 in
-    due_with trigger (opener_put j l c number).parts
-    (field_texts j trigger (depth_of j l) c.opener (control_in j l c number) (on (segment_def j trigger) (λ d. d) [])) None ∷ []) []
+    let p = opener_put j l c number in
+    due_with trigger p.parts
+    (field_texts j trigger (depth_of j l) c.opener (control_in j l c number) (on (segment_def j trigger) (λ d. d) [])) None p.entries ∷ []) []
 
 unfoldable pub row_due : Job → ℕ → ℕ → ℕ → ℕ → DueSegment
 row_due j l i t r =
     let id = identifier_of j l i in
     let es = (planned_of j l i).elements in
-    due_with id (row_put j id t r es).parts (row_cells j id t r es) (Some (t, r))
+    due_with id (row_put j id t r es).parts (row_cells j id t r es) (Some (t, r)) (row_put j id t r es).entries
 
 unfoldable pub chunk_due : Job → ℕ → ℕ → ℕ → List ℕ → DueSegment
 chunk_due j l i t rs =
     let id = identifier_of j l i in
     let es = (planned_of j l i).elements in
-    due_with id (sorted (chunk_puts j id t (step_of j t) 0 es rs).parts) (chunk_cells j id t (step_of j t) 0 es rs) (first_row t rs)
+    let p = chunk_puts j id t (step_of j t) 0 es rs in
+    due_with id (sorted p.parts) (chunk_cells j id t (step_of j t) 0 es rs) (first_row t rs) p.entries
 
--- the number that the last opener took
-abbrev pub last_taken : ℕ → List ℕ → ℕ
-last_taken l cs = (get_or cs l 0 + (2 ^ 64 - 1)) % 2 ^ 64
-
+-- a closer repeats the number that its opener took
 unfoldable pub closer_due : Job → ℕ → Bool → ℕ → ℕ → List ℕ → List DueSegment
 closer_due j l opened children count cs = on (loop_of j l).control (λ c. on (loop_of j l).end (λ id.
-    due_with id (closer_put c (pick opened (control_in j l c (last_taken l cs)) []) (count_of c.counted children count)).parts [] None ∷ []) []) []
+    let p = closer_put c (pick opened (control_in j l c (previous (get_or cs l 0))) []) (count_of c.counted children count) in
+    due_with id p.parts [] None p.entries ∷ []) []) []
 
 unfoldable pub step_due : Job → Step → List ℕ → List DueSegment
 step_due j (enters l) cs = []
@@ -117,6 +118,16 @@ steps_due j (x ∷ xs) cs = step_due j x cs ++ steps_due j xs (step_counters j x
 -- every counter starts at the envelope's control number
 unfoldable pub due_segments : Job → List DueSegment
 due_segments j = steps_due j (tour (outline_of j)) (replicate 32 j.envelope.control_number)
+
+-- ---- the trace list
+
+-- each segment's first entry, which is the number of those of all segments before it, and its source; n entries stand before them
+unfoldable pub traced_from : ℕ → List DueSegment → List Traced
+traced_from n [] = []
+traced_from n (d ∷ ds) = record { entry = n; row = d.source } ∷ traced_from (n + d.entries) ds
+
+abbrev pub trace_list : Job → List Traced
+trace_list j = traced_from 0 (due_segments j)
 
 -- identifiers and parts alone
 abbrev pub dues_of : List DueSegment → List Due

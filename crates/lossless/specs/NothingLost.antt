@@ -1,5 +1,6 @@
--- That of a job that is not refused and has a complete plan nothing is lost (docs/RULES.md, "Nothing is lost").
-use Rattle.std.specs.Prelude.{ℕ, ◌<◌, ◌≡◌, ◌⊎◌, false, ◌&&◌, List, ◌++◌, map, length, eqb, Option, None, Some}
+-- Of a job that is not refused and has a complete plan nothing is lost (docs/RULES.md, "Nothing is lost"): said of four lists, of what a job
+-- comes to as of what a caller of the writer holds.
+use Rattle.std.specs.Prelude.{ℕ, ◌<◌, ◌≡◌, ◌⊎◌, false, ◌&&◌, List, map, length, eqb, Option, None, Some}
 use Rattle.format.specs.Job.{Job}
 use Rattle.segment.specs.declared.Separators.{Separators}
 use Rattle.segment.specs.Grammar.{Segment, All, Reads}
@@ -10,13 +11,12 @@ use Rattle.nest.specs.Lists.{once, sum}
 use Rattle.nest.specs.Outline.{Outline, row_count}
 use Rattle.nest.specs.Nest.{Adrift}
 use Rattle.nest.specs.OfJob.{outline_of}
-use Rattle.nest.specs.NestFindings.{nest_findings}
 use Rattle.walk.specs.Tour.{Stop, stop_list, tour}
 use Rattle.walk.specs.Stops.{RowLoop}
 use Rattle.emit.specs.Fold.{Out, Traced, start, steps_out, separators_of}
 use Rattle.complete.specs.Complete.{CompletePlan}
 use Rattle.lossless.specs.Due.{due_segments, dues_of, sources_of}
-use Rattle.lossless.specs.Separators.{separator_held, delimiter_found}
+use Rattle.lossless.specs.Separators.{separator_held, delimiter_kind}
 
 -- what the whole walk writes and reports
 abbrev pub walked_out : Job → Out
@@ -40,11 +40,11 @@ pub record ReadExactly (s : Separators) (d : Due) (x : Segment) : Type 0 where
   pub one_kind : (p : ℕ) → PlainAt p d.parts ⊎ ComposedAt p d.parts
   pub each_part : All (λ (y : Part). read_at s x y.element y.component ≡ y.text) d.parts
 
--- the document fits the grammar and has exactly one reading: the due segments in order, none missing and none besides
-pub record ReadsDue (j : Job) : Type 0 where
+-- a document fits the grammar and has exactly one reading: the due segments in order, none missing and none besides
+pub record ReadsDue (j : Job) (document : List ℕ) : Type 0 where
   pub reading : List Segment
-  pub reads : Reads (separators_of j) (walked_out j).bytes reading
-  pub only : (xs : List Segment) → Reads (separators_of j) (walked_out j).bytes xs → xs ≡ reading
+  pub reads : Reads (separators_of j) document reading
+  pub only : (xs : List Segment) → Reads (separators_of j) document xs → xs ≡ reading
   pub segments : Match (ReadExactly (separators_of j)) (dues_of (due_segments j)) reading
 
 -- ---- the stops
@@ -61,14 +61,15 @@ pub record StopsOnce (o : Outline) (stops : List Stop) : Type 0 where
 
 -- ---- the whole
 
-pub record NothingLost (j : Job) : Type 0 where
+-- of a document, a trace list, the kinds of the findings, and a list of stops
+pub record NothingLost (j : Job) (document : List ℕ) (segments : List Traced) (kinds : List ℕ) (stops : List Stop) : Type 0 where
   -- without a delimiter finding the document reads back
-  pub document : CompletePlan j → separator_held j ≡ false → ReadsDue j
+  pub reads_back : CompletePlan j → delimiter_kind kinds ≡ false → ReadsDue j document
   -- delimiter findings or not, the trace list has an item for each due segment, in order, with its source
-  pub sources : traced_sources (walked_out j).segments ≡ sources_of (due_segments j)
+  pub sources : traced_sources segments ≡ sources_of (due_segments j)
   -- and the rows are stopped at as they should
-  pub stops : CompletePlan j → StopsOnce (outline_of j) (walked_out j).stops
+  pub stops_once : CompletePlan j → StopsOnce (outline_of j) stops
   -- the list of stops is the walk's
-  pub stop_order : (walked_out j).stops ≡ stop_list (tour (outline_of j))
+  pub stop_order : stops ≡ stop_list (tour (outline_of j))
   -- a delimiter is found exactly where a cell or envelope text of a due segment holds a separator
-  pub found : delimiter_found (nest_findings (outline_of j) ++ (walked_out j).findings) ≡ separator_held j
+  pub found : delimiter_kind kinds ≡ separator_held j

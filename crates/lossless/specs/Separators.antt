@@ -1,11 +1,11 @@
 -- When a job has a delimiter finding: exactly when a cell or envelope text of a due segment holds a separator (docs/RULES.md, "Finished"). The
 -- repetition separator counts where there is one.
-use Rattle.std.specs.Prelude.{ℕ, Bool, true, false, List}
+use Rattle.std.specs.Prelude.{ℕ, Bool, true, false, eqb, List, map, get_or}
 use Rattle.format.specs.Words.{member_of}
 use Rattle.format.specs.Job.{Job}
 use Rattle.format.specs.Refusal.{separators}
 use Rattle.nest.specs.Lists.{some_of}
-use Rattle.nest.specs.Finding.{Finding, duplicate, missing, mismatch, out_of_order, delimiter, not_writable}
+use Rattle.nest.specs.Finding.{Finding, duplicate, missing, mismatch, out_of_order, delimiter, not_writable, record_of}
 use Rattle.lossless.specs.Due.{DueSegment, due_segments}
 
 -- a text holds a separator
@@ -31,3 +31,11 @@ is_delimiter (not_writable o p reason) = false
 
 unfoldable pub delimiter_found : List Finding → Bool
 delimiter_found = some_of is_delimiter
+
+-- the number of a finding's kind is the first of its ten
+abbrev pub kinds_of : List Finding → List ℕ
+kinds_of = map (λ (x : Finding). get_or (record_of x) 0 0)
+
+-- the same of the kinds alone: a delimiter's is 4
+unfoldable pub delimiter_kind : List ℕ → Bool
+delimiter_kind = some_of (eqb 4)

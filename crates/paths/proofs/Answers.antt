@@ -24,9 +24,9 @@ use Rattle.nest.specs.OfJob.{outline_of, kind_in, source_in}
 use Rattle.nest.proofs.Bridge.{table_is, kind_is, parent_is, planned_is, segment_is, source_is, order_is, occurrences_is, table_parent_by, loops_is}
 use Rattle.walk.specs.Check.{each_of, rows_of, repeat_table, planned, if_there, past, fits, all_pass}
 use Rattle.walk.proofs.Tests.{tests_all, all_tests, that_is_all, ◌⨾◌}
+use Rattle.complete.specs.Complete.{Entries}
 use Rattle.complete.specs.Decides.{Decides}
 use Rattle.paths.specs.Tests.{same_item, segment_below, order_right, only_planned, row_fits, repeats_in, planned_once, anchors_in}
-use Rattle.paths.specs.Entries.{Entries4}
 use Rattle.paths.specs.Upward.{outcome}
 use Rattle.paths.specs.declared.up.Up.{Up}
 use Rattle.paths.specs.declared.up.Up.TheVariants.{No, Top}
@@ -230,11 +230,11 @@ module _ (b idx : List ℕ) (x : PlanIndexed b idx) (n : ℕ) (c : n ≡ length 
       t : All (λ y. y ≡ true) (counts_fit b idx n)
       t = tests_all (counts_fit b idx n) e
 
-  pub lists_pass : Entries4 (job_of b) → all_pass (counts_fit b idx n) ≡ true
+  pub lists_pass : Entries (job_of b) → all_pass (counts_fit b idx n) ≡ true
   lists_pass E = all_tests (
       eq-eqb _ _ (plan_count b idx x _ refl ∙ E.plan ∙ sym c)
       ⨾ eq-eqb _ _ (order_count b idx x _ refl ∙ E.order ∙ sym c)
-      ⨾ eq-eqb _ _ (forced_count b idx x _ refl ∙ E.entries.forced ∙ sym c)
-      ⨾ eq-eqb _ _ (columns_count b idx x _ refl ∙ E.entries.group_columns ∙ sym c)
-      ⨾ eq-eqb _ _ (depth_count b idx x _ refl ∙ E.entries.depth ∙ sym c)
+      ⨾ eq-eqb _ _ (forced_count b idx x _ refl ∙ E.forced ∙ sym c)
+      ⨾ eq-eqb _ _ (columns_count b idx x _ refl ∙ E.group_columns ∙ sym c)
+      ⨾ eq-eqb _ _ (depth_count b idx x _ refl ∙ E.depth ∙ sym c)
       ⨾ that_is_all)

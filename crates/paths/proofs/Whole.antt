@@ -11,21 +11,22 @@ use Rattle.nest.specs.Outline.{Outline, item_segments, loop_of, order_of, segmen
 use Rattle.nest.specs.OfJob.{outline_of}
 use Rattle.walk.specs.Check.{each_below, planned, all_pass, plan_tests}
 use Rattle.walk.proofs.Tests.{both, and_true, below_true, true_below, tests_all, that_is_all, ◌⨾◌, all_tests}
+use Rattle.complete.specs.Complete.{Entries}
 use Rattle.complete.specs.Decides.{Decides}
 use Rattle.paths.proofs.Answers.{first_no, first_yes, decides_no}
 use Rattle.paths.specs.Tests.{row_loops, repeats_in, each_table, each_loop, one_row_loop, names_plain, condition1, parent_plain, order_right, only_planned, segment_ordered, loop_ordered, condition2, row_fits, condition3, anchors_in, planned_once, repeat_planned, loop_anchored, condition4}
-use Rattle.paths.specs.Entries.{Entries4, Orders}
+use Rattle.paths.specs.Entries.{Orders}
 
 -- ---- the ways through the conditions
 
-pub two_entries : (j : Job) (a : Bool) → Decides a (Entries4 j) → not a ≡ true → Decides false (Orders j)
+pub two_entries : (j : Job) (a : Bool) → Decides a (Entries j) → not a ≡ true → Decides false (Orders j)
 two_entries j a d h = decides_no _ (λ o. d.1 (not-true a h) o.entries)
 
 pub two_parents : (j : Job) (b : Bool) → b ≡ each_table (outline_of j) (parent_plain (outline_of j)) → not b ≡ true → Decides false (Orders j)
 unfolding condition2
 two_parents j b q h = decides_no _ (λ o. true≢false (sym o.ordered ∙ sym (first_no b (each_table (outline_of j) (parent_plain (outline_of j))) _ q h)))
 
-pub two_orders : (j : Job) (a : Bool) → Decides a (Entries4 j) → not a ≡ false → (b : Bool) → b ≡ each_table (outline_of j) (parent_plain (outline_of j)) → not b ≡ false
+pub two_orders : (j : Job) (a : Bool) → Decides a (Entries j) → not a ≡ false → (b : Bool) → b ≡ each_table (outline_of j) (parent_plain (outline_of j)) → not b ≡ false
     → (x : Bool) → x ≡ each_loop (outline_of j) (loop_ordered (outline_of j)) → Decides x (Orders j)
 unfolding condition2
 two_orders j a d h b q g x e =

@@ -58,7 +58,7 @@ names_plain j l = if_there (named (kind_of j l)) (plain j)
 unfoldable pub condition1 : Outline → Bool
 condition1 j = each_table j (one_row_loop j) && each_loop j (names_plain j)
 
--- ---- 2, but for the entries (`Entries4`)
+-- ---- 2, but for the entries (`Entries`)
 
 -- a table's parent has no repeat segment
 abbrev pub parent_plain : Outline → ℕ → Bool

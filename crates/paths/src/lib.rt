@@ -5,7 +5,8 @@ ghost use Rattle.std.specs.Prelude.{◌≡◌, eqb, get_or, [], ◌∷◌};
 ghost use Rattle.std.specs.List.{list_all};
 ghost use Rattle.codec.specs.Codec.{le};
 ghost use Rattle.paths.specs.Tests.{condition1, condition3, condition4};
-ghost use Rattle.paths.specs.Entries.{Entries4, Orders};
+ghost use Rattle.paths.specs.Entries.{Orders};
+ghost use Rattle.complete.specs.Complete.{Entries};
 ghost use Rattle.complete.specs.Decides.{Decides};
 ghost use Rattle.nest.specs.Job.{outline_by, job_by};
 
@@ -33,7 +34,7 @@ fn lists_fit(job: Job, n: u32) -> bool
 
 // Whether plan and layout have one entry a loop, capacities and data one a table.
 pub fn entries_fit(job: Job) -> bool
-    ensures { Decides result (Entries4 (job_by job.entry)) }
+    ensures { Decides result (Entries (job_by job.entry)) }
 {
     let n = spec::loops::loop_count(job.at);
     let fit = lists_fit(job, n);

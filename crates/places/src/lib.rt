@@ -8,8 +8,8 @@ mod triggers;
 ghost use Rattle.std.specs.Prelude.{length, ◌≡◌};
 ghost use Rattle.format.specs.Sections.{layout_start};
 ghost use Rattle.complete.specs.Decides.{Decides};
-ghost use Rattle.complete.specs.Complete.{SeparatorsAlone};
-ghost use Rattle.places.specs.Fits.{Fits5, SegmentsFit};
+ghost use Rattle.complete.specs.Complete.{Places, SeparatorsAlone};
+ghost use Rattle.places.specs.Fits.{SegmentsFit};
 ghost use Rattle.nest.specs.Job.{job_by};
 
 use crate::job_section::JobSection;
@@ -53,7 +53,7 @@ pub fn separators_alone(job: Job) -> bool
 // Places of a complete plan, where the plan has one entry a loop.
 pub fn places_fit(job: Job) -> bool
     requires { length (job_by job).plan ≡ length (job_by job).spec.loops }
-    ensures { Decides result (Fits5 (job_by job.entry)) }
+    ensures { Decides result (Places (job_by job.entry)) }
 {
     let rules = rules_fit(job.at.bytes);
     let maps = maps_fit(job.at.bytes);

@@ -15,7 +15,6 @@ use Rattle.nest.specs.OfJob.{outline_of}
 use Rattle.nest.specs.Finding.{record_of}
 use Rattle.walk.specs.Tour.{census}
 use Rattle.emit.specs.Did.{traced_word, stop_word}
-use Rattle.lossless.specs.NothingLost.{NothingLost}
 use Rattle.lossless.proofs.Theorem.{nothing_lost}
 use Rattle.std.specs.Prelude.{Some, Err}
 use Rattle.std.proofs.lemmas.Option.{none-some}
@@ -24,7 +23,7 @@ use Rattle.refusal.specs.declared.Refusal.TheVariants as refusal
 use Rattle.refusal.specs.Answer.{number}
 use Rattle.writer.specs.declared.Refused.TheVariants.{Job}
 use Rattle.writer.specs.Answer.{Answered, number_of, values_of}
-use Rattle.writer.specs.Result.{result_of, counts_of}
+use Rattle.writer.specs.Result.{result_of, ResultKept, counts_of}
 use Rattle.writer.specs.Refused.{first_of, crowded, refusal}
 use Rattle.writer.specs.Lists.{in_front, holding}
 use Rattle.writer.specs.Wrote.{threes, tens, short, number_for, values_for, window_from, WroteFrom}
@@ -57,8 +56,8 @@ passed_refusal b p = refused_not b p.read.sound unspoilt p.limits p.forest p.fit
 
 -- ---- nothing is lost
 
-kept : (b : List ℕ) → refusal b ≡ 0 → NothingLost (job_of b)
-unfolding refusal
+kept : (b : List ℕ) → refusal b ≡ 0 → ResultKept (job_of b) (result_of (job_of b))
+unfolding refusal result_of
 kept b h = nothing_lost b (passed b (go (refusal_of b) refl h))
   where
     go : (n : ℕ) → refusal_of b ≡ n → first_of n (pick (crowded (job_of b)) 6 0) ≡ 0 → refusal_of b ≡ 0

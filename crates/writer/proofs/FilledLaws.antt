@@ -25,6 +25,8 @@ use Rattle.emit.specs.Fold as F
 use Rattle.emit.specs.Written.{words_of}
 use Rattle.emit.specs.Did.{state_of, row_words, traced_word, traced_words, stop_word, stop_words, Did, Small}
 use Rattle.emit.proofs.FindingLaws.{stored_findings}
+use Rattle.lossless.specs.Due.{trace_list}
+use Rattle.lossless.specs.NothingLost.{walked_out}
 use Rattle.writer.specs.Answer.{Answered, number_of, values_of}
 use Rattle.writer.specs.Result.{Result, result_of}
 use Rattle.writer.specs.Wrote.{threes, tens, WroteFrom}
@@ -42,14 +44,14 @@ first_is j n = refl
 pub first_small : (control n : ℕ) (s : State) → s ≡ first_state control n → n ≤ cap → Small s
 first_small control n s e h = rw e (record { bytes = omega arith; segments = omega arith; findings = h; stops = omega arith })
 
--- nest's findings, and then the walk from the first state on
-pub filled_by : {s r : State} {start : ℕ} {d d₁ g g₁ f f₁ f₂ p p₁ : List ℕ} (j : Job) (n : ℕ) → length f ≤ wide → s ≡ first_state j.envelope.control_number n
+-- nest's findings, and then the walk from the first state on, whose trace list is the one that counts by the sum
+pub filled_by : {s r : State} {start : ℕ} {d d₁ g g₁ f f₁ f₂ p p₁ : List ℕ} (j : Job) (n : ℕ) → (walked_out j).segments ≡ trace_list j → length f ≤ wide → s ≡ first_state j.envelope.control_number n
     → Noted f start (words (nest_findings (outline_of j))) n f₁ → Did (F.steps_out j (tour (outline_of j)) (state_of s)) s r d d₁ g g₁ f₁ f₂ p p₁
     → Filled (result_of j) r start d d₁ g g₁ f f₂ p p₁
 unfolding result_of words_of
-filled_by j n h e nest did =
+filled_by j n exact h e nest did =
     let x = rw (e, first_is j n) at did in
-    record { document = x.document; segments = x.segments; findings = stored_findings (nest_findings (outline_of j)) _ h nest x.findings; stops = x.stops }
+    record { document = x.document; segments = rw exact at x.segments; findings = stored_findings (nest_findings (outline_of j)) _ h nest x.findings; stops = x.stops }
 
 -- ---- the answer
 

@@ -20,5 +20,6 @@ pub mod BytesGiven
 pub mod BytesEnvelope
 pub mod BytesTotal
 pub mod Sizes
+pub mod Entries
 pub mod AnswerLaws
 pub mod FilledLaws

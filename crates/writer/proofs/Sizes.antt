@@ -26,6 +26,7 @@ use Rattle.walk.proofs.Bounds.{repeat_few, Counted, tour_bound, segments_bound, 
 use Rattle.emit.specs.Fold as F
 use Rattle.emit.specs.Fold.{stop_out, row_out, fill_out, chunk_out, step_out, steps_out}
 use Rattle.lossless.specs.NothingLost.{walked_out}
+use Rattle.lossless.proofs.Bytes.{trace_length}
 use Rattle.writer.specs.Result.{result_of}
 use Rattle.writer.proofs.StepKinds.{opener_is, closer_is}
 use Rattle.writer.proofs.FewFindings.{texted, step_findings}
@@ -76,7 +77,7 @@ step_stops j (closer l b n m) s = closer_is j l s (λ o. length o.stops ≤ 0) (
 
 -- ---- steps with planned elements
 
-row_texted : (l i t k : ℕ) (rs : List ℕ) → sum texted (row_steps l i t k rs) ≡ sum (λ x. 1) rs
+pub row_texted : (l i t k : ℕ) (rs : List ℕ) → sum texted (row_steps l i t k rs) ≡ sum (λ x. 1) rs
 unfolding row_steps
 row_texted l i t k [] = refl
 row_texted l i t k (r ∷ rs) = omega (arith, row_texted l i t (suc k) rs)
@@ -110,7 +111,7 @@ module _ (b : List ℕ) (bs : Bytes b) (p : Passed b) (h : census (outline_of (j
   abbrev most : ℕ
   most = 65536 * (13107 * 4097 + 1)
 
-  written_few : segments_in (tour (outline_of j)) ≤ most
+  pub written_few : segments_in (tour (outline_of j)) ≤ most
   written_few = omega (arith, segments_bound (outline_of j) 4096 13107 (λ t. rows_few j t (few j p.limits).rows) (order_short b bs p), mul-le-mul_right (13107 * 4097 + 1) h)
 
   stopped_few : stops_in (tour (outline_of j)) ≤ most
@@ -134,7 +135,7 @@ module _ (b : List ℕ) (bs : Bytes b) (p : Passed b) (h : census (outline_of (j
   bytes_few : length (walked_out j).bytes < cap
   bytes_few = bytes_below b bs p h (omega (arith, written_few))
 
-  texted_few : sum texted (tour (outline_of j)) ≤ most
+  pub texted_few : sum texted (tour (outline_of j)) ≤ most
   texted_few = omega (arith, tour_bound (outline_of j) 4096 13107 texted (texted_counted (outline_of j) 4096 (λ t. rows_few j t (few j p.limits).rows)) (order_short b bs p), mul-le-mul_right (13107 * 4097 + 1) h)
 
   findings_few : length (walked_out j).findings ≤ most * 81921
@@ -152,7 +153,7 @@ module _ (b : List ℕ) (bs : Bytes b) (p : Passed b) (h : census (outline_of (j
   unfolding result_of
   small = record {
     bytes = bytes_few;
-    segments = omega (arith, segments_few);
+    segments = omega (arith, segments_few, trace_length j);
     findings = omega (arith, length-append (nest_findings (outline_of j)) (walked_out j).findings, nest_few, findings_few);
     stops = omega (arith, stops_few);
     steps = omega (arith, written_few);

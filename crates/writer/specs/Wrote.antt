@@ -5,9 +5,8 @@ use Rattle.codec.specs.Codec.{pick}
 use Rattle.format.specs.Sections.{job_of}
 use Rattle.nest.specs.Finding.{record_of}
 use Rattle.emit.specs.Did.{traced_word, stop_word}
-use Rattle.lossless.specs.NothingLost.{NothingLost}
 use Rattle.writer.specs.Answer.{Answered, number_of, values_of}
-use Rattle.writer.specs.Result.{Result, result_of, counts_of}
+use Rattle.writer.specs.Result.{Result, result_of, ResultKept, counts_of}
 use Rattle.writer.specs.Refused.{first_of, refusal}
 use Rattle.writer.specs.Lists.{in_front, holding, unless_refused}
 
@@ -43,4 +42,4 @@ pub record WroteFrom (b d d' g g' w w' p p' : List ℕ) (from room : ℕ) (a : A
   pub findings : w' ≡ window_from b from w
   pub stops : p' ≡ unless_refused (refusal b) p (holding (threes p) stop_word (result_of (job_of b)).stops p)
   -- of what a job with a complete plan comes to nothing is lost (docs/RULES.md, "Nothing is lost")
-  pub nothing_lost : refusal b ≡ 0 → NothingLost (job_of b)
+  pub nothing_lost : refusal b ≡ 0 → ResultKept (job_of b) (result_of (job_of b))

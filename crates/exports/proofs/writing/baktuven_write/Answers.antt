@@ -1,5 +1,5 @@
 -- What `write` gives back is what the program gets; the counts and the number are those of its answer.
-use Rattle.std.proofs.Common.{ap, ◌∙◌}
+use Rattle.std.proofs.Common.{ap, sym, ◌∙◌}
 use Rattle.std.proofs.lemmas.List.Edits.{sets}
 use Rattle.exports.proofs.writing.baktuven_write.Goals as goal
 
@@ -13,4 +13,6 @@ returns c =
       segments = h.segments;
       findings = h.findings;
       stops = h.stops;
+      nothing_lost = h.nothing_lost;
+      nothing_lost_in = λ z. rw h.values at (h.nothing_lost_in (sym c.number.ensures ∙ z));
     }
