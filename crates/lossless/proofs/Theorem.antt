@@ -32,7 +32,7 @@ use Rattle.emit.specs.Fold.{State, start, separators_of, steps_out, previous, co
 use Rattle.complete.specs.Complete.{Clear, MapStarts, CompletePlan}
 use Rattle.lossless.specs.Due.{DueSegment, row_cells, chunk_cells, field_texts, opener_due, row_due, chunk_due, closer_due, step_due, steps_due, due_segments, dues_of, trace_list}
 use Rattle.lossless.specs.Separators.{holds_separator, segment_holds, separator_held, kinds_of}
-use Rattle.lossless.specs.NothingLost.{walked_out, ReadsDue, NothingLost}
+use Rattle.lossless.specs.NothingLost.{walked_out, ReadsDue, WalkKept}
 use Rattle.lossless.proofs.Words.{none_left, none_append}
 use Rattle.lossless.proofs.Bytes.{dues_append, walked_bytes, walked_stops, trace_sources}
 use Rattle.lossless.proofs.Tours.{Closed, tour_so}
@@ -151,7 +151,7 @@ module _ (b : List ℕ) (p : Passed b) (C : CompletePlan (job_of b)) where
       }
 
 -- the trace list counts the entries by their sum, as long as it may be
-pub nothing_lost : (b : List ℕ) → Passed b → NothingLost (job_of b) (walked_out (job_of b)).bytes (trace_list (job_of b)) (kinds_of (nest_findings (outline_of (job_of b)) ++ (walked_out (job_of b)).findings)) (walked_out (job_of b)).stops
+pub nothing_lost : (b : List ℕ) → Passed b → WalkKept (job_of b)
 nothing_lost b p = record {
   reads_back = λ C h. reads_due b p C (sym (all_found (job_of b)) ∙ h);
   sources = trace_sources (job_of b);

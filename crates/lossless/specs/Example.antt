@@ -28,4 +28,4 @@ pub record ExampleReadsBack : Type 0 where
   pub no_separator : separator_held listing ≡ false
   -- the document, which has one reading: these segments
   pub document : (walked_out listing).bytes ≡ codes "CLP*A1~SVC*HC*100~CLP*B2~"
-  pub reads_back : ReadsDue listing
+  pub reads_back : ReadsDue listing (walked_out listing).bytes

@@ -1,6 +1,6 @@
 -- Of a job that is not refused and has a complete plan nothing is lost (docs/RULES.md, "Nothing is lost"): said of four lists, of what a job
 -- comes to as of what a caller of the writer holds.
-use Rattle.std.specs.Prelude.{ℕ, ◌<◌, ◌≡◌, ◌⊎◌, false, ◌&&◌, List, map, length, eqb, Option, None, Some}
+use Rattle.std.specs.Prelude.{ℕ, ◌<◌, ◌≡◌, ◌⊎◌, false, ◌&&◌, List, ◌++◌, map, length, eqb, Option, None, Some}
 use Rattle.format.specs.Job.{Job}
 use Rattle.segment.specs.declared.Separators.{Separators}
 use Rattle.segment.specs.Grammar.{Segment, All, Reads}
@@ -11,12 +11,13 @@ use Rattle.nest.specs.Lists.{once, sum}
 use Rattle.nest.specs.Outline.{Outline, row_count}
 use Rattle.nest.specs.Nest.{Adrift}
 use Rattle.nest.specs.OfJob.{outline_of}
+use Rattle.nest.specs.NestFindings.{nest_findings}
 use Rattle.walk.specs.Tour.{Stop, stop_list, tour}
 use Rattle.walk.specs.Stops.{RowLoop}
 use Rattle.emit.specs.Fold.{Out, Traced, start, steps_out, separators_of}
 use Rattle.complete.specs.Complete.{CompletePlan}
-use Rattle.lossless.specs.Due.{due_segments, dues_of, sources_of}
-use Rattle.lossless.specs.Separators.{separator_held, delimiter_kind}
+use Rattle.lossless.specs.Due.{due_segments, dues_of, sources_of, trace_list}
+use Rattle.lossless.specs.Separators.{separator_held, delimiter_kind, kinds_of}
 
 -- what the whole walk writes and reports
 abbrev pub walked_out : Job → Out
@@ -73,3 +74,7 @@ pub record NothingLost (j : Job) (document : List ℕ) (segments : List Traced) 
   pub stop_order : stops ≡ stop_list (tour (outline_of j))
   -- a delimiter is found exactly where a cell or envelope text of a due segment holds a separator
   pub found : delimiter_kind kinds ≡ separator_held j
+
+-- of what the walk of a job comes to, with the findings of nest before those of the walk
+abbrev pub WalkKept : Job → Type 0
+WalkKept j = NothingLost j (walked_out j).bytes (trace_list j) (kinds_of (nest_findings (outline_of j) ++ (walked_out j).findings)) (walked_out j).stops

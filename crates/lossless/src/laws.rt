@@ -3,13 +3,13 @@ ghost use Rattle.std.specs.Prelude.{◌≡◌, ℕ, List};
 ghost use Rattle.format.specs.Sections.{job_of};
 ghost use Rattle.format.specs.Refusal.{refusal_of};
 ghost use Rattle.complete.specs.Complete.{CompletePlan};
-ghost use Rattle.lossless.specs.NothingLost.{NothingLost};
+ghost use Rattle.lossless.specs.NothingLost.{WalkKept};
 ghost use Rattle.lossless.specs.Example.{ExampleReadsBack};
 ghost use Rattle.lossless.specs.Sample.{job};
 
 /// Of a job that is not refused by 1 to 5 nothing is lost. `baktuven::write` promises the same of the lists that it fills.
 pub fn nothing_lost()
-    ensures { (b : List ℕ) → refusal_of b ≡ 0 → NothingLost (job_of b) }
+    ensures { (b : List ℕ) → refusal_of b ≡ 0 → WalkKept (job_of b) }
 {}
 
 /// A sample job: its due segments, its document, and what that reads as.
