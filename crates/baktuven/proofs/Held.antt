@@ -18,12 +18,12 @@ use Rattle.nest.specs.Finding as N
 use Rattle.nest.specs.Finding.{record_of}
 use Rattle.walk.specs.Tour.{Stop}
 use Rattle.emit.specs.Fold.{Traced}
-use Rattle.emit.specs.Did.{row_words, traced_word, stop_word}
+use Rattle.emit.specs.Words.{row_words, traced_word, stop_word}
 use Rattle.lossless.specs.Separators.{kinds_of}
 use Rattle.writer.specs.Result.{Result, result_of, counts_of, ResultKept}
 use Rattle.writer.specs.Refused.{first_of, refusal}
 use Rattle.writer.specs.Lists.{in_front, holding, unless_refused}
-use Rattle.writer.specs.Wrote.{threes, short, number_for, values_for}
+use Rattle.writer.specs.Numbers.{threes, short, number_for, values_for}
 use Rattle.baktuven.specs.Held.{source_from, segments_from, stops_from, NothingLostIn}
 use Rattle.baktuven.specs.Wrote.{finding_of, in_places}
 

@@ -9,7 +9,7 @@ use lib.Seq.{sets, length-sets, sets-eq, take-nil, take-take, drop-drop}
 use Rattle.std.proofs.lemmas.List.{take-map, drop-map, take_min, drop_min, drop-take}
 use Rattle.std.proofs.lemmas.Grind.{common_steps}
 use Rattle.finding.specs.declared.Finding.{Finding}
-use Rattle.finding.specs.Findings.{findings_in}
+use Rattle.finding.specs.Records.{findings_in}
 use Rattle.lent.proofs.Laws.{drop_take, sets_fits}
 use Rattle.finding.proofs.Records.{records_in, no_records}
 use Rattle.format.specs.Sections.{job_of}
@@ -21,7 +21,8 @@ use Rattle.writer.specs.Result.{result_of}
 use Rattle.writer.specs.Refused.{refusal}
 use Rattle.writer.specs.Lists.{in_front, holding, unless_refused}
 use Rattle.writer.specs.Answer.{Answered, values_of}
-use Rattle.writer.specs.Wrote.{values_for, window_from, WroteFrom}
+use Rattle.writer.specs.Numbers.{values_for}
+use Rattle.writer.specs.Wrote.{window_from, WroteFrom}
 use Rattle.baktuven.specs.Wrote.{finding_of, in_places, Wrote}
 use Rattle.baktuven.specs.Windows.{blank, records_of, behind}
 use Rattle.baktuven.proofs.Held.{lists_keep}

@@ -1,3 +1,4 @@
 pub mod Held
 pub mod Wrote
 pub mod Windows
+pub mod Empty

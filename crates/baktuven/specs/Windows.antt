@@ -1,7 +1,7 @@
+-- Not to be believed: words of inner contracts, on which no contract of what users call rests.
 -- What the code knows on the way: the records that a job's findings are, and how windows of 64 of them make up the list.
 use Rattle.std.specs.Prelude.{ℕ, List, [], map, take, drop, replicate}
 use Rattle.finding.specs.declared.Finding.{Finding}
-use Rattle.finding.specs.Findings.{finding_from}
 use Rattle.format.specs.Sections.{job_of}
 use Rattle.writer.specs.Result.{result_of}
 use Rattle.writer.specs.Refused.{refusal}
@@ -19,7 +19,3 @@ records_of b = unless_refused (refusal b) [] (map finding_of (result_of (job_of 
 -- those from number `from` on, below `end`
 abbrev pub behind : ℕ → ℕ → List Finding → List Finding
 behind from end xs = drop from (take end xs)
-
--- a list of 512 empty records
-abbrev pub no_findings : List Finding
-no_findings = replicate 512 (finding_from [])

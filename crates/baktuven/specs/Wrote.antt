@@ -6,12 +6,12 @@ use Rattle.finding.specs.Findings.{finding_from}
 use Rattle.format.specs.Sections.{job_of}
 use Rattle.nest.specs.Finding as N
 use Rattle.nest.specs.Finding.{record_of}
-use Rattle.emit.specs.Did.{traced_word, stop_word}
+use Rattle.emit.specs.Words.{traced_word, stop_word}
 use Rattle.writer.specs.Answer.{Answered, number_of, values_of}
 use Rattle.writer.specs.Result.{result_of, ResultKept}
 use Rattle.writer.specs.Refused.{refusal}
 use Rattle.writer.specs.Lists.{in_front, holding, unless_refused}
-use Rattle.writer.specs.Wrote.{threes, number_for, values_for}
+use Rattle.writer.specs.Numbers.{threes, number_for, values_for}
 use Rattle.baktuven.specs.Held.{NothingLostIn}
 
 -- a finding as its record of ten numbers

@@ -3,10 +3,11 @@
 
 ghost use Rattle.std.specs.Prelude.{◌≡◌, ◌+◌, ◌≤◌, ◌<◌, min, length};
 ghost use Rattle.std.proofs.lemmas.List.Edits.{sets};
-ghost use Rattle.finding.specs.Findings.{findings_in};
+ghost use Rattle.finding.specs.Records.{findings_in};
 ghost use Rattle.writer.specs.Wrote.{WroteFrom, window_from};
 ghost use Rattle.baktuven.specs.Wrote.{Wrote, in_places};
-ghost use Rattle.baktuven.specs.Windows.{blank, records_of, behind, no_findings};
+ghost use Rattle.baktuven.specs.Windows.{blank, records_of, behind};
+ghost use Rattle.baktuven.specs.Empty.{no_findings};
 
 use finding::{Finding, append_all};
 use writer::Answer;

@@ -7,6 +7,7 @@ use native.Mathlib.Omega.{arith}
 use lib.ListN.{length, get_or}
 use Rattle.format.specs.Job.{Job}
 use Rattle.format.specs.Ask as A
+use Rattle.format.specs.Orders
 use Rattle.plan.specs.Answers.{no_item, item_of}
 use Rattle.plan.specs.declared.answers.Item.{Item as Answer}
 use Rattle.plan.specs.declared.answers.Item.TheVariants.{Segment, Loop}
@@ -18,7 +19,8 @@ use Rattle.walk.specs.Instances.{Context, outside, instances}
 use Rattle.walk.specs.Tour.{enters_in, visits, census}
 use Rattle.walk.specs.Census.{too_many}
 use Rattle.walk.proofs.Counts.{enters_deep}
-use Rattle.census.specs.Entered.{entered_by, entered_below, entered_with}
+use Rattle.census.specs.Entered.{entered_by, entered_below}
+use Rattle.census.proofs.EnteredLaws.{entered_with}
 use Rattle.census.specs.Bounds.{Width, AtMost}
 use Rattle.census.proofs.Counting.{below_from, loops_end, loops_segment, loops_loop, all_entered, roots_from, rooted, roots_end, roots_next}
 
@@ -39,8 +41,8 @@ each_few : {A : Type 0} (f : A → ℕ) (s : ℕ) → ((x : A) → min (f x) too
 each_few f s h [] = omega arith
 each_few f s h (x ∷ xs) = omega (arith, h x, each_few f s h xs, add-mul 1 (length xs) s)
 
-module _ (j : Job) (h l i s : ℕ) (m : Most (outline_of j) h l i s) (count : ℕ) (e : count ≡ length (A.order_of j l)) where
-  module _ (x : Answer) (z : i < count) (a : item_of x ≡ get_or (A.order_of j l) i no_item) where
+module _ (j : Job) (h l i s : ℕ) (m : Most (outline_of j) h l i s) (count : ℕ) (e : count ≡ length (Orders.order_of j l)) where
+  module _ (x : Answer) (z : i < count) (a : item_of x ≡ get_or (Orders.order_of j l) i no_item) where
     pub most_segment : (k : ℕ) → x ≡ Segment k → Most (outline_of j) h l (i + 1) s
     unfolding below_from
     most_segment k q = record {
@@ -61,7 +63,7 @@ module _ (j : Job) (h l i s : ℕ) (m : Most (outline_of j) h l i s) (count : �
       let q : below_from (outline_of j) h l c i ≡ 0 = ap (sum (entered_by (outline_of j) h c)) (loops_end j l i count e z) in
       omega (arith, m.most c, q, m.few)
 
-pub most_end : (j : Job) (h l i s : ℕ) → Most (outline_of j) (h - 1) l i s → (count : ℕ) → count ≡ length (A.order_of j l) → (w r : ℕ) → count ≤ i → (h ≡ 0 → ⊥)
+pub most_end : (j : Job) (h l i s : ℕ) → Most (outline_of j) (h - 1) l i s → (count : ℕ) → count ≡ length (Orders.order_of j l) → (w r : ℕ) → count ≤ i → (h ≡ 0 → ⊥)
     → Width (outline_of j) l w → r ≡ min (w * s) too_many → AtMost (outline_of j) h l r
 most_end j h l i s m count e w r z d g f = record {
   few = omega (arith, f);

@@ -8,6 +8,7 @@ use native.Mathlib.Omega.{arith}
 use lib.ListN.{length, drop, get_or, drop_of_length-le}
 use Rattle.format.specs.Job.{Job}
 use Rattle.format.specs.Ask as A
+use Rattle.format.specs.Orders
 use Rattle.plan.specs.Answers.{no_item, item_of}
 use Rattle.plan.specs.declared.answers.Item.{Item as Answer}
 use Rattle.plan.specs.declared.answers.Item.TheVariants.{Segment, Loop}
@@ -31,7 +32,8 @@ use Rattle.instances.specs.declared.Next.{Next}
 use Rattle.std.specs.Prelude.{Option, Some, None}
 use Rattle.instances.specs.Cursor.{coming, Going, context_in, behind, Came}
 use Rattle.instances.proofs.Cursors.{came_in}
-use Rattle.census.specs.Entered.{entered_by, entered_below, entered_with}
+use Rattle.census.specs.Entered.{entered_by, entered_below}
+use Rattle.census.proofs.EnteredLaws.{entered_with}
 
 -- ---- the loops of an order, from place i on
 
@@ -47,14 +49,14 @@ pub below_start : (o : Outline) (h l : ℕ) (c : Context) (n : ℕ) → n ≤ to
 unfolding below_from entered_below
 below_start o h l c n f = record { rest = refl; few = f; alone = λ z. refl }
 
-module _ (j : Job) (l i count : ℕ) (e : count ≡ length (A.order_of j l)) where
+module _ (j : Job) (l i count : ℕ) (e : count ≡ length (Orders.order_of j l)) where
   items : count ≡ length (order_of (outline_of j) l)
   items = e ∙ sym (order_length j l)
 
   pub loops_end : count ≤ i → item_loops (drop i (order_of (outline_of j) l)) ≡ []
   loops_end z = let past : length (order_of (outline_of j) l) ≤ i = omega (arith, items) in ap item_loops (drop_of_length-le (order_of (outline_of j) l) past)
 
-  module _ (x : Answer) (z : i < count) (a : item_of x ≡ get_or (A.order_of j l) i no_item) where
+  module _ (x : Answer) (z : i < count) (a : item_of x ≡ get_or (Orders.order_of j l) i no_item) where
     item_is : get_or (order_of (outline_of j) l) i (segment 0) ≡ item_in (item_of x)
     item_is = order_item j l i ∙ ap item_in (sym a)
 
@@ -67,7 +69,7 @@ module _ (j : Job) (l i count : ℕ) (e : count ≡ length (A.order_of j l)) whe
     pub loops_loop : (k : LoopId) → x ≡ Loop k → item_loops (drop i (order_of (outline_of j) l)) ≡ k.0 ∷ item_loops (drop (i + 1) (order_of (outline_of j) l))
     loops_loop k q = ap item_loops (here ∙ ap (λ v. item_in (item_of v) ∷ drop (i + 1) (order_of (outline_of j) l)) q)
 
-module _ (j : Job) (h l : ℕ) (c : Context) (n i m : ℕ) (leaf : Bool) (s : Below (outline_of j) h l c n i m leaf) (count : ℕ) (e : count ≡ length (A.order_of j l)) where
+module _ (j : Job) (h l : ℕ) (c : Context) (n i m : ℕ) (leaf : Bool) (s : Below (outline_of j) h l c n i m leaf) (count : ℕ) (e : count ≡ length (Orders.order_of j l)) where
   abbrev o : Outline
   o = outline_of j
 
@@ -78,7 +80,7 @@ module _ (j : Job) (h l : ℕ) (c : Context) (n i m : ℕ) (leaf : Bool) (s : Be
       let q : below_from o h l c i ≡ 0 = ap (sum (entered_by o h c)) none_left in
       (sym (s.rest ∙ omega (arith, q, s.few)), λ y. s.alone y ∙ none_left)
 
-  module _ (x : Answer) (z : i < count) (a : item_of x ≡ get_or (A.order_of j l) i no_item) where
+  module _ (x : Answer) (z : i < count) (a : item_of x ≡ get_or (Orders.order_of j l) i no_item) where
     pub below_segment : (k : ℕ) → x ≡ Segment k → Below o h l c n (i + 1) m leaf
     unfolding below_from
     below_segment k q =

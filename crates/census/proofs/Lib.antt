@@ -1,3 +1,4 @@
 pub mod Counting
 pub mod Bounding
 pub mod Widths
+pub mod EnteredLaws

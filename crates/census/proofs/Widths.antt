@@ -11,12 +11,13 @@ use Rattle.format.specs.Sections.{job_of}
 use Rattle.format.specs.Ask as A
 use Rattle.format.specs.Data.{no_table_data}
 use Rattle.tables.specs.Parts as T
-use Rattle.nest.specs.Lists.{keep, up_to, on, is, some_of, is_empty_list}
+use Rattle.nest.specs.Lists.{keep, on, is, some_of, is_empty_list}
+use Rattle.nest.specs.UpTo.{up_to}
 use Rattle.nest.specs.Outline.{Outline, absent, envelope, implied, rows, inside, groups, kind_of, loop_of, table_parent, row_count, plain}
 use Rattle.nest.specs.Nest.{held, referred}
 use Rattle.nest.specs.Found.{nest_at, held_at}
 use Rattle.nest.specs.Rising.{Climbs, rises}
-use Rattle.nest.specs.Ready.{outline_at}
+use Rattle.nest.specs.OutlineAt.{outline_at}
 use Rattle.nest.proofs.Bridge.{rows_is, table_parent_by}
 use Rattle.nest.proofs.FoundLaws.{held_yes, held_no}
 use Rattle.nest.proofs.Hanging.{plain_not}

@@ -1,6 +1,8 @@
+-- Not to be believed: words of inner contracts, on which no contract of what users call rests.
 -- What no context has more of: rows of a table, instances of a loop, instances entered by it.
 use Rattle.std.specs.Prelude.{ℕ, ◌≤◌, min, List, length}
-use Rattle.nest.specs.Lists.{keep, up_to}
+use Rattle.nest.specs.Lists.{keep}
+use Rattle.nest.specs.UpTo.{up_to}
 use Rattle.nest.specs.Found.{held_at}
 use Rattle.nest.specs.Outline.{Outline}
 use Rattle.walk.specs.Instances.{Context, rows_in, instances}

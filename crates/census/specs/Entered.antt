@@ -1,6 +1,7 @@
+-- Not to be believed: words of inner contracts, on which no contract of what users call rests.
 -- How many instances are entered below an instance (write/emit.rs, `run`), as the count of refusal 6 takes them (docs/RULES.md, "Answer 6"):
 -- loop by loop of its order.
-use Rattle.std.specs.Prelude.{ℕ, suc}
+use Rattle.std.specs.Prelude.{ℕ}
 use Rattle.nest.specs.Lists.{sum}
 use Rattle.nest.specs.Outline.{Outline, item_loops, order_of}
 use Rattle.walk.specs.Instances.{Context}
@@ -13,7 +14,3 @@ entered_by o h c k = enters_in (visits o h k c)
 -- by the loops that the order of loop l names
 unfoldable pub entered_below : Outline → ℕ → ℕ → Context → ℕ
 entered_below o h l c = sum (entered_by o h c) (item_loops (order_of o l))
-
--- by one instance of loop l
-abbrev pub entered_with : Outline → ℕ → ℕ → Context → ℕ
-entered_with o h l c = suc (entered_below o h l c)

@@ -5,7 +5,8 @@ use Rattle.std.proofs.Common.{◌∙◌, lt-ltb, le-ltb, ⊎_elim}
 use Rattle.std.proofs.lemmas.Bool.{cases_lt}
 use native.Mathlib.Omega.{arith}
 use Rattle.codec.specs.Codec.{le}
-use Rattle.codec.specs.Strings.{less_at, less_from, less_yes, less_no, less_more, less_short, less_ends}
+use Rattle.codec.specs.Strings.{less_at, less_from}
+use Rattle.codec.proofs.Strings.{less_yes, less_no, less_more, less_short, less_ends}
 
 pub less_start : (b : List ℕ) (p q n m : ℕ) → n ≡ le 4 b p → m ≡ le 4 b q → less_at b p q ≡ less_from b (n - 0) (m - 0) (p + 4 + 0) (q + 4 + 0)
 unfolding less_at

@@ -1,3 +1,13 @@
 pub mod Joined
 pub mod Less
 pub mod Numbers
+pub mod Answers
+pub mod Codec
+pub mod Field
+pub mod Limits
+pub mod Maps
+pub mod Rows
+pub mod Skip
+pub mod Strings
+pub mod Ways
+pub mod Whole

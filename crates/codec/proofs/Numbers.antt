@@ -4,7 +4,7 @@ use Rattle.std.specs.Prelude.{◌≡◌, List, get_or, take, drop}
 use Rattle.std.proofs.lemmas.List.{get_or-take, get_or-drop}
 use Rattle.std.proofs.Common.{sym, ◌∙◌}
 use Rattle.codec.specs.Codec.{le}
-use Rattle.codec.specs.Ways.{le_four}
+use Rattle.codec.proofs.Ways.{le_four}
 use native.Mathlib.Omega.{arith}
 
 -- a byte of the four that stand at a place

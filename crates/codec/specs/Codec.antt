@@ -17,10 +17,6 @@ abbrev pub pick {ℓ} : {A : Type ℓ} → Bool → A → A → A
 pick true x y = x
 pick false x y = y
 
-pub pick_same {ℓ} : {A : Type ℓ} (t : Bool) (x : A) → pick t x x ≡ x
-pick_same true x = refl
-pick_same false x = refl
-
 -- l stands in b from the place at
 abbrev pub Here : List ℕ → ℕ → List ℕ → Type 0
 Here b at [] = Unit {0}
@@ -131,6 +127,7 @@ le_c k = record {
     go b at e v n bs false q r = absurd (let z : ◌≡◌ {A = ℕ} 0 1 = cc in omega arith)
 
 -- ---- one after the other; the second may depend on the first
+
 module _ {A : Type 0} {B : A → Type 0} (C : Codec A) (D : (a : A) → Codec (B a)) where
   abbrev pub pair_read : List ℕ → ℕ → ℕ → Got ((a : A) × B a)
   pair_read b at e = bind (C.read b at e) (λ x n. bind ((D x).read b n e) (λ y m. got (x, y) m))
@@ -186,6 +183,7 @@ abbrev pub ◌⊗◌ : {A B : Type 0} → Codec A → Codec B → Codec (A × B)
 C ⊗ D = dep_c C (λ _. D)
 
 -- ---- a record or a case of its own type, for a tuple or a sum
+
 module _ {A B : Type 0} (f : A → B) (g : B → A) (fg : (y : B) → f (g y) ≡ y) (gf : (x : A) → g (f x) ≡ x) (C : Codec A) where
   abbrev pub map_read : List ℕ → ℕ → ℕ → Got B
   map_read b at e = bind (C.read b at e) (λ x n. got (f x) n)
@@ -213,6 +211,7 @@ module _ {A B : Type 0} (f : A → B) (g : B → A) (fg : (y : B) → f (g y) �
   }
 
 -- ---- a value that passes a test
+
 module _ {A : Type 0} (P : A → Bool) (C : Codec A) where
   abbrev pub when_read : List ℕ → ℕ → ℕ → Got A
   when_read b at e = bind (C.read b at e) (λ x n. pick (P x) (got x n) bad)
@@ -377,6 +376,7 @@ module _ {A : Type 0} (C : Cases A) where
   }
 
 -- ---- a list: the count, and the items
+
 module _ {A : Type 0} (C : Codec A) where
   abbrev pub items_read : ℕ → List ℕ → ℕ → ℕ → Got (List A)
   items_read zero b at e = got [] at

@@ -1,12 +1,10 @@
 pub mod Codec
 pub mod Skip
 pub mod Forms
-pub mod Ways
 pub mod Field
 pub mod Maps
 pub mod Strings
 pub mod Whole
 pub mod Rows
 pub mod Limits
-pub mod Answers
 pub mod Within

@@ -12,7 +12,7 @@ use Rattle.format.specs.Job.{Job}
 use Rattle.segment.specs.Grammar.{Without}
 use Rattle.nest.specs.Lists.{All}
 use Rattle.complete.specs.Complete.{Clear, CodeClear, CodesClear}
-use Rattle.codes.specs.Refutes.{Refutes}
+use Rattle.codes.proofs.Refutes.{Refutes}
 use Rattle.codes.specs.declared.codes.Marks.{Marks}
 use Rattle.codes.specs.Codes.{MarksOf, mark, marked, marked_spec, marked_value, marked_element_plan, marked_segment_plan, marked_loop_plan, marked_component, marked_element, marked_segment, marked_version}
 use Rattle.codes.proofs.Laws.{no_way, refute_as, refute_either, refute_any, refute_none, refute_all, refute_there, refute_same}

@@ -17,7 +17,7 @@ use Rattle.format.specs.Spec.{Control}
 use Rattle.nest.specs.Lists.{All}
 use Rattle.complete.specs.Complete.{IfThere}
 use Rattle.says.proofs.Walk.{number_is, both, only}
-use Rattle.codes.specs.Refutes.{Refutes}
+use Rattle.codes.proofs.Refutes.{Refutes}
 use Rattle.complete.specs.Decides.{Decides}
 use Rattle.codes.specs.Rules.{low, wrong_control}
 

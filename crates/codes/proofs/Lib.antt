@@ -3,3 +3,4 @@ pub mod Listing
 pub mod Reading
 pub mod Coding
 pub mod Whole
+pub mod Refutes

@@ -7,10 +7,10 @@ use native.Mathlib.Omega.{arith}
 use Rattle.codec.specs.Codec.{le_c}
 use Rattle.codec.specs.Forms.{bytes_c}
 use Rattle.codec.specs.Skip.{skip, tag_at}
-use Rattle.codec.specs.Field.{is_in}
-use Rattle.codec.specs.Ways.{tag_read, tag_past, tag_within}
+use Rattle.codec.proofs.Field.{is_in}
+use Rattle.codec.proofs.Ways.{tag_read, tag_past, tag_within}
 use Rattle.format.specs.Plan.{from_column, from_group, from_code, value_c}
-use Rattle.format.specs.Fields.{value_tag, is_from_code}
+use Rattle.format.proofs.Fields.{value_tag, is_from_code}
 use Rattle.says.specs.Says.{Says}
 use Rattle.codes.specs.declared.codes.Marks.{Marks}
 use Rattle.codes.specs.Codes.{marked, marked_value}

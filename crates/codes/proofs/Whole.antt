@@ -7,10 +7,10 @@ use Rattle.codec.specs.Codec.{◌⊗◌, le_c, list_c, pick}
 use Rattle.codec.specs.Forms.{bytes_c}
 use Rattle.codec.specs.Skip.{skip}
 use Rattle.codec.specs.Limits.{any_of}
-use Rattle.codec.specs.Maps.{is_bytes_map}
+use Rattle.codec.proofs.Maps.{is_bytes_map}
 use Rattle.format.specs.Spec.{Control, Loop, loop_c, ComponentDef, ElementDef, SegmentDef, segment_c, spec_c}
-use Rattle.format.specs.Fields.{is_spec}
-use Rattle.format.specs.Decoding.{is_read}
+use Rattle.format.proofs.Fields.{is_spec}
+use Rattle.format.proofs.Decoding.{is_read}
 use Rattle.format.specs.Plan.{loop_plan_c}
 use Rattle.format.specs.Sections.{job_of, plan_start, layout_start}
 use Rattle.format.specs.Passed.{Passed}
@@ -18,7 +18,7 @@ use Rattle.nest.specs.Lists.{All}
 use Rattle.complete.specs.Complete.{IfThere, MapStarts, RuleFits, CodesClear}
 use Rattle.says.specs.Says.{Says}
 use Rattle.says.proofs.Walk.{section_says}
-use Rattle.codes.specs.Refutes.{Refutes}
+use Rattle.codes.proofs.Refutes.{Refutes}
 use Rattle.complete.specs.Decides.{Decides}
 use Rattle.codes.specs.Fits.{MapsFit, RulesFit}
 use Rattle.codes.specs.declared.codes.Marks.{Marks}

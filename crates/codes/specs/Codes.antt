@@ -1,3 +1,4 @@
+-- Not to be believed: words of inner contracts, on which no contract of what users call rests.
 -- Codes, as tests (docs/RULES.md, "Places"): in plan and spec they hold no element, component or segment separator, nor does the version's first value.
 use Rattle.std.specs.Prelude.{ℕ, List, [], ◌∷◌, ◌≡◌, Bool, true, false, eqb}
 use Rattle.codec.specs.Codec.{pick}

@@ -1,3 +1,4 @@
+-- Not to be believed: words of inner contracts, on which no contract of what users call rests.
 -- Places of a complete plan (docs/RULES.md, "Places"): the fields of `CompletePlan` that speak of the spec's maps and of control rules.
 use Rattle.std.specs.Prelude.{ℕ, List}
 use Rattle.format.specs.Spec.{Loop, SegmentDef}

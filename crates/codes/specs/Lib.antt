@@ -1,4 +1,3 @@
-pub mod Refutes
 pub mod Fits
 pub mod Rules
 pub mod Maps

@@ -1,3 +1,4 @@
+-- Not to be believed: words of inner contracts, on which no contract of what users call rests.
 -- The spec's maps, as tests (docs/RULES.md, "Places"): places start at 1.
 use Rattle.std.specs.Prelude.{ℕ, List, [], ◌∷◌, Bool}
 use Rattle.codec.specs.Limits.{any, any_of}

@@ -1,3 +1,4 @@
+-- Not to be believed: words of inner contracts, on which no contract of what users call rests.
 -- Control rules, as tests (docs/RULES.md, "Places"): places start at 1, closer and count elements differ.
 use Rattle.std.specs.Prelude.{ℕ, [], ◌∷◌, Bool, ltb, eqb}
 use Rattle.codec.specs.Limits.{any}

@@ -10,9 +10,10 @@ use lib.Dec.{eqb}
 use borrow.Author.Tests.{lt-ltb, le-ltb}
 use Rattle.codec.specs.Codec.{◌⊗◌, le, le_c}
 use Rattle.codec.specs.Skip.{skip, Is}
-use Rattle.codec.specs.Field.{Stands, is_pair, is_list, is_le}
+use Rattle.codec.specs.Field.{Stands}
+use Rattle.codec.proofs.Field.{is_pair, is_list, is_le}
 use Rattle.codec.specs.Forms.{num_c, bytes_c}
-use Rattle.codec.specs.Answers.{skip_les, byte_item}
+use Rattle.codec.proofs.Answers.{skip_les, byte_item}
 use Rattle.column.specs.Cell.{bit_of}
 
 -- the bytes of a validity, and the count of their bits behind them

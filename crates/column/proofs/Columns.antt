@@ -7,15 +7,18 @@ use native.Mathlib.Omega.{arith}
 use Rattle.std.specs.Prelude.{Option, None, Some}
 use lib.ListN.{length, get_or}
 use Rattle.codec.specs.Codec.{◌⊗◌, le, le_c}
-use Rattle.codec.specs.Skip.{skip, Is, skip_map, skip_pair, skip_le}
-use Rattle.codec.specs.Field.{Stands, stands_at, stands_in, is_in, is_map, is_enum, is_pair, is_le, is_some, is_none}
+use Rattle.codec.specs.Skip.{skip, Is}
+use Rattle.codec.proofs.Skip.{skip_map, skip_pair, skip_le}
+use Rattle.codec.specs.Field.{Stands}
+use Rattle.codec.proofs.Field.{stands_at, stands_in, is_in, is_map, is_enum, is_pair, is_le, is_some, is_none}
 use Rattle.codec.specs.Forms.{num_c, bytes_c, opt_c}
-use Rattle.codec.specs.Ways.{tag_in, opt_none, opt_some, skip_opt}
-use Rattle.codec.specs.Answers.{skip_les}
+use Rattle.codec.proofs.Ways.{tag_in, opt_none, opt_some, skip_opt}
+use Rattle.codec.proofs.Answers.{skip_les}
 use Rattle.format.specs.Data.{Values, values_c, Column, column_c}
 use Rattle.column.specs.Cell.{Cell, bit_of, value_of, get, opt_get, validated, int64_of}
 use Rattle.column.specs.Answers.{Reads}
-use Rattle.column.specs.Parts.{ColumnIs, ColumnOf, is_column}
+use Rattle.column.proofs.Parts.{ColumnIs, is_column}
+use Rattle.column.specs.Parts.{ColumnOf}
 use Rattle.column.specs.declared.Cell.{Cell as Read}
 use Rattle.column.specs.declared.Cell.TheVariants.{None as NoAnswer, Null}
 use Rattle.column.proofs.Read.{reads_none, reads_null}

@@ -5,3 +5,6 @@ mod Values
 mod Columns
 mod Refs
 mod Equal
+pub mod Parts
+pub mod SameLaws
+pub mod Samples

@@ -8,12 +8,13 @@ use lib.ListN.{length, get_or, take, drop, length-drop}
 use lib.Dec.{leb}
 use lib.Seq.{ext_get_or, get_or-take, get_or-drop, length-take-le}
 use borrow.Author.Tests.{lt-ltb, le-ltb, le-leb, lt-leb}
-use Rattle.codec.specs.Codec.{Codec, ◌⊗◌, le, le_c, list_c, pick_same}
+use Rattle.codec.specs.Codec.{Codec, ◌⊗◌, le, le_c, list_c}
+use Rattle.codec.proofs.Codec.{pick_same}
 use Rattle.codec.specs.Skip.{skip, Is}
-use Rattle.codec.specs.Field.{is_pair, is_list, is_le, item_of, room_of}
+use Rattle.codec.proofs.Field.{is_pair, is_list, is_le, item_of, room_of}
 use Rattle.codec.specs.Forms.{num_c, byte_c, wide_c, bytes_c}
-use Rattle.codec.specs.Answers.{skip_les, byte_item}
-use Rattle.codec.specs.Ways.{le_sixteen}
+use Rattle.codec.proofs.Answers.{skip_les, byte_item}
+use Rattle.codec.proofs.Ways.{le_sixteen}
 use Rattle.column.specs.Cell.{Cell, held, between, bytes_of}
 use Rattle.column.specs.Answers.{Reads}
 use Rattle.column.specs.declared.Cell.TheVariants.{None as NoAnswer, Bytes, Wide}

@@ -7,8 +7,10 @@ use Rattle.std.specs.Prelude.{Option, None, Some, unwrap_or}
 use lib.ListN.{length, get_or}
 use borrow.Author.Tests.{eq-eqb, ne_eqb}
 use Rattle.codec.specs.Codec.{Codec, ◌⊗◌, le}
-use Rattle.codec.specs.Skip.{skip, steps, Is, skip_pair, skip_le}
-use Rattle.codec.specs.Field.{Stands, stands_at, ListIs, is_pair, is_list, is_le}
+use Rattle.codec.specs.Skip.{skip, steps, Is}
+use Rattle.codec.proofs.Skip.{skip_pair, skip_le}
+use Rattle.codec.specs.Field.{Stands}
+use Rattle.codec.proofs.Field.{stands_at, ListIs, is_pair, is_list, is_le}
 use Rattle.codec.specs.Forms.{num_c, opt_c}
 use Rattle.format.specs.Data.{Column, column_c}
 use Rattle.column.specs.Cell.{opt_get, int64_of, or_else, key_in, ref_column, reference_in}

@@ -8,10 +8,11 @@ use Rattle.std.specs.Prelude.{None, Some}
 use lib.ListN.{length, get_or, take, drop}
 use lib.Dec.{leb, ltb}
 use Rattle.codec.specs.Codec.{◌⊗◌, ◌⊕◌, le, le_c, list_c, pick}
-use Rattle.codec.specs.Skip.{skip, Is, skip_map, skip_pair, skip_enum, skip_case_0, skip_case_suc, skip_le}
-use Rattle.codec.specs.Field.{is_map, is_pair, is_enum, is_first, is_later, is_le}
+use Rattle.codec.specs.Skip.{skip, Is}
+use Rattle.codec.proofs.Skip.{skip_map, skip_pair, skip_enum, skip_case_0, skip_case_suc, skip_le}
+use Rattle.codec.proofs.Field.{is_map, is_pair, is_enum, is_first, is_later, is_le}
 use Rattle.codec.specs.Forms.{num_c, byte_c, long_c, wide_c, bytes_c}
-use Rattle.codec.specs.Answers.{skip_les}
+use Rattle.codec.proofs.Answers.{skip_les}
 use Rattle.format.specs.Data.{Values, binary, int64, decimal, date32, time32, values_c}
 use Rattle.column.specs.Cell.{Cell, held, between, bytes_of, value_of, int64_of}
 use Rattle.column.specs.Answers.{Reads}

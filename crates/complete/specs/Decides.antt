@@ -1,3 +1,4 @@
+-- Not to be believed: words of inner contracts, on which no contract of what users call rests.
 -- What the answer of a test says: yes exactly where a statement holds.
 use Rattle.std.specs.Prelude.{◌≡◌, Bool, true, false}
 

@@ -7,14 +7,15 @@ use native.Mathlib.Omega.{arith}
 use lib.ListN.{length, get_or, get_or-eq_default}
 use lib.Dec.{ltb}
 use borrow.Author.Tests.{ltb-true, ltb-false, leb-false}
-use Rattle.codec.specs.Limits.{none_of, none_in}
+use Rattle.codec.proofs.Limits.{none_of, none_in}
 use Rattle.format.specs.Spec as S
 use Rattle.format.specs.Job.{Job}
 use Rattle.format.specs.Sections.{job_of}
 use Rattle.format.specs.Refusal.{tangled, tangled_loops, outside_loop, outside}
-use Rattle.format.specs.Passed.{Passed, few}
+use Rattle.format.specs.Passed.{Passed}
+use Rattle.format.proofs.Passed.{few}
 use Rattle.format.specs.Ask as A
-use Rattle.spec.specs.Answers.{is_required}
+use Rattle.spec.specs.Usage.{is_required}
 use Rattle.nest.specs.Outline.{no_loop, loop_of}
 use Rattle.nest.specs.OfJob.{outline_of, loop_in, group_table, repeat_table, same_in, same_chunk_in, filled_in}
 

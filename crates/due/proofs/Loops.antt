@@ -10,7 +10,7 @@ use borrow.Author.Tests.{lt-ltb, le-ltb}
 use Rattle.format.specs.Plan as P
 use Rattle.format.specs.Job.{Job}
 use Rattle.format.specs.Ask as A
-use Rattle.spec.specs.Answers.{is_required}
+use Rattle.spec.specs.Usage.{is_required}
 use Rattle.spec.specs.declared.ids.TableId.{TableId}
 use Rattle.plan.specs.Answers.{instances_of, source_of}
 use Rattle.plan.specs.declared.answers.Instances.{Instances}

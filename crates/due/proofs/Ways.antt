@@ -6,11 +6,12 @@ use mathlib.Core.List.{List, [], ◌∷◌}
 use native.Mathlib.Omega.{arith}
 use lib.ListN.{length, get_or, drop}
 use Rattle.format.specs.Plan as P
+use Rattle.format.specs.NoElement
 use Rattle.format.specs.Job.{Job}
 use Rattle.format.specs.Ask as A
 use Rattle.column.specs.Cell.{Cell, or_null, is_null, same_cell, same_answer, segment_cell}
 use Rattle.column.specs.Answers.{cell_at, Reads}
-use Rattle.column.specs.Same.{answers_cells}
+use Rattle.column.proofs.SameLaws.{answers_cells}
 use Rattle.column.specs.declared.Cell.{Cell as Read}
 use Rattle.plan.specs.Answers.{value_of}
 use Rattle.plan.specs.Elements.{Elements, ElementStep}
@@ -58,16 +59,16 @@ placed_next w s = record { count = w.count; place = s.rest }
 abbrev pub None_before : (ℕ → Bool) → List P.ElementPlan → ℕ → Type 0
 None_before q vs k = some_of (names q) vs ≡ some_of (names q) (drop k vs)
 
-value_is : {b : List ℕ} (q : ℕ → Bool) {vs : List P.ElementPlan} {k : ℕ} {e : ElementPlan} → ElementStep b k vs e → names q (get_or vs k P.no_element_plan) ≡ some_of q (column_in (value_of b e.value))
+value_is : {b : List ℕ} (q : ℕ → Bool) {vs : List P.ElementPlan} {k : ℕ} {e : ElementPlan} → ElementStep b k vs e → names q (get_or vs k NoElement.no_element_plan) ≡ some_of q (column_in (value_of b e.value))
 value_is q s = ap (names q) (sym s.plan)
 
 module _ {b : List ℕ} (q : ℕ → Bool) {vs : List P.ElementPlan} {n p k : ℕ} (w : Placed b vs n p k) (r : None_before q vs k) where
   module _ {e : ElementPlan} {x : Bool} (h : k < n) (s : ElementStep b k vs e) (d : x ≡ some_of q (column_in (value_of b e.value))) where
     pub search_found : x ≡ true → some_of (names q) vs ≡ true
-    search_found y = r ∙ some_at (names q) vs k P.no_element_plan (omega (arith, h, w.count)) (value_is q s ∙ sym d ∙ y)
+    search_found y = r ∙ some_at (names q) vs k NoElement.no_element_plan (omega (arith, h, w.count)) (value_is q s ∙ sym d ∙ y)
 
     pub search_next : x ≡ false → None_before q vs (k + 1)
-    search_next y = r ∙ some_not_at (names q) vs k P.no_element_plan (omega (arith, h, w.count)) (value_is q s ∙ sym d ∙ y)
+    search_next y = r ∙ some_not_at (names q) vs k NoElement.no_element_plan (omega (arith, h, w.count)) (value_is q s ∙ sym d ∙ y)
 
   pub search_end : n ≤ k → some_of (names q) vs ≡ false
   search_end h = r ∙ some_past (names q) vs k (omega (arith, h, w.count))

@@ -1,3 +1,4 @@
+-- Not to be believed: words of inner contracts, on which no contract of what users call rests.
 -- What the functions below the contracts of this crate look at: a cell, and the cell that a planned value names (`nest/specs/OfJob`).
 use Rattle.std.specs.Prelude.{ℕ, Bool, not, Option, Some, None}
 use Rattle.format.specs.Plan as P

@@ -14,7 +14,9 @@ use Rattle.emit.specs.declared.state.State.{State}
 use Rattle.emit.specs.Fold as F
 use Rattle.emit.specs.Fold.{quiet, and_then}
 use Rattle.emit.specs.Written.{words_of}
-use Rattle.emit.specs.Did.{Mark, state_of, state_with, traced_word, traced_words, stop_word, stop_words, Did, DidMark, DidNumber, Fit, Small}
+use Rattle.emit.specs.Did.{Mark, state_of, state_with, traced_words, stop_words, Did, DidMark, DidNumber, Small}
+use Rattle.emit.specs.Words.{traced_word, stop_word}
+use Rattle.emit.proofs.Did.{Fit}
 use Rattle.emit.proofs.FindingLaws.{stored_findings, none_stored}
 
 traced_append : (a b : List F.Traced) → traced_words (a ++ b) ≡ traced_words a ++ traced_words b

@@ -14,10 +14,12 @@ use Rattle.std.specs.Option.{unwrap_or}
 use Rattle.emit.specs.declared.findings.Delimiters.{Delimiters}
 use native.Mathlib.Nat.{not-suc-le-zero}
 use Rattle.codec.specs.Codec.{pick as codec-pick}
-use Rattle.lent.specs.Fit.{wide, more, Noted}
+use Rattle.lent.proofs.Fit.{wide}
+use Rattle.lent.specs.Fit.{more}
+use Rattle.lent.specs.Window.{Noted}
 use Rattle.lent.proofs.Laws.{stored_none, stored_append, stored_length}
 use Rattle.segment.specs.Parts.{pick}
-use Rattle.segment.specs.Pen.{holds, holds_any, one_of}
+use Rattle.segment.specs.Values.{holds, holds_any, one_of}
 use Rattle.segment.proofs.Texts.{none_of}
 use Rattle.nest.proofs.NestLaws.{turn}
 use Rattle.nest.specs.Finding.{Finding, Origin, cell, field, Place, of_text, delimiter, not_writable, record_of}

@@ -11,8 +11,10 @@ use Rattle.lent.specs.Fit.{Stored}
 use Rattle.segment.specs.declared.Separators.{Separators}
 use Rattle.segment.specs.declared.Pen.{Pen}
 use Rattle.segment.specs.Parts.{pick, is_empty, highest, last_element, last_component, here, after, component_text, joined}
-use Rattle.segment.specs.Pen.{placed, finished, closing, Penned}
-use Rattle.segment.specs.Calls.{Group, next, finish, Row, group, close, stays}
+use Rattle.segment.specs.Pen.{placed, finished, Penned}
+use Rattle.segment.specs.Values.{closing}
+use Rattle.segment.specs.Group.{Group, next, finish}
+use Rattle.segment.specs.Calls.{Row, group, close, stays}
 use Rattle.format.specs.Spec.{Control}
 use Rattle.texts.specs.Number.{count_text}
 use Rattle.emit.specs.Puts.{part_at}

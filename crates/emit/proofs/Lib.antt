@@ -12,3 +12,5 @@ pub mod PutLaws
 pub mod EdgeValues
 pub mod TookLaws
 pub mod Plain
+pub mod Did
+pub mod EnvelopeLaws

@@ -10,7 +10,8 @@ use lib.Seq.{drop-cons}
 use lib.Dec.{leb, ltb}
 use borrow.Author.Tests.{leb-true, ltb-true, ltb-false}
 use Rattle.codec.specs.Codec.{pick}
-use Rattle.codec.specs.Limits.{none_of, none_in, any_of}
+use Rattle.codec.proofs.Limits.{none_of, none_in}
+use Rattle.codec.specs.Limits.{any_of}
 use Rattle.format.specs.Spec.{Loop, no_loop}
 use Rattle.format.specs.Sections.{job_of}
 use Rattle.format.specs.Refusal.{identifier, unnamed, unfit, unfit_spec, unfit_loop}

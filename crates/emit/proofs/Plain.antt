@@ -9,7 +9,8 @@ use lib.IntN.{ℤ, pos, negsuc, nat_abs}
 use lib.ListN.{replicate}
 use borrow.Author.Tests.{eqb-true, leb-true, le-leb}
 use Rattle.codec.specs.Codec.{pick}
-use Rattle.codec.specs.Limits.{any, any_of, none_of}
+use Rattle.codec.specs.Limits.{any, any_of}
+use Rattle.codec.proofs.Limits.{none_of}
 use Rattle.format.specs.Words.{member_of, repeats, between}
 use Rattle.format.specs.Job.{Job}
 use Rattle.format.specs.Refusal.{upper, digit, textual, separators, unfit_envelope, unfit}

@@ -10,9 +10,9 @@ use lib.Seq.{drop-cons}
 use Rattle.format.specs.Job.{Job}
 use Rattle.format.specs.Refusal.{separators}
 use Rattle.segment.specs.Parts.{Part, highest}
-use Rattle.segment.specs.Pen.{value_text}
+use Rattle.segment.specs.Values.{value_text}
 use Rattle.nest.specs.Finding.{cell}
-use Rattle.texts.specs.Reason.{why_in}
+use Rattle.texts.specs.Said.{why_in}
 use Rattle.emit.specs.declared.cells.Written.{Written}
 use Rattle.emit.specs.declared.findings.Delimiters.{Delimiters}
 use Rattle.emit.specs.Puts.{Put, nothing, and_put, put_all, cell_outcome, place_of, held_in, delimited, unwritten, put_cell}

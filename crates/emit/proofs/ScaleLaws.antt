@@ -9,7 +9,7 @@ use lib.ListN.{length, get_or}
 use lib.Dec.{ltb, leb}
 use borrow.Author.Tests.{ltb-false}
 use Rattle.codec.specs.Codec.{pick}
-use Rattle.codec.specs.Limits.{none_of}
+use Rattle.codec.proofs.Limits.{none_of}
 use Rattle.format.specs.Data.{Values, Column, TableData, no_table_data}
 use Rattle.format.specs.Job.{Job}
 use Rattle.format.specs.Ask.{data_of}

@@ -7,7 +7,8 @@ use lib.ListN.{length, get_or, set}
 use lib.Seq.{get_or-set_same, set-set}
 use Rattle.emit.specs.declared.state.Counts.{Counts}
 use Rattle.emit.specs.Fold as F
-use Rattle.emit.specs.Did.{Mark, mark_of, state_of, state_with, traced_word, traced_words}
+use Rattle.emit.specs.Did.{Mark, mark_of, state_of, state_with, traced_words}
+use Rattle.emit.specs.Words.{traced_word}
 
 -- ---- the marks
 

@@ -6,7 +6,8 @@ use native.Mathlib.Omega.{arith}
 use Rattle.std.specs.Prelude.{None}
 use Rattle.format.specs.Spec.{Control}
 use Rattle.format.specs.Job.{Job}
-use Rattle.lent.specs.Fit.{Stored, Noted}
+use Rattle.lent.specs.Fit.{Stored}
+use Rattle.lent.specs.Window.{Noted}
 use Rattle.lent.proofs.Laws.{unmoved}
 use Rattle.segment.specs.declared.Separators.{Separators}
 use Rattle.segment.specs.Parts.{Part, joined}

@@ -13,7 +13,8 @@ use mir.Facts.{to_z-of_z}
 use Rattle.segment.specs.declared.Pen.{Pen}
 use Rattle.segment.specs.declared.Separators.{Separators}
 use Rattle.segment.specs.declared.Value.{Value}
-use Rattle.segment.specs.Pen.{placed, value_text, Penned}
+use Rattle.segment.specs.Pen.{placed, Penned}
+use Rattle.segment.specs.Values.{value_text}
 use Rattle.std.specs.Prelude as Rust
 use Rattle.std.specs.Prelude.{Result, Ok, Err}
 use Rattle.std.specs.Result.{result_err, result_unwrap_or}
@@ -21,10 +22,11 @@ use Rattle.texts.specs.declared.Text.{Text}
 use Rattle.texts.specs.declared.render.Refused.{Refused}
 use Rattle.texts.specs.Held.{held}
 use Rattle.texts.proofs.Texts.{len_is, held_take}
-use Rattle.texts.specs.Reason.{Width as Room, Outcome, text_of, why_of, why_in, Says}
+use Rattle.texts.specs.Reason.{Width as Room, Outcome}
+use Rattle.texts.specs.Said.{text_of, why_of, why_in, Says}
 use Rattle.texts.specs.Number.{count_text}
 use Rattle.texts.specs.Pad.{padded, zero_padded, control_text}
-use Rattle.lent.specs.Fit.{stretch}
+use Rattle.lent.specs.Window.{stretch}
 use Rattle.emit.specs.Written.{Writes}
 
 -- a text, empty where it is refused

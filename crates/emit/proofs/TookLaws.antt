@@ -9,7 +9,8 @@ use Rattle.walk.specs.Tour.{Step, stop, opener, row_segment, fill, chunk, closer
 use Rattle.emit.specs.declared.state.State.{State}
 use Rattle.emit.specs.Fold as F
 use Rattle.emit.specs.Fold.{Out, quiet, and_then, stop_out, opener_out, row_out, fill_out, chunk_out, closer_out, step_out, steps_out}
-use Rattle.emit.specs.Did.{state_of, Did, Fit, Small, Took}
+use Rattle.emit.specs.Did.{state_of, Did, Small, Took}
+use Rattle.emit.proofs.Did.{Fit}
 use Rattle.emit.proofs.DidLaws.{did_then, did_nothing}
 
 -- ---- the fold

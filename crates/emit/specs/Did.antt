@@ -1,7 +1,9 @@
+-- Not to be believed: words of inner contracts, on which no contract of what users call rests.
 -- What code did that writes an `Out`: the state that it returns, and the four lent lists.
-use Rattle.std.specs.Prelude.{ℕ, suc, ◌≤◌, ◌<◌, ◌≡◌, List, [], ◌∷◌, map, length, set, Option, None, Some}
+use Rattle.std.specs.Prelude.{ℕ, ◌≤◌, ◌<◌, ◌≡◌, List, [], ◌∷◌, map, length, set, Option, None, Some}
 use Rattle.std.specs.Option.{option_map}
-use Rattle.lent.specs.Fit.{cap, wide, more, Stored, Noted}
+use Rattle.lent.specs.Fit.{cap, more, Stored}
+use Rattle.lent.specs.Window.{Noted}
 use Rattle.spec.specs.declared.ids.RowId.{RowId}
 use Rattle.nest.specs.Lists.{each}
 use Rattle.format.specs.Job.{Job}
@@ -13,6 +15,7 @@ use Rattle.emit.specs.declared.state.From.{From}
 use Rattle.emit.specs.declared.state.From.TheVariants.{Envelope, Row}
 use Rattle.emit.specs.Written.{words_of}
 use Rattle.emit.specs.Fold as F
+use Rattle.emit.specs.Words.{traced_word, stop_word}
 
 -- ---- the state
 
@@ -31,20 +34,8 @@ state_with h c s = record { high = h; counter = c; counts = s }
 
 -- ---- as numbers
 
--- three for a finished segment: its first trace entry, its table plus one or 0, its row
-abbrev pub row_words : Option (ℕ × ℕ) → List ℕ
-row_words None = 0 ∷ 0 ∷ []
-row_words (Some x) = suc x.0 ∷ x.1 ∷ []
-
-abbrev pub traced_word : F.Traced → List ℕ
-traced_word t = t.entry ∷ row_words t.row
-
 unfoldable pub traced_words : List F.Traced → List ℕ
 traced_words = each traced_word
-
--- three for a stop: its loop, its table, its row
-abbrev pub stop_word : Stop → List ℕ
-stop_word x = x.loop ∷ x.table ∷ x.row ∷ []
 
 unfoldable pub stop_words : List Stop → List ℕ
 stop_words = each stop_word
@@ -71,13 +62,6 @@ DidMark t o m n s r d d' g g' f f' p p' = (high : List Mark) (counter : List ℕ
 abbrev pub DidNumber : ℕ → (F.State → F.Out) → (a b : ℕ) (s r : Counts) (d d' g g' f f' p p' : List ℕ) → Type 0
 DidNumber l o a b s r d d' g g' f f' p p' = (high : List Mark) (counter : List ℕ) → l < length counter
     → Did (o (state_of (state_with high (set counter l a) s))) (state_with high (set counter l a) s) (state_with high (set counter l b) r) d d' g g' f f' p p'
-
--- the lists are no longer than the cap, as no slice is
-pub record Fit (d g f p : List ℕ) : Type 0 where
-  pub document : length d ≤ cap
-  pub segments : length g ≤ cap
-  pub findings : length f ≤ wide
-  pub stops : length p ≤ cap
 
 -- the counts are within the cap
 pub record Within (s : Counts) : Type 0 where

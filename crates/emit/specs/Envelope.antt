@@ -18,12 +18,6 @@ use Rattle.emit.specs.Puts.{Put, nothing, put_text, put_all, part_at, place_of, 
 
 -- ---- fields, by their case in the Rust's `Field`
 
-abbrev pub date : ℕ
-date = 6
-
-abbrev pub time : ℕ
-time = 7
-
 abbrev pub control_number : ℕ
 control_number = 9
 

@@ -5,3 +5,4 @@ pub mod Written
 pub mod Did
 pub mod Table
 pub mod EdgeValues
+pub mod Words

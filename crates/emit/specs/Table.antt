@@ -1,3 +1,4 @@
+-- Not to be believed: words of inner contracts, on which no contract of what users call rests.
 -- The layout of the triggers as a table of equal rows, one for ISA, GS and ST each, and the search in a row (docs/RULES.md, "Envelope fields").
 use Rattle.std.specs.Prelude.{ℕ, zero, suc, ◌+◌, ◌*◌, List, [], ◌∷◌, eqb, get_or, cond, Option, Some, None}
 

@@ -1,10 +1,12 @@
+-- Not to be believed: words of inner contracts, on which no contract of what users call rests.
 -- What the code's answers on a text stand for: the text of a value with its reason; the place of a text in a finding; the separators that are tried.
 use Rattle.std.specs.Prelude.{ℕ, ◌≡◌, Bool, true, false, List, [], ◌∷◌, Option, None, Some}
 use Rattle.std.specs.Prelude as Rust
 use Rattle.column.specs.declared.Cell.{Cell as Read}
 use Rattle.column.specs.declared.Cell.TheVariants.{None as NoAnswer, Null, Bytes, Int, Wide, Days, Seconds}
-use Rattle.texts.specs.Reason.{Outcome, why_in}
-use Rattle.segment.specs.Pen.{value_text}
+use Rattle.texts.specs.Reason.{Outcome}
+use Rattle.texts.specs.Said.{why_in}
+use Rattle.segment.specs.Values.{value_text}
 use Rattle.nest.specs.Lists.{each}
 use Rattle.nest.specs.Finding.{Finding, Origin, cell, field, Place, number_from, or_zero, record_of}
 use Rattle.emit.specs.declared.cells.Written.{Written}

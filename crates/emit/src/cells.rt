@@ -1,17 +1,19 @@
 // The text of a cell.
 ghost use Rattle.std.specs.Prelude.{◌≡◌, true, List, ℕ, ◌+◌, ◌*◌, ◌≤◌, length};
 ghost use Rattle.format.specs.Ask.{max_of};
-ghost use Rattle.lent.specs.Fit.{stretch};
+ghost use Rattle.lent.specs.Window.{stretch};
 ghost use Rattle.column.specs.Cell.{or_null};
 ghost use Rattle.column.specs.Answers.{cell_at};
 ghost use Rattle.texts.specs.Held.{held};
-ghost use Rattle.texts.specs.Reason.{Width, Outcome, reason_of, text_of, Says, gives};
+ghost use Rattle.texts.specs.Reason.{Width, Outcome, gives};
+ghost use Rattle.texts.specs.Said.{reason_of, text_of, Says};
 ghost use Rattle.texts.specs.Wide.{signed64, signed128};
 ghost use Rattle.texts.specs.Floor.{signed32};
 ghost use Rattle.texts.specs.Number.{int_text, decimal_text};
 ghost use Rattle.texts.specs.DateText.{date_text};
 ghost use Rattle.texts.specs.Clock.{time_text};
-ghost use Rattle.segment.specs.Pen.{placed, Plain, Penned};
+ghost use Rattle.segment.specs.Pen.{placed, Penned};
+ghost use Rattle.segment.specs.Values.{Plain};
 ghost use Rattle.spec.specs.declared.ids.Stretch as Held;
 ghost use Rattle.spec.specs.Answers.{stretch_of};
 ghost use Rattle.emit.specs.Puts.{cell_text, cell_outcome};

@@ -1,9 +1,11 @@
 // A segment of plain texts, and the closer of a loop.
 ghost use Rattle.std.specs.Prelude.{◌≡◌, false, List, [], ◌∷◌, ℕ, ◌≤◌, ◌<◌, None};
-ghost use Rattle.lent.specs.Fit.{stretch, Stored};
+ghost use Rattle.lent.specs.Window.{stretch};
+ghost use Rattle.lent.specs.Fit.{Stored};
 ghost use Rattle.segment.specs.Parts.{pick, is_empty, last_component, component_text, joined};
-ghost use Rattle.segment.specs.Pen.{value_text};
-ghost use Rattle.segment.specs.Calls.{Group, Row};
+ghost use Rattle.segment.specs.Values.{value_text};
+ghost use Rattle.segment.specs.Group.{Group};
+ghost use Rattle.segment.specs.Calls.{Row};
 ghost use Rattle.format.specs.Spec.{Control};
 ghost use Rattle.format.specs.Job.{Job};
 ghost use Rattle.emit.specs.Fold.{separators_of, segment_out};

@@ -1,7 +1,7 @@
 // The texts of the envelope: control numbers, counts, padded values.
 ghost use Rattle.std.specs.Prelude.{◌≡◌, List, [], ◌++◌, ℕ, ◌+◌, ◌*◌, ◌≤◌, ◌<◌, length, get_or, take};
-ghost use Rattle.lent.specs.Fit.{stretch};
-ghost use Rattle.segment.specs.Pen.{value_text};
+ghost use Rattle.lent.specs.Window.{stretch};
+ghost use Rattle.segment.specs.Values.{value_text};
 ghost use Rattle.texts.specs.Number.{count_text};
 ghost use Rattle.texts.specs.Pad.{padded, control_text};
 ghost use Rattle.emit.specs.Envelope.{field_at};

@@ -1,8 +1,8 @@
 // The findings on a text, ten numbers each.
 ghost use Rattle.std.specs.Prelude.{◌≡◌, true, false, List, [], ◌∷◌, ◌++◌, ℕ};
-ghost use Rattle.lent.specs.Fit.{stretch, Noted};
-ghost use Rattle.segment.specs.Pen.{value_text, holds_any, one_of};
-ghost use Rattle.texts.specs.Reason.{why_in};
+ghost use Rattle.lent.specs.Window.{stretch, Noted};
+ghost use Rattle.segment.specs.Values.{value_text, holds_any, one_of};
+ghost use Rattle.texts.specs.Said.{why_in};
 ghost use Rattle.nest.specs.Finding.{Origin, Place, cell, number_from};
 ghost use Rattle.emit.specs.Puts.{held_in, place_of, unwritten};
 ghost use Rattle.emit.specs.Written.{spot_of, spotted, words_of, tried, tried_last};

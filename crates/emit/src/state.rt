@@ -1,10 +1,12 @@
 // What the walk knows of the steps before, and how a step moves it on.
 ghost use Rattle.std.specs.Prelude.{◌≡◌, [], ◌∷◌, take};
-ghost use Rattle.lent.specs.Fit.{more, Noted};
+ghost use Rattle.lent.specs.Fit.{more};
+ghost use Rattle.lent.specs.Window.{Noted};
 ghost use Rattle.nest.specs.Finding.{out_of_order};
 ghost use Rattle.emit.specs.Fold.{higher, next, previous};
 ghost use Rattle.emit.specs.Written.{words_of};
-ghost use Rattle.emit.specs.Did.{mark_of, row_in, traced_word, Finished};
+ghost use Rattle.emit.specs.Did.{mark_of, row_in, Finished};
+ghost use Rattle.emit.specs.Words.{traced_word};
 
 use spec::ids::{RowId, TableId};
 

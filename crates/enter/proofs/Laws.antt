@@ -17,7 +17,7 @@ use Rattle.nest.specs.Outline.{Outline, row_count, repeated, table_parent}
 use Rattle.nest.specs.Nest.{Hook, hook, hook_record, loose_record, nest_record}
 use Rattle.nest.specs.Finding.{out_of_order}
 use Rattle.nest.specs.Found.{nest_at}
-use Rattle.nest.specs.Ready.{outline_at}
+use Rattle.nest.specs.OutlineAt.{outline_at}
 use Rattle.nest.specs.OfJob.{outline_of}
 use Rattle.nest.proofs.Bridge.{rows_is, reference_is, table_parent_is}
 use Rattle.nest.proofs.Placing.{repeats_is, room_for}

@@ -2,7 +2,7 @@
 #![tactic(auto)]
 
 ghost use Rattle.std.specs.Prelude.{◌≡◌, List, [], ◌∷◌, ℕ, ◌+◌, ◌*◌, ◌<◌, length};
-ghost use Rattle.lent.specs.Fit.{Noted};
+ghost use Rattle.lent.specs.Window.{Noted};
 ghost use Rattle.nest.specs.Lists.{on};
 ghost use Rattle.nest.specs.Outline.{row_count};
 ghost use Rattle.nest.specs.Finding.{out_of_order};

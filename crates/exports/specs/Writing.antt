@@ -4,11 +4,11 @@ use Rattle.std.specs.Prelude.{ℕ, ◌≡◌, List, map, length, take}
 use Rattle.std.proofs.lemmas.List.Edits.{sets}
 use Rattle.finding.specs.declared.Finding.{Finding}
 use Rattle.format.specs.Sections.{job_of}
-use Rattle.emit.specs.Did.{traced_word, stop_word}
+use Rattle.emit.specs.Words.{traced_word, stop_word}
 use Rattle.writer.specs.Result.{result_of, ResultKept}
 use Rattle.writer.specs.Refused.{refusal}
 use Rattle.writer.specs.Lists.{in_front, holding, unless_refused}
-use Rattle.writer.specs.Wrote.{threes, number_for, values_for}
+use Rattle.writer.specs.Numbers.{threes, number_for, values_for}
 use Rattle.baktuven.specs.Held.{NothingLostIn}
 use Rattle.baktuven.specs.Wrote.{finding_of, in_places}
 

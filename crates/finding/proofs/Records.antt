@@ -7,7 +7,8 @@ use lib.ListN.{length, get_or, drop, set, get_or-append}
 use lib.Seq.{sets, drop-drop, drop_at}
 use Rattle.lent.proofs.Laws.{sets_snoc}
 use Rattle.finding.specs.declared.Finding.{Finding}
-use Rattle.finding.specs.Findings.{finding_from, finding_at, findings_in}
+use Rattle.finding.specs.Findings.{finding_from}
+use Rattle.finding.specs.Records.{finding_at, findings_in}
 
 -- ten numbers decide
 from_ten : (ws vs : List ℕ) → length ws ≡ 10 → finding_from (ws ++ vs) ≡ finding_from ws

@@ -1,3 +1,4 @@
+-- Not to be believed: words of inner contracts, on which no contract of what users call rests.
 -- The listing's line of a finding: docs/RULES.md, "The listing". A finding is a kind and nine values, in the order in which the line has them.
 use Rattle.std.specs.Prelude.{ℕ, ◌-◌, ◌/◌, ◌%◌, ◌==◌, List, [], ◌∷◌, ◌++◌, if◌then◌else◌, codes, decimal, encode_utf8, slice_index}
 use Rattle.std.specs.Fmt.{signed_decimal}

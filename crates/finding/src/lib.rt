@@ -3,7 +3,7 @@
 
 ghost use Rattle.std.specs.Prelude.{◌≡◌, ◌+◌, ◌*◌, ◌<◌, get_or, drop, set};
 ghost use Rattle.std.proofs.lemmas.List.Edits.{sets};
-ghost use Rattle.finding.specs.Findings.{finding_at, findings_in};
+ghost use Rattle.finding.specs.Records.{finding_at, findings_in};
 
 mod line;
 
@@ -73,7 +73,7 @@ pub fn append(findings: &mut [Finding], at: usize, f: Finding)
 }
 
 /// Stores records i, i + 1, .., `left` of them, of a list of numbers from place `at` of `findings` on, as far as they fit.
-#[tactic(auto, unfolding(crate::specs::Findings::findings_in), using(crate::proofs::Records::one_more))]
+#[tactic(auto, unfolding(crate::specs::Records::findings_in), using(crate::proofs::Records::one_more))]
 pub fn append_all(findings: &mut [Finding], words: &[u64], at: usize, i: usize, left: usize)
     requires { (at + left < 9223372036854775808) × (i + left < 9223372036854775808) }
     ensures { findings.new ≡ sets findings.old at (findings_in words.now i left) }

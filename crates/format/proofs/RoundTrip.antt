@@ -4,7 +4,7 @@ use Rattle.std.proofs.Math.Path.{◌≡◌}
 use Rattle.std.proofs.Common.{sym, ◌∙◌, arith, zero-add, le-ltb, eq-eqb}
 use Rattle.std.proofs.Math.Bool.{false}
 use Rattle.codec.specs.Codec.{got, Codec, le, enc_le, Here, Bytes, here_l, here_r, here_join, le_there, le_back}
-use Rattle.codec.specs.Whole.{here_self, here_all}
+use Rattle.codec.proofs.Whole.{here_self, here_all}
 use Rattle.codec.specs.Limits.{any}
 use Rattle.format.specs.Spec.{spec_c}
 use Rattle.format.specs.Plan.{plan_c}
@@ -13,7 +13,8 @@ use Rattle.format.specs.Envelope.{envelope_c}
 use Rattle.format.specs.Data.{data_c}
 use Rattle.format.specs.Job.{Job}
 use Rattle.format.specs.Sections.{trailer, plan_start, layout_start, envelope_start, data_start, broken, spoilt, decode, job_of, trailer_of, framed, encode, Fits}
-use Rattle.format.specs.Decoding.{Six, six, small, framed_length, Frame, ReadAs, decode_read, job_read, read_job, read_decoded, Sound, sound_of}
+use Rattle.format.proofs.Decoding.{Six, six, small, framed_length, Frame, decode_read, job_read, read_job, read_decoded, sound_of}
+use Rattle.format.specs.Decoding.{ReadAs, Sound}
 
 module _ (b : List ℕ) (at n₀ n₁ n₂ n₃ n₄ n₅ : ℕ) where
   six_there : Here b at (six n₀ n₁ n₂ n₃ n₄ n₅) → small n₀ → small n₁ → small n₂ → small n₃ → small n₄ → small n₅ → Six b at n₀ n₁ n₂ n₃ n₄ n₅

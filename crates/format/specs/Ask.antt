@@ -2,7 +2,6 @@
 use Rattle.std.specs.Prelude.{ℕ, Bool, true, false, cond, List, [], ◌∷◌, eqb, get_or, Option, None, Some}
 use Rattle.format.specs.Spec.{Loop, no_loop, ElementDef, SegmentDef, ComponentDef, Table, no_table, Repeat}
 use Rattle.format.specs.Plan.{LoopPlan, no_loop_plan, SegmentPlan, no_segment_plan}
-use Rattle.format.specs.Layout.{Item}
 use Rattle.format.specs.Data.{TableData, no_table_data}
 use Rattle.format.specs.Job.{Job}
 
@@ -68,9 +67,6 @@ planned_of j l i = get_or (plan_of j l).segments i no_segment_plan
 unfoldable pub identifier_of : Job → ℕ → ℕ → List ℕ
 unfolding loop_of planned_of
 identifier_of j l i = get_or (loop_of j l).occurrences (planned_of j l i).occurrence []
-
-unfoldable pub order_of : Job → ℕ → List Item
-order_of j l = get_or j.layout.order l []
 
 -- written also where none of its columns has a value
 unfoldable pub forced_of : Job → ℕ → ℕ → Bool

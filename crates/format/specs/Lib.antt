@@ -9,7 +9,8 @@ pub mod Decoding
 pub mod Words
 pub mod Refusal
 pub mod Passed
-pub mod Ends
 pub mod Fields
 pub mod Ask
 pub mod Sample
+pub mod NoElement
+pub mod Orders

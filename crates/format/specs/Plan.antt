@@ -1,5 +1,5 @@
 -- The plan of a job: for each loop where its instances come from and which segments it writes, and the codec of each (docs/RULES.md, "Structures").
-use Rattle.std.specs.Prelude.{ℕ, ◌≡◌, refl, List, [], ◌⊎◌, Option, None}
+use Rattle.std.specs.Prelude.{ℕ, ◌≡◌, refl, List, [], ◌⊎◌, Option}
 use Rattle.std.proofs.Common.{inl, inr}
 use Rattle.codec.specs.Codec.{Codec, unit_c, ◌⊗◌, map_c, enum_c, ◌⊕◌, end_c, list_c}
 use Rattle.codec.specs.Forms.{num_c, bytes_c, opt_c}
@@ -155,8 +155,6 @@ abbrev pub plan_c : Codec Plan
 plan_c = list_c loop_plan_c
 
 -- ---- what stands for one that is not there
-abbrev pub no_element_plan : ElementPlan
-no_element_plan = record { element = 0; component = None; value = from_code [] }
 
 abbrev pub no_segment_plan : SegmentPlan
 no_segment_plan = record { occurrence = 0; source = from_envelope; elements = [] }

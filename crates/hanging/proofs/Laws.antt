@@ -13,7 +13,7 @@ use Rattle.format.specs.Refusal.{refusal_of, rows_of_all}
 use Rattle.tables.specs.Parts as T
 use Rattle.nest.specs.Nest.{nest_array}
 use Rattle.nest.specs.OfJob.{outline_of}
-use Rattle.nest.specs.Ready.{outline_at}
+use Rattle.nest.specs.OutlineAt.{outline_at}
 use Rattle.nest.proofs.Stored.{rows_counted, array_rows}
 use Rattle.refusal.specs.declared.Refusal.{Refusal}
 use Rattle.refusal.specs.declared.Refusal.TheVariants as refusal

@@ -4,7 +4,7 @@ use Rattle.std.proofs.lemmas.List.Edits.{sets}
 use Rattle.codec.specs.Codec.{pick}
 use Rattle.format.specs.Refusal.{refusal_of}
 use Rattle.nest.specs.Nest.{nest_array}
-use Rattle.nest.specs.Ready.{outline_at}
+use Rattle.nest.specs.OutlineAt.{outline_at}
 
 -- where each row hangs, three numbers a row; a job refused by 1 to 5 leaves the list as it was
 unfoldable pub nest_lent : List ℕ → List ℕ → List ℕ

@@ -5,11 +5,12 @@ use mathlib.Core.List.{List}
 use native.Mathlib.Omega.{arith}
 use lib.ListN.{length, get_or}
 use Rattle.format.specs.Passed.{Passed}
-use Rattle.spec.specs.Index.{spec_agrees}
-use Rattle.spec.specs.Segments.{segments_agree}
-use Rattle.spec.specs.EnvelopeIndex.{envelope_agrees}
+use Rattle.spec.proofs.Index.{spec_agrees}
+use Rattle.spec.proofs.SegmentsLaws.{segments_agree}
+use Rattle.spec.proofs.EnvelopeIndex.{envelope_agrees}
 use Rattle.spec.specs.Filled.{Filled}
-use Rattle.plan.specs.Index.{PlanFilled, plan_indexed_kept}
+use Rattle.plan.specs.Index.{PlanFilled}
+use Rattle.plan.proofs.IndexLaws.{plan_indexed_kept}
 use Rattle.tables.specs.Index.{TablesFilled}
 use Rattle.nest.specs.Ready.{Ready}
 

@@ -9,12 +9,14 @@ use Rattle.std.proofs.lemmas.Option.{same_Some, none-some}
 use lib.ListN.{length}
 use lib.Dec.{eqb}
 use borrow.Author.Tests.{eq-eqb, eqb-true}
-use Rattle.nest.specs.Lists.{keep, up_to}
+use Rattle.nest.specs.Lists.{keep}
+use Rattle.nest.specs.UpTo.{up_to}
 use Rattle.nest.specs.Outline.{Outline, table_parent, row_count}
 use Rattle.nest.proofs.Scan.{keep_alike}
 use Rattle.spec.specs.declared.ids.LoopId.{LoopId}
 use Rattle.walk.specs.declared.Context.{Context as Kept}
-use Rattle.walk.specs.Instances.{Context, Run, Piece, held_by, pieces, at, offset, in_row, in_piece}
+use Rattle.walk.specs.Instances.{Context, Run, Piece, pieces, at, offset, in_row, in_piece}
+use Rattle.walk.specs.Bounds.{held_by}
 use Rattle.walk.specs.Contexts.{context_by, kept_row, kept_piece}
 use Rattle.walk.specs.Nested.{Sound}
 use Rattle.walk.proofs.ContextLaws.{stands_start, stands_in_row, stands_in_piece}

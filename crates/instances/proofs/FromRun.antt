@@ -8,13 +8,15 @@ use lib.ListN.{length, take, drop}
 use lib.Dec.{eqb}
 use borrow.Author.Tests.{eq-eqb, ne_eqb, eqb-true}
 use Rattle.spec.specs.declared.ids.RowId.{RowId}
-use Rattle.nest.specs.Lists.{keep, from, on, is, up_to}
+use Rattle.nest.specs.Lists.{keep, from, on, is}
+use Rattle.nest.specs.UpTo.{up_to}
 use Rattle.std.specs.Prelude.{Option, Some, None}
 use Rattle.nest.specs.Found.{found_by}
 use Rattle.nest.specs.Outline.{Outline, table_parent, row_count}
 use Rattle.nest.proofs.Reports.{found_row, found_none}
 use Rattle.nest.proofs.Scan.{window, keep_alike, keep_length}
-use Rattle.walk.specs.Instances.{Context, Run, held_by, offset, in_row, in_piece}
+use Rattle.walk.specs.Instances.{Context, Run, offset, in_row, in_piece}
+use Rattle.walk.specs.Bounds.{held_by}
 use Rattle.walk.specs.Contexts.{context_by}
 use Rattle.walk.proofs.ContextLaws.{stands_start}
 use Rattle.instances.specs.declared.Cursor.{Cursor}

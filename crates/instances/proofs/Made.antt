@@ -10,7 +10,7 @@ use lib.Seq.{take-nil, drop-nil}
 use Rattle.format.specs.Job.{Job}
 use Rattle.format.specs.Sections.{job_of}
 use Rattle.format.specs.Refusal.{rows_of_all}
-use Rattle.format.specs.Passed.{few}
+use Rattle.format.proofs.Passed.{few}
 use Rattle.format.specs.Ask as A
 use Rattle.tables.specs.Parts as T
 use Rattle.spec.specs.declared.ids.LoopId.{LoopId}
@@ -18,13 +18,14 @@ use Rattle.spec.specs.declared.ids.TableId.{TableId}
 use Rattle.spec.specs.declared.ids.RowId.{RowId}
 use Rattle.plan.specs.Answers.{instances_of}
 use Rattle.plan.specs.declared.answers.Instances.{Instances}
-use Rattle.nest.specs.Lists.{on, is, keep, up_to}
+use Rattle.nest.specs.Lists.{on, is, keep}
+use Rattle.nest.specs.UpTo.{up_to}
 use Rattle.std.specs.Prelude.{Option, Some, None}
 use Rattle.nest.specs.Found.{found_by, held_at}
 use Rattle.nest.specs.Outline.{Outline, absent, envelope, rows, inside, groups, kind_of, table_parent, row_count, plain}
 use Rattle.nest.specs.Nest.{referred}
 use Rattle.nest.specs.OfJob.{outline_of, kind_in}
-use Rattle.nest.specs.Ready.{outline_at}
+use Rattle.nest.specs.OutlineAt.{outline_at}
 use Rattle.nest.proofs.Bridge.{rows_is, table_count_is, table_parent_by, kind_is}
 use Rattle.nest.proofs.Reports.{found_row, found_none}
 use Rattle.nest.proofs.Placing.{rows_few, rows_room}
@@ -33,7 +34,8 @@ use Rattle.nest.proofs.Stored.{row_there, before_is}
 use Rattle.nest.proofs.Hanging.{plain_in, plain_not}
 use Rattle.nest.proofs.Scan.{window, keep_alike, keep_none}
 use Rattle.walk.specs.declared.Context.{Context as Kept}
-use Rattle.walk.specs.Instances.{Context, held_by, in_row, in_piece, pieces_of, rows_in, shown, instances}
+use Rattle.walk.specs.Instances.{Context, in_row, in_piece, pieces_of, rows_in, shown, instances}
+use Rattle.walk.specs.Bounds.{held_by}
 use Rattle.walk.specs.Contexts.{context_by, start_by, end_by}
 use Rattle.walk.specs.Nested.{Nested, Sound}
 use Rattle.walk.proofs.ContextLaws.{stands_start, stands_end}

@@ -8,7 +8,8 @@ use lib.ListN.{length, length-append}
 use lib.Dec.{eqb}
 use borrow.Author.Tests.{eq-eqb, ne_eqb}
 use Rattle.nest.specs.Found.{nest_at, held_at}
-use Rattle.nest.specs.Lists.{keep, up_to}
+use Rattle.nest.specs.Lists.{keep}
+use Rattle.nest.specs.UpTo.{up_to}
 use Rattle.nest.proofs.Scan.{keep_more, keep_same, window_no, window_skip, window_yes, window_past, window_end}
 use Rattle.walk.specs.Contexts.{start_by}
 use Rattle.instances.specs.declared.Cursor.{Cursor}

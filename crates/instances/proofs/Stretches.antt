@@ -10,10 +10,11 @@ use lib.Dec.{eqb}
 use borrow.Author.Tests.{ne_eqb, eqb-true, eqb-false}
 use Rattle.format.specs.Sections.{job_of}
 use Rattle.tables.specs.Parts as T
-use Rattle.nest.specs.Lists.{keep, up_to}
+use Rattle.nest.specs.Lists.{keep}
+use Rattle.nest.specs.UpTo.{up_to}
 use Rattle.nest.specs.Found.{nest_at}
 use Rattle.nest.specs.Outline.{Outline}
-use Rattle.nest.specs.Ready.{outline_at}
+use Rattle.nest.specs.OutlineAt.{outline_at}
 use Rattle.nest.specs.Rising.{Climbs, Parted, rises}
 use Rattle.nest.proofs.Scan.{keep_length, keep_skip, keep_cut}
 use Rattle.nest.proofs.Stored.{before_is}

@@ -1,10 +1,13 @@
+-- Not to be believed: words of inner contracts, on which no contract of what users call rests.
 -- What a cursor has still to give (write/walk.rs, `instances`): the same list as the definition of the walk, from a place on.
 use Rattle.std.specs.Prelude.{ℕ, suc, ◌+◌, ◌-◌, ◌*◌, ◌≤◌, ◌<◌, max, ◌≡◌, Bool, true, false, cond, ◌||◌, List, [], ◌∷◌, map, length, take, drop, eqb, Option, Some, None}
-use Rattle.nest.specs.Lists.{keep, on, is, up_to}
+use Rattle.nest.specs.Lists.{keep, on, is}
+use Rattle.nest.specs.UpTo.{up_to}
 use Rattle.nest.specs.Found.{nest_at}
 use Rattle.nest.specs.Outline.{Outline, Kind, rows, absent, envelope, implied, inside, groups, row_count, table_parent}
 use Rattle.walk.specs.declared.Context.{Context as Kept}
-use Rattle.walk.specs.Instances.{Context, Piece, held_by, pieces, pieces_of, in_row, in_piece, rows_in, shown, instances}
+use Rattle.walk.specs.Instances.{Context, Piece, pieces, pieces_of, in_row, in_piece, rows_in, shown, instances}
+use Rattle.walk.specs.Bounds.{held_by}
 use Rattle.walk.specs.Contexts.{context_by, start_by, end_by, kept_row, kept_piece}
 use Rattle.walk.specs.Nested.{Sound}
 use Rattle.spec.specs.declared.ids.LoopId.{LoopId}

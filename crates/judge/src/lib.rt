@@ -36,7 +36,7 @@ fn fits(job: Job) -> bool
 }
 
 // Of a job that no refusal from 1 to 5 applies to.
-#[tactic(auto, using(format::specs::Passed::passed))]
+#[tactic(auto, using(format::proofs::Passed::passed))]
 fn judged(job: &[u8]) -> bool
     requires { refusal_of job.now ≡ 0 }
     ensures { Decides result (CompletePlan (job_of job.now)) }

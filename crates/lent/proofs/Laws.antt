@@ -13,7 +13,8 @@ use Rattle.std.proofs.lemmas.List.{drop_min}
 use Rattle.std.proofs.Math.Nat.{min_comm}
 use lib.Dec.{leb}
 use borrow.Author.Tests.{leb-true, leb-false}
-use Rattle.lent.specs.Fit.{cap, more, stretch, placed, StoredAt, Stored}
+use Rattle.lent.specs.Fit.{cap, more, placed, StoredAt, Stored}
+use Rattle.lent.specs.Window.{stretch}
 
 -- a part of a list, replaced by as many items
 pub part_put : {A : Type 0} (d x : List A) (at n : ℕ) → length x ≡ n → at + n ≤ length d → put_mid at (at + n - at) d x ≡ sets d at x

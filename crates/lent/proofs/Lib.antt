@@ -1,2 +1,3 @@
 -- The laws of storing, for the crates above.
 pub mod Laws
+pub mod Fit

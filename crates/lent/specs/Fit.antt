@@ -1,6 +1,6 @@
 -- Storing into a lent list from a place on: as far as it fits, the rest untouched (docs/RULES.md, "Answer 7").
 -- `lib.Seq.sets l i vs` stores vs one after the other from index i; a store past the end changes nothing.
-use Rattle.std.specs.Prelude.{◌≡◌, ℕ, zero, suc, ◌+◌, ◌-◌, min, List, length, take, drop}
+use Rattle.std.specs.Prelude.{◌≡◌, ℕ, zero, suc, ◌+◌, ◌-◌, min, List, length, drop}
 use lib.Seq.{sets}
 
 -- 2 ^ 63: no slice is that long
@@ -10,18 +10,6 @@ cap = 9223372036854775808
 -- n more, up to the cap: a count that never overflows
 abbrev pub more : ℕ → ℕ → ℕ
 more at n = min (at + n) cap
-
--- `len` items from `start` on; past the end of the source there are none
-abbrev pub stretch : {A : Type 0} → List A → ℕ → ℕ → List A
-stretch source start len = take len (drop start source)
-
--- 2 ^ 62: the place of a window's first number
-abbrev pub base : ℕ
-base = 4611686018427387904
-
--- from there up to the cap: no slice of numbers of eight bytes is that long
-abbrev pub wide : ℕ
-wide = 4611686018427387904
 
 -- the list d begins at place k; what is stored before it is left out
 abbrev pub placed : {A : Type 0} → ℕ → List A → ℕ → List A → List A
@@ -35,7 +23,3 @@ pub record StoredAt {A : Type 0} (k : ℕ) (d : List A) (at : ℕ) (items : List
 
 abbrev pub Stored : {A : Type 0} → List A → ℕ → List A → ℕ → List A → Type 0
 Stored = StoredAt 0
-
--- findings: the list is a window of the whole list of findings
-abbrev pub Noted : List ℕ → ℕ → List ℕ → ℕ → List ℕ → Type 0
-Noted = StoredAt base

@@ -4,7 +4,8 @@
 
 ghost use Rattle.std.specs.Prelude.{◌≡◌, [], ◌∷◌, ◌+◌, ◌-◌, ◌≤◌, ◌<◌, min, length, take, drop, replicate};
 ghost use Rattle.std.proofs.lemmas.List.Edits.{sets};
-ghost use Rattle.lent.specs.Fit.{more, stretch, base, Stored, Noted};
+ghost use Rattle.lent.specs.Fit.{more, Stored};
+ghost use Rattle.lent.specs.Window.{stretch, base, Noted};
 
 // A count goes on by n, up to a cap that no slice's length reaches.
 pub fn more(at: usize, n: usize) -> usize

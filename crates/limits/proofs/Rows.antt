@@ -9,7 +9,7 @@ use borrow.Author.Tests.{lt-ltb, le-ltb}
 use Rattle.codec.specs.Codec.{le_c, list_c}
 use Rattle.codec.specs.Skip.{skip, count_at, Is}
 use Rattle.codec.specs.Limits.{any, any_of}
-use Rattle.format.specs.Fields.{is_table_data_lem}
+use Rattle.format.proofs.Fields.{is_table_data_lem}
 use Rattle.format.specs.Refusal.{over_table_data, rows_of_all}
 use Rattle.format.specs.Data.{TableData, table_data_c}
 use Rattle.says.specs.Says.{Says, Clears, Rest}

@@ -1,3 +1,4 @@
+-- Not to be believed: words of inner contracts, on which no contract of what users call rests.
 -- Parts of the limits of a job that have no name of their own (docs/RULES.md, "Limits").
 use Rattle.std.specs.Prelude.{ℕ, ◌≡◌, List, [], ◌∷◌, Bool, true, false, ltb, Option, Some, None}
 use Rattle.limits.specs.declared.Parts.{Parts as Kept}

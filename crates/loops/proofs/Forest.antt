@@ -10,14 +10,18 @@ use borrow.Author.Tests.{eq-eqb, leb-false, eqb-true, not-false}
 use Rattle.codec.specs.Codec.{got, pick, list_c}
 use Rattle.codec.specs.Forms.{num_c}
 use Rattle.codec.specs.Skip.{skip, Is}
-use Rattle.codec.specs.Limits.{any, any_of, none_of}
-use Rattle.format.specs.Words.{any_from, member_of, present, repeats, times_in, none_from}
+use Rattle.codec.specs.Limits.{any, any_of}
+use Rattle.codec.proofs.Limits.{none_of}
+use Rattle.format.specs.Words.{any_from, member_of, present, repeats, times_in}
+use Rattle.format.proofs.Words.{none_from}
 use Rattle.format.specs.Spec.{Loop, loop_c, no_loop, Spec, spec_c}
 use Rattle.format.specs.Layout.{Item, item_c, Layout, layout_c}
-use Rattle.format.specs.Fields.{spec_roots, is_spec, is_layout}
+use Rattle.format.specs.Fields.{spec_roots}
+use Rattle.format.proofs.Fields.{is_spec, is_layout}
 use Rattle.format.specs.Refusal.{outside, disagrees, ringed, misrooted, misordered, outside_loop, outside_table, outside_order, tangled_loops, tangled}
 use Rattle.format.specs.Job.{Job}
-use Rattle.format.specs.Decoding.{ReadAs, is_read}
+use Rattle.format.specs.Decoding.{ReadAs}
+use Rattle.format.proofs.Decoding.{is_read}
 use Rattle.format.specs.Sections.{layout_start, envelope_start}
 use Rattle.says.specs.Says.{Says}
 use Rattle.tree.specs.Parts.{outside_spec}

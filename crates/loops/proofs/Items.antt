@@ -8,13 +8,14 @@ use lib.ListN.{length}
 use lib.Dec.{eqb}
 use Rattle.codec.specs.Codec.{le_c}
 use Rattle.codec.specs.Forms.{num_c}
-use Rattle.codec.specs.Skip.{skip, count_at, tag_at, Is, skip_le}
-use Rattle.codec.specs.Field.{is_in}
-use Rattle.codec.specs.Ways.{tag_in, tag_case}
+use Rattle.codec.specs.Skip.{skip, count_at, tag_at, Is}
+use Rattle.codec.proofs.Skip.{skip_le}
+use Rattle.codec.proofs.Field.{is_in}
+use Rattle.codec.proofs.Ways.{tag_in, tag_case}
 use Rattle.codec.specs.Limits.{any_of}
 use Rattle.format.specs.Words.{member_of, repeats}
 use Rattle.format.specs.Layout.{Item, segment_item, loop_item, item_c}
-use Rattle.format.specs.Fields.{item_tag, is_loop_item}
+use Rattle.format.proofs.Fields.{item_tag, is_loop_item}
 use Rattle.format.specs.Spec.{Loop}
 use Rattle.format.specs.Refusal.{loops_in, not_child}
 use Rattle.says.specs.Says.{SaysRest, SaysBefore, any_before}

@@ -13,11 +13,11 @@ use Rattle.std.proofs.lemmas.Option.{same_Some}
 use Rattle.codec.specs.Codec.{pick, le_c, list_c}
 use Rattle.codec.specs.Forms.{num_c}
 use Rattle.codec.specs.Skip.{skip, count_at, tag_at, Is}
-use Rattle.codec.specs.Field.{is_list, count_list}
+use Rattle.codec.proofs.Field.{is_list, count_list}
 use Rattle.codec.specs.Limits.{any}
 use Rattle.format.specs.Words.{if_some, member_of, present, times, times_in}
 use Rattle.format.specs.Spec.{Loop, loop_c}
-use Rattle.format.specs.Fields.{is_loop}
+use Rattle.format.proofs.Fields.{is_loop}
 use Rattle.format.specs.Refusal.{loop_at, not_parent, not_child, up, ringed, misrooted}
 use Rattle.says.specs.Says.{Says, Rest}
 use Rattle.tree.specs.Parts.{held}

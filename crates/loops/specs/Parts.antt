@@ -1,3 +1,4 @@
+-- Not to be believed: words of inner contracts, on which no contract of what users call rests.
 -- Parts of refusal 4 (docs/RULES.md, "Answer 4"): children and orders that repeat, and a spec whose loops are no forest.
 use Rattle.std.specs.Prelude.{ℕ, List, [], ◌∷◌, Bool}
 use Rattle.codec.specs.Limits.{any, any_of}

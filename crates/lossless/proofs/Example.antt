@@ -12,7 +12,7 @@ use Rattle.format.specs.Ask as A
 use Rattle.format.specs.Job.{no_job}
 use Rattle.format.specs.Words.{member_of}
 use Rattle.format.specs.Sections.{or_else, job_of}
-use Rattle.format.specs.Passed.{passed}
+use Rattle.format.proofs.Passed.{passed}
 use Rattle.format.specs.Refusal.{separators}
 use Rattle.format.specs.Sample.{listing, listing_bytes}
 use Rattle.format.proofs.Sample.{listing_decodes, listing_passes}

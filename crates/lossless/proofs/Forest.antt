@@ -11,13 +11,17 @@ use lib.ListN.{length, get_or, get_or-eq_default}
 use lib.Dec.{eqb, ltb}
 use borrow.Author.Tests.{eqb-true, lt-ltb, le-ltb, leb-false}
 use Rattle.codec.specs.Codec.{pick}
-use Rattle.codec.specs.Limits.{any_of, none_of, none_in}
-use Rattle.format.specs.Words.{any_from, if_some, present, times_in, member_of, repeats, none_from}
+use Rattle.codec.specs.Limits.{any_of}
+use Rattle.codec.proofs.Limits.{none_of, none_in}
+use Rattle.format.specs.Words.{any_from, if_some, present, times_in, member_of, repeats}
+use Rattle.format.proofs.Words.{none_from}
 use Rattle.format.specs.Words as W
+use Rattle.format.proofs.Words
 use Rattle.format.specs.Spec.{Loop, no_loop, Table, no_table}
 use Rattle.format.specs.Layout.{Item, segment_item, loop_item}
 use Rattle.format.specs.Job.{Job}
 use Rattle.format.specs.Ask as A
+use Rattle.format.specs.Orders
 use Rattle.format.specs.Sections.{job_of}
 use Rattle.format.specs.Passed.{Passed}
 use Rattle.format.specs.Refusal.{loop_at, loops_in, outside, outside_loop, outside_table, not_parent, not_child, disagrees, up, ringed, misrooted, misordered, tangled_loops, tangled}
@@ -99,7 +103,7 @@ if_some_true l None h = absurd (false≢true h)
 if_some_true l (Some p) h = h
 
 if_some_false : (f : ℕ → Bool) (o : Option ℕ) (p : ℕ) → if_some f o ≡ false → o ≡ Some p → f p ≡ false
-if_some_false f o p h e = W.none_some f o h p e
+if_some_false f o p h e = Words.none_some f o h p e
 
 -- ---- the loops of a job
 
@@ -239,7 +243,7 @@ module _ (j : Job) (pass : tangled j ≡ false) where
   items_loops (loop_item l ∷ xs) = ap (λ (ys : List ℕ). l ∷ ys) (items_loops xs)
 
   order_loops : (l : ℕ) → item_loops (O.order_of o l) ≡ loops_in (get_or j.layout.order l [])
-  unfolding A.order_of
+  unfolding Orders.order_of
   order_loops l = ap item_loops (order_is j l) ∙ items_loops (get_or j.layout.order l [])
 
   order_of_lem : (l k : ℕ) → l < length j.layout.order → (b : Bool) → member_of k (loops_in (get_or j.layout.order l [])) ≡ b → times k (loops_in (get_or j.layout.order l [])) ≤ times k (kids l)

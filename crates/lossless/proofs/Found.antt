@@ -28,7 +28,8 @@ use Rattle.emit.specs.Fold.{State, Out, and_then, start, above, order_findings, 
 use Rattle.emit.proofs.TookLaws.{steps_append, steps_one}
 use Rattle.emit.proofs.JoinLaws.{closer_quiet}
 use Rattle.lossless.specs.Due.{DueSegment, row_cell, row_cells, text_of_cell, chunk_cell, chunk_row, chunk_cells, sourced_text, opener_due, row_due, chunk_due, closer_due, step_due, step_counters, steps_due, due_segments}
-use Rattle.lossless.specs.Separators.{holds_separator, segment_holds, separator_held, is_delimiter, delimiter_found, kinds_of, delimiter_kind}
+use Rattle.lossless.specs.Separators.{holds_separator, segment_holds, separator_held, kinds_of, delimiter_kind}
+use Rattle.lossless.proofs.Separators.{is_delimiter, delimiter_found}
 use Rattle.lossless.specs.NothingLost.{walked_out}
 use Rattle.std.proofs.Math.Bool.{or-false}
 use Rattle.nest.proofs.Scan.{some_append}

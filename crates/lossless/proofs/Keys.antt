@@ -9,14 +9,15 @@ use Rattle.std.specs.Prelude.{Option, None, Some}
 use lib.ListN.{length, get_or}
 use borrow.Author.Tests.{ltb-true}
 use Rattle.codec.specs.Forms.{bytes_c}
-use Rattle.codec.specs.Field.{is_list, is_pair}
-use Rattle.codec.specs.Maps.{rises_from, is_num_map, is_bytes_map}
+use Rattle.codec.proofs.Field.{is_list, is_pair}
+use Rattle.codec.specs.Maps.{rises_from}
+use Rattle.codec.proofs.Maps.{is_num_map, is_bytes_map}
 use Rattle.format.specs.Spec.{Loop, no_loop, Control, SegmentDef, element_c, segment_c}
 use Rattle.format.specs.Plan.{Source, from_envelope, from_row, from_repeat, ElementPlan, SegmentPlan, no_segment_plan, LoopPlan, no_loop_plan}
 use Rattle.format.specs.Job.{Job}
 use Rattle.format.specs.Sections.{job_of, plan_start}
-use Rattle.format.specs.Decoding.{is_read}
-use Rattle.format.specs.Fields.{is_spec}
+use Rattle.format.proofs.Decoding.{is_read}
+use Rattle.format.proofs.Fields.{is_spec}
 use Rattle.format.specs.Passed.{Passed}
 use Rattle.format.specs.Refusal.{unfit}
 use Rattle.format.specs.Ask.{loop_of, plan_of, planned_of, identifier_of, segment_def, found, same_bytes}

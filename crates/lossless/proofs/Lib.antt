@@ -15,3 +15,4 @@ pub mod Keys
 pub mod Theorem
 pub mod Example
 pub mod Sample
+pub mod Separators

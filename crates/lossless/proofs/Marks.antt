@@ -13,8 +13,10 @@ use lib.ListN.{length, get_or, get_or-eq_default}
 use lib.Dec.{eqb}
 use borrow.Author.Tests.{eq-eqb}
 use Rattle.codec.specs.Codec.{pick}
-use Rattle.codec.specs.Limits.{any, none_of, none_in}
-use Rattle.format.specs.Words.{all_of, member_of, repeats, between, none_some}
+use Rattle.codec.specs.Limits.{any}
+use Rattle.codec.proofs.Limits.{none_of, none_in}
+use Rattle.format.specs.Words.{all_of, member_of, repeats, between}
+use Rattle.format.proofs.Words.{none_some}
 use Rattle.format.specs.Spec.{Control, Loop, no_loop}
 use Rattle.format.specs.Job.{Job}
 use Rattle.format.specs.Ask.{loop_of}

@@ -15,7 +15,7 @@ use Rattle.format.specs.Ask.{loop_of, planned_of, identifier_of, segment_def, de
 use Rattle.codec.specs.Maps.{rises_from}
 use Rattle.segment.specs.Grammar.{Reads}
 use Rattle.segment.specs.Parts.{pick}
-use Rattle.segment.specs.Places.{written}
+use Rattle.segment.proofs.Places.{written}
 use Rattle.segment.specs.ReadParts.{Free}
 use Rattle.segment.proofs.FromParts.{joined_reads, joined_read_as}
 use Rattle.segment.proofs.FromParts as Parts

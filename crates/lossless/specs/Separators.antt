@@ -1,11 +1,11 @@
 -- When a job has a delimiter finding: exactly when a cell or envelope text of a due segment holds a separator (docs/RULES.md, "Finished"). The
 -- repetition separator counts where there is one.
-use Rattle.std.specs.Prelude.{ℕ, Bool, true, false, eqb, List, map, get_or}
+use Rattle.std.specs.Prelude.{ℕ, Bool, eqb, List, map, get_or}
 use Rattle.format.specs.Words.{member_of}
 use Rattle.format.specs.Job.{Job}
 use Rattle.format.specs.Refusal.{separators}
 use Rattle.nest.specs.Lists.{some_of}
-use Rattle.nest.specs.Finding.{Finding, duplicate, missing, mismatch, out_of_order, delimiter, not_writable, record_of}
+use Rattle.nest.specs.Finding.{Finding, record_of}
 use Rattle.lossless.specs.Due.{DueSegment, due_segments}
 
 -- a text holds a separator
@@ -20,17 +20,6 @@ unfoldable pub separator_held : Job → Bool
 separator_held j = some_of (segment_holds j) (due_segments j)
 
 -- ---- among findings
-
-abbrev pub is_delimiter : Finding → Bool
-is_delimiter (duplicate t r k f) = false
-is_delimiter (missing t r u v) = false
-is_delimiter (mismatch t r a v u p e) = false
-is_delimiter (out_of_order t r a v h) = false
-is_delimiter (delimiter o p b role) = true
-is_delimiter (not_writable o p reason) = false
-
-unfoldable pub delimiter_found : List Finding → Bool
-delimiter_found = some_of is_delimiter
 
 -- the number of a finding's kind is the first of its ten
 abbrev pub kinds_of : List Finding → List ℕ

@@ -9,12 +9,13 @@ use lib.ListN.{length, get_or, drop, drop_of_length-le}
 use lib.Dec.{ltb}
 use Rattle.codec.specs.Codec.{pick, le_c, list_c}
 use Rattle.codec.specs.Forms.{opt_c, byte_c, bytes_c, long_c, wide_c}
-use Rattle.codec.specs.Skip.{skip, count_at, tag_at, Is, skip_le}
-use Rattle.codec.specs.Field.{is_list, is_in, is_none, is_some, count_list}
-use Rattle.codec.specs.Ways.{tag_in, tag_case, tag_read, tag_past, tag_within}
+use Rattle.codec.specs.Skip.{skip, count_at, tag_at, Is}
+use Rattle.codec.proofs.Skip.{skip_le}
+use Rattle.codec.proofs.Field.{is_list, is_in, is_none, is_some, count_list}
+use Rattle.codec.proofs.Ways.{tag_in, tag_case, tag_read, tag_past, tag_within}
 use Rattle.codec.specs.Limits.{any, any_of}
 use Rattle.format.specs.Words.{member_of, repeats, all_of, between}
-use Rattle.format.specs.Fields.{values_tag, is_int64, is_decimal}
+use Rattle.format.proofs.Fields.{values_tag, is_int64, is_decimal}
 use Rattle.format.specs.Refusal.{upper, digit, textual, separators, identifier, unnamed, scale}
 use Rattle.format.specs.Data.{Values, binary, int64, decimal, date32, time32, values_c}
 use Rattle.format.specs.Envelope.{Envelope}

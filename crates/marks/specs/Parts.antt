@@ -1,3 +1,4 @@
+-- Not to be believed: words of inner contracts, on which no contract of what users call rests.
 -- Parts of refusal 5 (docs/RULES.md, "Answer 5") that have no name of their own: identifiers, scales, separators and texts.
 use Rattle.std.specs.Prelude.{ℕ, List, [], ◌∷◌, Bool, not, ltb}
 use Rattle.codec.specs.Limits.{any, any_of}

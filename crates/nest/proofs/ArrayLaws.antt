@@ -7,7 +7,8 @@ use native.Mathlib.Numerals.{add-one}
 use Rattle.std.specs.Prelude.{Some}
 use lib.ListN.{length, get_or}
 use lib.Dec.{eqb}
-use Rattle.nest.specs.Lists.{keep, first, up_to, is}
+use Rattle.nest.specs.Lists.{keep, first, is}
+use Rattle.nest.specs.UpTo.{up_to}
 use Rattle.nest.specs.Outline.{Outline, table_parent, row_count, repeated}
 use Rattle.nest.specs.Nest.{referred, hook, hooked, nest_record, nest_array}
 use Rattle.nest.specs.Found.{nest_at, held_at, hooked_at}

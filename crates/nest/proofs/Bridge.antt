@@ -9,6 +9,7 @@ use Rattle.format.specs.Plan as P
 use Rattle.format.specs.Data.{TableData, no_table_data}
 use Rattle.format.specs.Job.{Job}
 use Rattle.format.specs.Ask as A
+use Rattle.format.specs.Orders
 use Rattle.plan.specs.Answers.{no_item}
 use Rattle.column.specs.Cell.{key_of, reference_of}
 use Rattle.nest.specs.Outline.{Loop, Table, Plan, Planned, Item, segment, no_loop, no_segment, loop_of, table_of, plan_of, parent_of, kind_of, order_of, segment_of, planned, table_parent, row_count}
@@ -109,15 +110,15 @@ module _ (j : Job) where
   unfolding outline_of
   order_count_is = length-map j.layout.order (map item_in)
 
-  pub order_is : (l : ℕ) → order_of (outline_of j) l ≡ map item_in (A.order_of j l)
-  unfolding outline_of order_of A.order_of
+  pub order_is : (l : ℕ) → order_of (outline_of j) l ≡ map item_in (Orders.order_of j l)
+  unfolding outline_of order_of Orders.order_of
   order_is l = get_d_map (map item_in) j.layout.order l []
 
-  pub order_length : (l : ℕ) → length (order_of (outline_of j) l) ≡ length (A.order_of j l)
-  order_length l = ap length (order_is l) ∙ length-map (A.order_of j l) item_in
+  pub order_length : (l : ℕ) → length (order_of (outline_of j) l) ≡ length (Orders.order_of j l)
+  order_length l = ap length (order_is l) ∙ length-map (Orders.order_of j l) item_in
 
-  pub order_item : (l k : ℕ) → get_or (order_of (outline_of j) l) k (segment 0) ≡ item_in (get_or (A.order_of j l) k no_item)
-  order_item l k = ap (λ (xs : List Item). get_or xs k (segment 0)) (order_is l) ∙ get_d_map item_in (A.order_of j l) k no_item
+  pub order_item : (l k : ℕ) → get_or (order_of (outline_of j) l) k (segment 0) ≡ item_in (get_or (Orders.order_of j l) k no_item)
+  order_item l k = ap (λ (xs : List Item). get_or xs k (segment 0)) (order_is l) ∙ get_d_map item_in (Orders.order_of j l) k no_item
 
   -- ---- the tables
   pub table_parent_is : (t : ℕ) → table_parent (outline_of j) t ≡ (A.table_of j t).parent

@@ -9,13 +9,14 @@ use lib.ListN.{length, get_or, replicate, get_or-eq_default}
 use lib.Dec.{eqb, ltb}
 use borrow.Author.Count.{below_more}
 use borrow.Author.Tests.{eq-eqb, eqb-true, eqb-false, ltb-true, ltb-false, leb-false}
-use Rattle.codec.specs.Limits.{none_of, none_in}
+use Rattle.codec.proofs.Limits.{none_of, none_in}
 use Rattle.format.specs.Spec as S
 use Rattle.format.specs.Plan as P
 use Rattle.format.specs.Job.{Job}
 use Rattle.format.specs.Sections.{job_of}
 use Rattle.format.specs.Refusal.{tangled, outside_table, outside}
-use Rattle.format.specs.Passed.{Passed, few}
+use Rattle.format.specs.Passed.{Passed}
+use Rattle.format.proofs.Passed.{few}
 use Rattle.format.specs.Ask as A
 use Rattle.std.specs.Prelude.{Ok, Err, Option, None, Some}
 use Rattle.nest.specs.Outline.{Outline, row_table, kind_of, table_of}

@@ -6,7 +6,8 @@ use mathlib.Core.List.{[], ◌∷◌, ◌++◌}
 use Rattle.std.specs.Prelude.{None, Some}
 use lib.ListN.{length, drop}
 use borrow.Author.Tests.{lt-ltb, le-ltb, eq-eqb, ne_eqb}
-use Rattle.nest.specs.Lists.{each, up_to}
+use Rattle.nest.specs.Lists.{each}
+use Rattle.nest.specs.UpTo.{up_to}
 use Rattle.nest.specs.Outline.{Outline, table_of, table_parent, row_count, repeated}
 use Rattle.nest.specs.Nest.{Row, Claim, first_row, anchors, claim_in, hangs}
 use Rattle.nest.specs.Finding.{duplicate, missing, mismatch}

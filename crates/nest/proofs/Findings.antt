@@ -11,7 +11,8 @@ use lib.ListN.{length, take, drop, get_or, length-drop, take-append-drop}
 use lib.Dec.{eqb, leb}
 use borrow.Author.Tests.{ne_eqb}
 use Rattle.nest.specs.Lists.{All}
-use Rattle.nest.specs.Finding.{Origin, cell, field, Place, Finding, duplicate, missing, mismatch, out_of_order, delimiter, not_writable, number_from, or_zero, record_of, identifier_of, Byte, Named}
+use Rattle.nest.specs.Finding.{Origin, cell, field, Place, Finding, duplicate, missing, mismatch, out_of_order, delimiter, not_writable, number_from, or_zero, record_of}
+use Rattle.nest.proofs.Finding.{identifier_of, Byte, Named}
 use Rattle.nest.proofs.Alls.{all_drop}
 
 -- ---- bytes as a number

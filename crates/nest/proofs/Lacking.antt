@@ -9,12 +9,14 @@ use lib.ListN.{length, get_or, drop}
 use Rattle.format.specs.Job.{Job}
 use Rattle.format.specs.Ask as A
 use Rattle.column.specs.Cell.{reference_of}
-use Rattle.lent.specs.Fit.{wide, Noted}
+use Rattle.lent.proofs.Fit.{wide}
+use Rattle.lent.specs.Window.{Noted}
 use Rattle.lent.proofs.Laws.{stored_append}
 use Rattle.spec.specs.declared.ids.TableId.{TableId}
 use Rattle.std.specs.Prelude.{Result, Ok, Err, None, Some, Option}
 use Rattle.nest.specs.declared.hang.Claimed.{Claimed}
-use Rattle.nest.specs.Lists.{each, from, up_to}
+use Rattle.nest.specs.Lists.{each, from}
+use Rattle.nest.specs.UpTo.{up_to}
 use Rattle.nest.specs.Outline.{Outline, repeated}
 use Rattle.nest.specs.Nest.{anchors, claim_in, row_of}
 use Rattle.nest.specs.Finding.{Finding, missing, mismatch, record_of}

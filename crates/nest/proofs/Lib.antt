@@ -23,3 +23,4 @@ pub mod Lining
 pub mod Rising
 pub mod RisingRows
 pub mod Small
+pub mod Finding

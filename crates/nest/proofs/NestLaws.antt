@@ -12,7 +12,8 @@ use lib.ListN.{length, get_or, length-append, get_or-append}
 use lib.Seq.{get_or-append-add}
 use lib.Dec.{eqb}
 use borrow.Author.Tests.{eq-eqb, ne_eqb, eqb-true, eqb-false}
-use Rattle.nest.specs.Lists.{each, keep, some_of, first, on, from, is, sum, up_to}
+use Rattle.nest.specs.Lists.{each, keep, some_of, first, on, from, is, sum}
+use Rattle.nest.specs.UpTo.{up_to}
 use Rattle.nest.specs.Outline.{Outline, Table, no_table, table_of, table_parent, row_count, repeated}
 use Rattle.nest.specs.Nest.{has_keys, first_row, referred, anchors, Claim, claim_in, settle, Hook, hook, Row, row_of, hangs, held, hooked, repeat_rows, loose_record, hook_record, parent_record, nest_record, table_array, nest_array}
 use Rattle.nest.proofs.Scan.{up_to_all, some_place}

@@ -10,7 +10,7 @@ use lib.ListN.{length, get_or, length-append, get_or-eq_default}
 use lib.Seq.{sets, length-sets}
 use lib.Dec.{ltb}
 use borrow.Author.Tests.{ltb-false}
-use Rattle.codec.specs.Rows.{sets_append}
+use Rattle.codec.proofs.Rows.{sets_append}
 use Rattle.format.specs.Spec as S
 use Rattle.format.specs.Data.{TableData, no_table_data}
 use Rattle.format.specs.Job.{Job}
@@ -22,7 +22,8 @@ use Rattle.spec.specs.declared.ids.TableId.{TableId}
 use Rattle.std.specs.Prelude.{Option, Some, None, Result, Ok, Err}
 use Rattle.nest.specs.declared.hang.Claimed.{Claimed}
 use Rattle.nest.specs.declared.hang.Place.{Place}
-use Rattle.nest.specs.Lists.{each, from, up_to}
+use Rattle.nest.specs.Lists.{each, from}
+use Rattle.nest.specs.UpTo.{up_to}
 use Rattle.nest.specs.Outline.{table_of, row_count, repeated}
 use Rattle.nest.specs.Nest.{Claim, hook_on, first_row, referred, anchors, claim_in, hook, nest_record, table_array}
 use Rattle.nest.specs.Found.{found_by}

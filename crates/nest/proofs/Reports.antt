@@ -7,11 +7,14 @@ use lib.ListN.{length}
 use Rattle.format.specs.Job.{Job}
 use Rattle.format.specs.Ask as A
 use Rattle.column.specs.Cell.{key_of}
-use Rattle.lent.specs.Fit.{base, wide, more, Noted}
+use Rattle.lent.specs.Window.{base, Noted}
+use Rattle.lent.proofs.Fit.{wide}
+use Rattle.lent.specs.Fit.{more}
 use Rattle.lent.proofs.Laws.{SoFarAt, stored_none, go_on}
 use Rattle.spec.specs.declared.ids.RowId.{RowId}
 use Rattle.std.specs.Prelude.{Option, Some, None}
-use Rattle.nest.specs.Lists.{each, up_to}
+use Rattle.nest.specs.Lists.{each}
+use Rattle.nest.specs.UpTo.{up_to}
 use Rattle.nest.specs.Nest.{has_keys, first_row}
 use Rattle.nest.specs.Finding.{Finding, duplicate, record_of}
 use Rattle.nest.specs.NestFindings.{duplicate_at}

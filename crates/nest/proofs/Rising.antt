@@ -16,7 +16,8 @@ use Rattle.std.specs.Prelude.{Option, None, Some}
 use Rattle.spec.specs.declared.ids.RowId.{RowId}
 use Rattle.nest.specs.declared.keys.Keys.{Keys}
 use Rattle.nest.specs.declared.keys.Keys.TheVariants.{None as NoKeys, Any, Rising}
-use Rattle.nest.specs.Lists.{each, keep, first, up_to}
+use Rattle.nest.specs.Lists.{each, keep, first}
+use Rattle.nest.specs.UpTo.{up_to}
 use Rattle.nest.specs.Outline.{Outline, row_count}
 use Rattle.nest.specs.Nest.{has_keys, first_row}
 use Rattle.nest.specs.NestFindings.{duplicate_at}

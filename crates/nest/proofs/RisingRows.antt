@@ -9,12 +9,13 @@ use lib.ListN.{length, get_or}
 use lib.Seq.{sets, length-sets}
 use lib.Dec.{ltb}
 use borrow.Author.Tests.{ltb-true, ltb-false, lt-ltb, le-ltb}
-use Rattle.codec.specs.Rows.{get_d_sets_out, get_d_sets_in}
+use Rattle.codec.proofs.Rows.{get_d_sets_out, get_d_sets_in}
 use Rattle.format.specs.Job.{Job}
 use Rattle.format.specs.Refusal.{rows_of_all}
 use Rattle.format.specs.Ask as A
 use Rattle.tables.specs.Parts as T
-use Rattle.nest.specs.Lists.{once, each, some_of, from, up_to}
+use Rattle.nest.specs.Lists.{once, each, some_of, from}
+use Rattle.nest.specs.UpTo.{up_to}
 use Rattle.nest.specs.Outline.{Outline, row_count}
 use Rattle.nest.specs.Found.{nest_at, ArrayIs}
 use Rattle.nest.specs.Seek.{Turns, SplitAt}

@@ -9,7 +9,8 @@ use Rattle.std.specs.Prelude.{None, Some}
 use Rattle.std.proofs.Math.Bool.{or_assoc}
 use lib.ListN.{length, take, drop, get_or, drop_of_length-le}
 use lib.Seq.{drop-cons, take-nil, drop-nil}
-use Rattle.nest.specs.Lists.{each, keep, some_of, first, from, up_to, sum, part}
+use Rattle.nest.specs.Lists.{each, keep, some_of, first, from, sum, part}
+use Rattle.nest.specs.UpTo.{up_to}
 
 -- ---- numbers from k on, below n
 

@@ -8,12 +8,15 @@ use lib.ListN.{length, get_or, get_or-eq_default}
 use lib.Dec.{ltb}
 use borrow.Author.Tests.{ltb-true, ltb-false, leb-false}
 use Rattle.codec.specs.Codec.{pick}
-use Rattle.codec.specs.Limits.{any_of, none_of, none_in}
+use Rattle.codec.specs.Limits.{any_of}
+use Rattle.codec.proofs.Limits.{none_of, none_in}
 use Rattle.format.specs.Layout.{Item, segment_item, loop_item}
 use Rattle.format.specs.Sections.{job_of}
 use Rattle.format.specs.Refusal.{tangled, tangled_loops, outside, outside_order, loops_in}
-use Rattle.format.specs.Passed.{Passed, few}
+use Rattle.format.specs.Passed.{Passed}
+use Rattle.format.proofs.Passed.{few}
 use Rattle.format.specs.Ask as A
+use Rattle.format.specs.Orders
 use Rattle.plan.specs.Answers.{no_item}
 
 none_after : {A : Type 0} (f : A → Bool) (x : A) (xs : List A) → any_of f (x ∷ xs) ≡ false → any_of f xs ≡ false
@@ -32,8 +35,8 @@ in_order n (segment_item m ∷ its) (suc i) k f h e = in_order n its i k f (omeg
 in_order n (loop_item l ∷ its) zero k f h e = let q : l ≡ k = cc in rw (← q) (none_in (outside n) (l ∷ loops_in its) f 0 0 (omega arith))
 in_order n (loop_item l ∷ its) (suc i) k f h e = in_order n its i k (none_after (outside n) l (loops_in its) f) (omega arith) e
 
-pub order_small : (b : List ℕ) → Passed b → (l i n k : ℕ) → n ≡ length (A.order_of (job_of b) l) → i < n → loop_item k ≡ get_or (A.order_of (job_of b) l) i no_item → k < 32
-unfolding A.order_of tangled outside_order outside
+pub order_small : (b : List ℕ) → Passed b → (l i n k : ℕ) → n ≡ length (Orders.order_of (job_of b) l) → i < n → loop_item k ≡ get_or (Orders.order_of (job_of b) l) i no_item → k < 32
+unfolding Orders.order_of tangled outside_order outside
 order_small b w l i n k c h e = go (ltb l (length (job_of b).layout.order)) refl (rw (← c) h) e
   where
     go : (u : Bool) → ltb l (length (job_of b).layout.order) ≡ u → i < length (get_or (job_of b).layout.order l []) → loop_item k ≡ get_or (get_or (job_of b).layout.order l []) i no_item → k < 32

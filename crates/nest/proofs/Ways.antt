@@ -9,7 +9,8 @@ use Rattle.format.specs.Ask as A
 use Rattle.column.specs.Cell.{reference_of}
 use Rattle.spec.specs.declared.ids.RowId.{RowId}
 use Rattle.std.specs.Prelude.{Option, None, Some}
-use Rattle.nest.specs.Lists.{keep, first, up_to}
+use Rattle.nest.specs.Lists.{keep, first}
+use Rattle.nest.specs.UpTo.{up_to}
 use Rattle.nest.specs.Outline.{row_count}
 use Rattle.nest.specs.Nest.{first_row, referred, depth, depth_of}
 use Rattle.nest.specs.Found.{found_by}

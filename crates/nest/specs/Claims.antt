@@ -1,3 +1,4 @@
+-- Not to be believed: words of inner contracts, on which no contract of what users call rests.
 -- What the answers of code stand for: the claim of a repeat row, and where a row hangs.
 use Rattle.std.specs.Prelude.{ℕ, zero, suc, ◌≡◌, List, [], ◌∷◌, cond, eqb, Result, Ok, Err, Option, None, Some}
 use Rattle.spec.specs.declared.ids.TableId.{TableId}

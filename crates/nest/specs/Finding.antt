@@ -1,7 +1,7 @@
 -- Findings, and each as a flat record of ten numbers (write/finding.rs; docs/RULES.md, "Findings"); the values
 -- stand in the order of the listing's lines.
-use Rattle.std.specs.Prelude.{ℕ, suc, ◌+◌, ◌*◌, ◌<◌, List, [], ◌∷◌, Option, None, Some}
-use Rattle.nest.specs.Lists.{on, All}
+use Rattle.std.specs.Prelude.{ℕ, suc, ◌+◌, ◌*◌, List, [], ◌∷◌, Option, None, Some}
+use Rattle.nest.specs.Lists.{on}
 
 -- where a text comes from: a cell, or a field of the envelope by its case in `Field`
 pub data Origin : Type 0 where
@@ -50,18 +50,3 @@ record_of (mismatch t r a v u p e) = 2 ∷ t ∷ r ∷ a ∷ v ∷ u ∷ p ∷ e
 record_of (out_of_order t r a v h) = 3 ∷ t ∷ r ∷ a ∷ v ∷ h ∷ 0 ∷ 0 ∷ 0 ∷ 0 ∷ []
 record_of (delimiter o p b role) = of_text 4 o p b role
 record_of (not_writable o p reason) = of_text 5 o p reason 0
-
--- the identifier that a finding names, if it names one: bytes, none of them 0
-abbrev pub identifier_of : Finding → List ℕ
-identifier_of (duplicate t r k f) = []
-identifier_of (missing t r u v) = []
-identifier_of (mismatch t r a v u p e) = []
-identifier_of (out_of_order t r a v h) = []
-identifier_of (delimiter o p b role) = p.identifier
-identifier_of (not_writable o p reason) = p.identifier
-
-abbrev pub Byte : ℕ → Type 0
-Byte b = (0 < b) × (b < 256)
-
-abbrev pub Named : Finding → Type 0
-Named f = All Byte (identifier_of f)

@@ -1,3 +1,4 @@
+-- Not to be believed: words of inner contracts, on which no contract of what users call rests.
 -- A row that may be there, as an answer of code; and the rows that hang on a row, by nest's numbers.
 use Rattle.std.specs.Prelude.{ℕ, zero, suc, ◌+◌, ◌*◌, ◌≤◌, ◌<◌, ◌≡◌, Bool, ◌&&◌, List, length, get_or, eqb, Option, Some, None}
 use Rattle.spec.specs.declared.ids.RowId.{RowId}

@@ -1,3 +1,4 @@
+-- Not to be believed: words of inner contracts, on which no contract of what users call rests.
 -- What is known of the keys of tables and of the depths of loops, told once for all rows.
 use Rattle.std.specs.Prelude.{ℕ, ◌+◌, ◌≤◌, ◌<◌, ◌≡◌, Bool, true, false, List, [], ◌∷◌, drop, get_or, None}
 use Rattle.nest.specs.declared.keys.Keys.{Keys}

@@ -13,3 +13,5 @@ pub mod Keys
 pub mod Rising
 pub mod Notes
 pub mod Example
+pub mod OutlineAt
+pub mod UpTo

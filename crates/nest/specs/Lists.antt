@@ -39,10 +39,6 @@ abbrev pub from : ℕ → ℕ → List ℕ
 from a zero = []
 from a (suc n) = a ∷ from (suc a) n
 
--- the numbers from k on, below n
-abbrev pub up_to : ℕ → ℕ → List ℕ
-up_to k n = from k (n - k)
-
 -- whether a number is there and is k
 abbrev pub is : Option ℕ → ℕ → Bool
 is None k = false

@@ -1,7 +1,8 @@
+-- Not to be believed: words of inner contracts, on which no contract of what users call rests.
 -- What is noted of numbers.
 use Rattle.std.specs.Prelude.{ℕ, ◌<◌, List}
 use denote.Ref.{MutBor}
-use Rattle.lent.specs.Fit.{Noted}
+use Rattle.lent.specs.Window.{Noted}
 use Rattle.nest.specs.Finding.{Finding}
 use Rattle.nest.specs.Ready.{words}
 

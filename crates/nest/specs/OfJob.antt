@@ -6,7 +6,7 @@ use Rattle.format.specs.Layout as L
 use Rattle.format.specs.Data.{TableData}
 use Rattle.format.specs.Job.{Job}
 use Rattle.column.specs.Cell.{cell_of, segment_cell, key_of, reference_of, same_cell, same_answer, is_null}
-use Rattle.spec.specs.Answers.{is_required}
+use Rattle.spec.specs.Usage.{is_required}
 use Rattle.format.specs.Ask.{plan_of, planned_of, forced_of, group_columns_of, capacity_of, data_of}
 use Rattle.nest.specs.Lists.{on, each, some_of}
 use Rattle.nest.specs.Outline.{Outline, Loop, Table, Kind, absent, envelope, implied, rows, inside, groups, Source, of_envelope, of_row, of_repeat, Planned, Plan, Item, segment, loop}

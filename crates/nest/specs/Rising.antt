@@ -1,6 +1,8 @@
+-- Not to be believed: words of inner contracts, on which no contract of what users call rests.
 -- Tables whose rows hang on rising rows: the rows that hang on one row stand together, and halving finds them.
 use Rattle.std.specs.Prelude.{ℕ, ◌+◌, ◌-◌, ◌≤◌, ◌<◌, Bool, not, List, [], ◌∷◌, length, get_or, eqb, ltb}
-use Rattle.nest.specs.Lists.{once, each, some_of, up_to}
+use Rattle.nest.specs.Lists.{once, each, some_of}
+use Rattle.nest.specs.UpTo.{up_to}
 use Rattle.nest.specs.Outline.{Outline, row_count}
 use Rattle.nest.specs.Nest.{nest_record}
 use Rattle.nest.specs.Found.{nest_at}

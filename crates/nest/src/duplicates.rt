@@ -1,7 +1,8 @@
 // Duplicate keys: each row whose key an earlier row of its table has.
 ghost use Rattle.std.specs.Prelude.{◌≡◌, true, length};
-ghost use Rattle.lent.specs.Fit.{Noted};
-ghost use Rattle.nest.specs.Lists.{each, up_to};
+ghost use Rattle.lent.specs.Window.{Noted};
+ghost use Rattle.nest.specs.Lists.{each};
+ghost use Rattle.nest.specs.UpTo.{up_to};
 ghost use Rattle.nest.specs.Outline.{row_count};
 ghost use Rattle.nest.specs.Nest.{has_keys};
 ghost use Rattle.nest.specs.NestFindings.{duplicate_at, duplicates};

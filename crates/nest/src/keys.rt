@@ -1,6 +1,7 @@
 // Keys and the rows that they name. Only tables in some ancestor list have keys.
 ghost use Rattle.std.specs.Prelude.{◌≡◌, true, false, ◌<◌, eqb, get_or};
-ghost use Rattle.nest.specs.Lists.{keep, first, up_to, some_of};
+ghost use Rattle.nest.specs.Lists.{keep, first, some_of};
+ghost use Rattle.nest.specs.UpTo.{up_to};
 ghost use Rattle.nest.specs.Outline.{Outline, table_of, row_count};
 ghost use Rattle.nest.specs.Nest.{has_keys, first_row, referred};
 ghost use Rattle.nest.specs.Found.{found_by};

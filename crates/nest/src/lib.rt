@@ -4,7 +4,7 @@
 ghost use Rattle.std.specs.Prelude.{◌≡◌, ◌+◌, ◌*◌, ◌≤◌, ◌<◌, [], ◌∷◌, length};
 ghost use Rattle.std.proofs.lemmas.List.Edits.{sets};
 ghost use Rattle.format.specs.Refusal.{rows_of_all};
-ghost use Rattle.lent.specs.Fit.{base, Noted};
+ghost use Rattle.lent.specs.Window.{base, Noted};
 ghost use Rattle.nest.specs.Found.{ArrayIs, row_above};
 ghost use Rattle.nest.specs.Nest.{nest_array};
 ghost use Rattle.nest.specs.NestFindings.{nest_findings};

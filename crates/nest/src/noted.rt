@@ -1,7 +1,8 @@
 // Findings of numbers, one number after the other.
 ghost use Rattle.std.specs.Prelude.{ℕ, List, ◌<◌};
-ghost use Rattle.lent.specs.Fit.{Noted};
-ghost use Rattle.nest.specs.Lists.{each, up_to};
+ghost use Rattle.lent.specs.Window.{Noted};
+ghost use Rattle.nest.specs.Lists.{each};
+ghost use Rattle.nest.specs.UpTo.{up_to};
 ghost use Rattle.nest.specs.Finding.{Finding};
 ghost use Rattle.nest.specs.Ready.{words};
 ghost use Rattle.nest.specs.Notes.{NotesAs};

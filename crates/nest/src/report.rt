@@ -1,10 +1,11 @@
 // What is found of a row: contradictions with the row that it hangs on, or that it hangs on none.
 ghost use Rattle.std.specs.Prelude.{◌≡◌, true, false, ◌<◌, length};
-ghost use Rattle.lent.specs.Fit.{Noted};
+ghost use Rattle.lent.specs.Window.{Noted};
 ghost use Rattle.tables.specs.Parts.{rows_before};
 ghost use Rattle.nest.specs.Outline.{row_count, repeated};
 ghost use Rattle.nest.specs.Nest.{row_of};
-ghost use Rattle.nest.specs.Lists.{each, up_to};
+ghost use Rattle.nest.specs.Lists.{each};
+ghost use Rattle.nest.specs.UpTo.{up_to};
 ghost use Rattle.nest.specs.NestFindings.{contradiction_at, contradictions, missing_at, row_findings, table_findings};
 ghost use Rattle.nest.specs.Keys.{Deep};
 ghost use Rattle.nest.specs.Found.{ArrayIs};

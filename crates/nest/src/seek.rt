@@ -1,7 +1,8 @@
 // Searches through numbers, by a test. Written as loops, since the contracts of std's `any` and `find` speak of an iterator's steps, which every proof
 // above would have to tell as numbers.
 ghost use Rattle.std.specs.Prelude.{ℕ, ◌≡◌, ◌≤◌, ◌<◌, ◌^◌, Bool};
-ghost use Rattle.nest.specs.Lists.{keep, first, some_of, up_to};
+ghost use Rattle.nest.specs.Lists.{keep, first, some_of};
+ghost use Rattle.nest.specs.UpTo.{up_to};
 ghost use Rattle.nest.specs.Found.{found_by};
 ghost use Rattle.nest.specs.Seek.{AnswersAs, Turns, SplitAt};
 

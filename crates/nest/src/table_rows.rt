@@ -16,7 +16,8 @@ pub struct TableRows<'a> {
 // A method that reads row k asks that k is below `rows`. Numbers of rows above are read from the job, and asked to be below 4096.
 impl<'a> TableRows<'a> {
     ghost use Rattle.std.specs.Prelude.{◌≡◌, ◌<◌, ◌^◌};
-    ghost use Rattle.nest.specs.Lists.{keep, first, up_to};
+    ghost use Rattle.nest.specs.Lists.{keep, first};
+    ghost use Rattle.nest.specs.UpTo.{up_to};
     ghost use Rattle.nest.specs.Found.{found_by, nest_at, row_above, held_at, hooked_at};
     ghost use Rattle.nest.specs.Rising.{Climbs, Parted};
 

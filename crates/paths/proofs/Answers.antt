@@ -10,13 +10,14 @@ use lib.ListN.{length, get_or}
 use lib.Dec.{eqb, ltb}
 use borrow.Author.Tests.{lt-ltb, le-ltb, not-true, not-false, eq-eqb, eqb-true}
 use Rattle.codec.specs.Codec.{le}
-use Rattle.codec.specs.Field.{count_of}
+use Rattle.codec.proofs.Field.{count_of}
 use Rattle.format.specs.Plan as P
 use Rattle.format.specs.Layout.{segment_item, loop_item}
 use Rattle.format.specs.Job.{Job}
 use Rattle.format.specs.Sections.{job_of}
 use Rattle.format.specs.Ask as A
-use Rattle.spec.specs.Region.{listed_room}
+use Rattle.format.specs.Orders
+use Rattle.spec.proofs.RegionLaws.{listed_room}
 use Rattle.plan.specs.Index.{PlanIndexed}
 use Rattle.nest.specs.Lists.{on, is, sum, times, All}
 use Rattle.nest.specs.Outline.{Outline, Table, Planned, Kind, row_table, loop_of, table_of, kind_of, order_of, segment_of, table_parent, plain, repeated, item_loops, item_segments}
@@ -97,16 +98,16 @@ planned_of_lem j t x e = e ∙ sym (ap (λ xs. each_of xs (planned_once (outline
 -- ---- orders
 
 module _ (j : Job) (l : ℕ) where
-  pub order_loop : (k a b : ℕ) → a ≡ sum (same_item (loop_item k)) (A.order_of j l) → b ≡ times k (loop_of (outline_of j) l).children → eqb a b ≡ order_right (outline_of j) l k
+  pub order_loop : (k a b : ℕ) → a ≡ sum (same_item (loop_item k)) (Orders.order_of j l) → b ≡ times k (loop_of (outline_of j) l).children → eqb a b ≡ order_right (outline_of j) l k
   unfolding order_right
-  order_loop k a b e f = ap₂ eqb (e ∙ sym (ap (λ o. times k (item_loops o)) (order_is j l) ∙ loop_times k (A.order_of j l))) f
+  order_loop k a b e f = ap₂ eqb (e ∙ sym (ap (λ o. times k (item_loops o)) (order_is j l) ∙ loop_times k (Orders.order_of j l))) f
 
-  pub order_segment : (i n : ℕ) → n ≡ sum (same_item (segment_item i)) (A.order_of j l) → eqb n 1 ≡ eqb (times i (item_segments (order_of (outline_of j) l))) 1
-  order_segment i n e = ap (λ m. eqb m 1) (e ∙ sym (ap (λ o. times i (item_segments o)) (order_is j l) ∙ segment_times i (A.order_of j l)))
+  pub order_segment : (i n : ℕ) → n ≡ sum (same_item (segment_item i)) (Orders.order_of j l) → eqb n 1 ≡ eqb (times i (item_segments (order_of (outline_of j) l))) 1
+  order_segment i n e = ap (λ m. eqb m 1) (e ∙ sym (ap (λ o. times i (item_segments o)) (order_is j l) ∙ segment_times i (Orders.order_of j l)))
 
-  pub only_in : (n : ℕ) → n ≡ length (A.plan_of j l).segments → every (segment_below n) (A.order_of j l) ≡ only_planned (outline_of j) l
+  pub only_in : (n : ℕ) → n ≡ length (A.plan_of j l).segments → every (segment_below n) (Orders.order_of j l) ≡ only_planned (outline_of j) l
   unfolding only_planned
-  only_in n e = sym (ap (λ m. each_of (item_segments (order_of (outline_of j) l)) (λ i. ltb i m)) (sym (planned_in_lem j l n e)) ∙ ap (λ o. each_of (item_segments o) (λ i. ltb i n)) (order_is j l) ∙ segments_below n (A.order_of j l))
+  only_in n e = sym (ap (λ m. each_of (item_segments (order_of (outline_of j) l)) (λ i. ltb i m)) (sym (planned_in_lem j l n e)) ∙ ap (λ o. each_of (item_segments o) (λ i. ltb i n)) (order_is j l) ∙ segments_below n (Orders.order_of j l))
 
   pub occurs_in : (i k n : ℕ) → k ≡ (A.planned_of j l i).occurrence → n ≡ length (A.loop_of j l).occurrences → ltb k n ≡ ltb (segment_of (outline_of j) l i).occurrence (loop_of (outline_of j) l).occurrences
   occurs_in i k n e f = ap₂ ltb (e ∙ ap (λ (v : Planned). v.occurrence) (sym (segment_is j l i))) (f ∙ sym (occurrences_is j l))

@@ -10,12 +10,13 @@ use Rattle.std.proofs.lemmas.Option.{none-some}
 use lib.ListN.{length, get_or, get_or-eq_default}
 use lib.Dec.{ltb}
 use borrow.Author.Tests.{ltb-true, ltb-false, leb-false}
-use Rattle.codec.specs.Limits.{none_of, none_in}
-use Rattle.format.specs.Words.{none_some}
+use Rattle.codec.proofs.Limits.{none_of, none_in}
+use Rattle.format.proofs.Words.{none_some}
 use Rattle.format.specs.Spec as S
 use Rattle.format.specs.Sections.{job_of}
 use Rattle.format.specs.Refusal.{tangled, tangled_loops, outside_loop, outside_table, outside}
-use Rattle.format.specs.Passed.{Passed, few}
+use Rattle.format.specs.Passed.{Passed}
+use Rattle.format.proofs.Passed.{few}
 use Rattle.format.specs.Ask as A
 
 pub parent_small : (b : List ℕ) → Passed b → (l p : ℕ) → (A.loop_of (job_of b) l).parent ≡ Some p → p < 32

@@ -1,3 +1,4 @@
+-- Not to be believed: words of inner contracts, on which no contract of what users call rests.
 -- What the check of entries and orders finds (docs/RULES.md, "Entries and orders"): the entries, and that the orders' test passes.
 use Rattle.std.specs.Prelude.{◌≡◌, true}
 use Rattle.format.specs.Job.{Job}

@@ -1,3 +1,4 @@
+-- Not to be believed: words of inner contracts, on which no contract of what users call rests.
 -- The tests of the plan check (`plan_tests` of walk), put together by condition as the code makes them: 1 "Row loops", 2 "Entries and orders",
 -- 3 "Above a row loop", 4 "Repeat loops" (docs/RULES.md, "A complete plan").
 use Rattle.std.specs.Prelude.{ℕ, Bool, true, false, not, ◌&&◌, ◌||◌, length, eqb, ltb}

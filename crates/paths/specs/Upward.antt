@@ -1,3 +1,4 @@
+-- Not to be believed: words of inner contracts, on which no contract of what users call rests.
 -- A step upwards from a loop (docs/RULES.md, "Above a row loop"): it ends well, it ends badly, or it goes on from the loop above, with the table whose
 -- row loop came last.
 use Rattle.std.specs.Prelude.{ℕ, Bool, true, false}

@@ -1,6 +1,6 @@
 // Orders of a complete plan (docs/RULES.md, "Entries and orders").
 ghost use Rattle.std.specs.Prelude.{◌≡◌, ◌<◌, eqb, ltb, length};
-ghost use Rattle.format.specs.Ask.{order_of};
+ghost use Rattle.format.specs.Orders.{order_of};
 ghost use Rattle.plan.specs.Answers.{item_of};
 ghost use Rattle.nest.specs.Lists.{sum, times};
 ghost use Rattle.nest.specs.Outline.{loop_of, segment_of, item_segments, order_of as order_in};

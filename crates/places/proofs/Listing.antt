@@ -5,7 +5,7 @@ use mathlib.Core.Path.{sym}
 use Rattle.codec.specs.Limits.{any_of}
 use Rattle.nest.specs.Lists.{All}
 use Rattle.complete.specs.Complete.{Pairs, Each2}
-use Rattle.codes.specs.Refutes.{Refutes}
+use Rattle.codes.proofs.Refutes.{Refutes}
 use Rattle.places.specs.Spots.{pairs}
 use Rattle.codes.proofs.Laws.{no_way, refute_as, refute_either, refute_all}
 use Rattle.codes.proofs.Listing.{all_map, all_both, all_any}

@@ -18,7 +18,7 @@ use Rattle.segment.specs.Parts.{rank}
 use Rattle.segment.proofs.Rows.{rank_same}
 use Rattle.nest.specs.Lists.{All}
 use Rattle.complete.specs.Complete.{Pairs, IfThere, Segments, PlanStarts, reach, step_in, element_of, InFront, PlacesApart, OwnApart, Unmixed, Placed, SegmentFits}
-use Rattle.codes.specs.Refutes.{Refutes}
+use Rattle.codes.proofs.Refutes.{Refutes}
 use Rattle.places.specs.declared.spots.Spot.{Spot}
 use Rattle.places.specs.Spots.{wrong_spot, wrong_spot_of, clash, clash_of, front, kind_of, meet, misplaced, mixed, reach_of, room_in, spot_of, wrong_plan, wrong_segment, wrong_spots}
 use Rattle.codes.proofs.Laws.{no_way, refute_as, refute_any, refute_none, refute_all, refute_low}

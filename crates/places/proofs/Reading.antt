@@ -8,15 +8,15 @@ use Rattle.std.specs.Prelude.{Option, None, Some}
 use Rattle.codec.specs.Codec.{le_c, pick}
 use Rattle.codec.specs.Forms.{num_c, opt_c}
 use Rattle.codec.specs.Skip.{skip, count_at, tag_at, Is}
-use Rattle.codec.specs.Field.{is_in, is_none, is_some}
+use Rattle.codec.proofs.Field.{is_in, is_none, is_some}
 use Rattle.codec.specs.Limits.{any_of}
 use Rattle.format.specs.Job.{Job}
 use Rattle.format.specs.Plan.{Source, from_envelope, from_row, from_repeat, source_c, from_column, from_group, from_code, value_c, ElementPlan, element_plan_c, SegmentPlan}
-use Rattle.format.specs.Fields.{source_tag, is_from_row, is_from_repeat, value_tag, is_from_group}
+use Rattle.format.proofs.Fields.{source_tag, is_from_row, is_from_repeat, value_tag, is_from_group}
 use Rattle.complete.specs.Complete.{step_in}
 use Rattle.says.specs.Says.{Says, SaysRest, SaysBefore, any_before}
 use Rattle.says.proofs.Walk.{number_is, both, only}
-use Rattle.codec.specs.Ways.{tag_read, tag_past, tag_within}
+use Rattle.codec.proofs.Ways.{tag_read, tag_past, tag_within}
 use Rattle.places.specs.declared.spots.Spot.{Spot}
 use Rattle.places.specs.declared.spots.Filled.{Filled}
 use Rattle.places.specs.declared.spots.Filled.TheVariants.{Row}

@@ -20,7 +20,7 @@ use Rattle.segment.specs.Parts.{is_empty}
 use Rattle.emit.specs.Envelope.{field_at, repetition, component}
 use Rattle.nest.specs.Lists.{All, on}
 use Rattle.complete.specs.Complete.{GivesSeparator, StandsAlone, SeparatorsAlone}
-use Rattle.codes.specs.Refutes.{Refutes}
+use Rattle.codes.proofs.Refutes.{Refutes}
 use Rattle.complete.specs.Decides.{Decides}
 use Rattle.places.specs.Triggers.{crowded, defs_of, field_gives, gives, is_envelope, part_of, trigger_of, wrong_element, wrong_loop_at, wrong_ruled, wrong_trigger}
 use Rattle.codes.proofs.Laws.{no_way, refute_as, refute_either, refute_all}

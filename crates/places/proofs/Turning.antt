@@ -10,15 +10,15 @@ use lib.Dec.{eqb}
 use borrow.Author.Tests.{eq-eqb, ne_eqb}
 use Rattle.codec.specs.Codec.{Codec, pick, list_c, ◌⊗◌}
 use Rattle.codec.specs.Skip.{count_at, tag_at, Is}
-use Rattle.codec.specs.Field.{is_list, count_list}
+use Rattle.codec.proofs.Field.{is_list, count_list}
 use Rattle.codec.specs.Forms.{num_c}
-use Rattle.codec.specs.Maps.{is_num_map}
-use Rattle.codec.specs.Ways.{tag_in, tag_case}
+use Rattle.codec.proofs.Maps.{is_num_map}
+use Rattle.codec.proofs.Ways.{tag_in, tag_case}
 use Rattle.codec.specs.Limits.{any_of}
 use Rattle.format.specs.Words.{if_some, present}
 use Rattle.format.specs.Spec.{ElementDef, element_c, SegmentDef, segment_c}
 use Rattle.format.specs.Plan.{Source, from_envelope, from_row, from_repeat, source_c, ElementPlan, SegmentPlan, LoopPlan}
-use Rattle.format.specs.Fields.{source_tag}
+use Rattle.format.proofs.Fields.{source_tag}
 use Rattle.format.specs.Job.{Job}
 use Rattle.format.specs.Ask.{loop_of, segment_def, depth_of}
 use Rattle.spec.specs.Found.{StandsAt}

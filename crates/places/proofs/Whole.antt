@@ -5,14 +5,15 @@ use mathlib.Core.List.{List}
 use mathlib.Core.Bool.{Bool, not}
 use Rattle.codec.specs.Codec.{list_c}
 use Rattle.codec.specs.Skip.{count_at}
-use Rattle.codec.specs.Field.{is_list, count_list}
+use Rattle.codec.proofs.Field.{is_list, count_list}
 use lib.ListN.{length}
 use Rattle.codec.specs.Limits.{any_of}
 use Rattle.format.specs.Words.{any_from}
-use Rattle.format.specs.Decoding.{is_read}
+use Rattle.format.proofs.Decoding.{is_read}
 use Rattle.format.specs.Plan.{loop_plan_c, plan_c}
 use Rattle.format.specs.Sections.{job_of, plan_start, layout_start}
-use Rattle.format.specs.Passed.{Passed, few}
+use Rattle.format.specs.Passed.{Passed}
+use Rattle.format.proofs.Passed.{few}
 use Rattle.complete.specs.Complete.{SeparatorsAlone}
 use Rattle.says.specs.Says.{Says}
 use Rattle.says.proofs.Walk.{section_says}

@@ -1,3 +1,4 @@
+-- Not to be believed: words of inner contracts, on which no contract of what users call rests.
 -- The places of a planned segment, as tests (docs/RULES.md, "Places"). Collisions in a full chunk are found by arithmetic on element, step and reach, and
 -- not by listing places.
 use Rattle.std.specs.Prelude.{ℕ, ◌-◌, ◌/◌, ◌%◌, max, List, [], ◌∷◌, Bool, true, false, not, leb, ltb, eqb}

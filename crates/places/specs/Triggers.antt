@@ -1,3 +1,4 @@
+-- Not to be believed: words of inner contracts, on which no contract of what users call rests.
 -- Envelope fields that give a separator, as tests (docs/RULES.md, "Places"): such a field is planned at no component.
 use Rattle.std.specs.Prelude.{ℕ, List, [], Bool, true, false, not, eqb}
 use Rattle.codec.specs.Codec.{pick}

@@ -11,18 +11,21 @@ use borrow.Author.Tests.{le-leb, lt-leb, le-ltb, lt-ltb, leb-true, leb-false, lt
 use Rattle.codec.specs.Codec.{Codec, le, list_c}
 use Rattle.codec.specs.Skip.{Is}
 use Rattle.codec.specs.Forms.{num_c, opt_c, flag_c}
-use Rattle.codec.specs.Field.{is_at, is_le, is_list, count_of}
+use Rattle.codec.proofs.Field.{is_at, is_le, is_list, count_of}
 use Rattle.format.specs.Plan.{LoopPlan, no_loop_plan, loop_plan_c, SegmentPlan, no_segment_plan, segment_plan_c, source_c, element_plan_c}
 use Rattle.format.specs.Layout.{item_c}
 use Rattle.format.specs.Sections.{job_of, layout_start, envelope_start}
-use Rattle.format.specs.Fields.{LoopPlanIs, is_loop_plan}
-use Rattle.format.specs.Ask.{on, plan_of, planned_of, order_of, forced_of, group_columns_of, depth_of, capacity_of}
+use Rattle.format.proofs.Fields.{LoopPlanIs, is_loop_plan}
+use Rattle.format.specs.Ask.{on, plan_of, planned_of, forced_of, group_columns_of, depth_of, capacity_of}
+use Rattle.format.specs.Orders.{order_of}
 use Rattle.plan.specs.Answers.{no_item}
-use Rattle.spec.specs.Region.{Listed, ItemAt, listed_is, listed_room}
-use Rattle.spec.specs.Standing.{next_place}
-use Rattle.spec.specs.Reads.{num_reads}
-use Rattle.plan.specs.Index.{PlanIndexed, segments_at, inner_count}
-use Rattle.plan.specs.Elements.{run_none}
+use Rattle.spec.specs.Region.{Listed, ItemAt}
+use Rattle.spec.proofs.RegionLaws.{listed_is, listed_room}
+use Rattle.spec.proofs.Standing.{next_place}
+use Rattle.spec.proofs.ReadsLaws.{num_reads}
+use Rattle.plan.specs.Index.{PlanIndexed, segments_at}
+use Rattle.plan.proofs.IndexLaws.{inner_count}
+use Rattle.plan.proofs.Elements.{run_none}
 use Rattle.plan.specs.declared.answers.Planned.{Planned}
 use Rattle.plan.specs.declared.answers.Order.{Order}
 use Rattle.plan.specs.Planned.{unplanned, SegmentIs, SegmentRead, PlannedIs, OrderIs}

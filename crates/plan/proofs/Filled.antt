@@ -11,19 +11,22 @@ use lib.Dec.{ltb}
 use borrow.Author.Tests.{ltb-true, ltb-false}
 use Rattle.codec.specs.Codec.{le_c, list_c}
 use Rattle.codec.specs.Forms.{num_c, opt_c, flag_c}
-use Rattle.codec.specs.Skip.{skip, count_at, Is, skip_le, skip_map, skip_pair}
-use Rattle.codec.specs.Field.{is_list, count_list}
-use Rattle.codec.specs.Rows.{small, is_small}
-use Rattle.codec.specs.Limits.{none_of, none_in}
+use Rattle.codec.specs.Skip.{skip, count_at, Is}
+use Rattle.codec.proofs.Skip.{skip_le, skip_map, skip_pair}
+use Rattle.codec.proofs.Field.{is_list, count_list}
+use Rattle.codec.specs.Rows.{small}
+use Rattle.codec.proofs.Rows.{is_small}
+use Rattle.codec.proofs.Limits.{none_of, none_in}
 use Rattle.format.specs.Plan.{LoopPlan, no_loop_plan, instances_c, loop_plan_c, segment_plan_c, plan_c}
 use Rattle.format.specs.Layout.{item_c, layout_c}
-use Rattle.format.specs.Fields.{LayoutIs, is_layout, is_loop_plan}
+use Rattle.format.proofs.Fields.{LayoutIs, is_layout, is_loop_plan}
 use Rattle.format.specs.Sections.{job_of, plan_start, layout_start, envelope_start}
-use Rattle.format.specs.Decoding.{is_read}
+use Rattle.format.proofs.Decoding.{is_read}
 use Rattle.format.specs.Refusal.{over, over_loop_plan}
 use Rattle.format.specs.Passed.{Passed}
 use Rattle.format.specs.Ask.{plan_of}
-use Rattle.spec.specs.Kept.{Kept, kept_same, kept_set, kept_then, kept_wide}
+use Rattle.spec.specs.Kept.{Kept}
+use Rattle.spec.proofs.Kept.{kept_same, kept_set, kept_then, kept_wide}
 use Rattle.spec.specs.Region.{Stored, Listed}
 use Rattle.spec.proofs.Storing.{stored_kept, listed, lists_more, lists_all}
 use Rattle.plan.specs.Index.{PlanIndexed, PlanFilled}

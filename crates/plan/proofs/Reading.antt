@@ -9,23 +9,25 @@ use Rattle.std.specs.Prelude.{Option, None, Some}
 use lib.ListN.{length, get_or}
 use lib.Dec.{eqb}
 use Rattle.codec.specs.Codec.{Codec, le, le_c, list_c}
-use Rattle.codec.specs.Skip.{skip, steps, steps_last, Is, skip_le, skip_map, skip_pair, tag_at}
+use Rattle.codec.specs.Skip.{skip, steps, Is, tag_at}
+use Rattle.codec.proofs.Skip.{steps_last, skip_le, skip_map, skip_pair}
 use Rattle.codec.specs.Forms.{num_c, bytes_c, opt_c, flag_c}
-use Rattle.codec.specs.Field.{Stands, stands_at, is_map, is_enum, is_le, is_none, is_some, is_list, count_of}
-use Rattle.codec.specs.Ways.{tag_in, skip_opt, opt_none, opt_some, skip_flag, case_in}
-use Rattle.codec.specs.Answers.{skip_les}
+use Rattle.codec.specs.Field.{Stands}
+use Rattle.codec.proofs.Field.{stands_at, is_map, is_enum, is_le, is_none, is_some, is_list, count_of}
+use Rattle.codec.proofs.Ways.{tag_in, skip_opt, opt_none, opt_some, skip_flag, case_in}
+use Rattle.codec.proofs.Answers.{skip_les}
 use Rattle.format.specs.Plan.{Instances, absent, enveloped, rows_of, inside, groups_of, implied, instances_c, Source, from_envelope, from_row, from_repeat, source_c, Value, from_column, from_group, from_code, value_c, ElementPlan as ElementPlanIn, element_plan_c, SegmentPlan, segment_plan_c}
 use Rattle.format.specs.Layout.{Item, segment_item, loop_item, item_c}
-use Rattle.format.specs.Fields.{instances_tag, is_rows_of, is_inside, is_groups_of, source_tag, is_from_row, is_from_repeat, value_tag, is_from_column, is_from_group, is_from_code, item_tag, is_segment_item, is_loop_item, ElementPlanIs, is_element_plan, SegmentPlanIs, is_segment_plan}
-use Rattle.format.specs.Ends.{source_low, source_table_lem, value_column, value_code, item_is}
+use Rattle.format.proofs.Fields.{instances_tag, is_rows_of, is_inside, is_groups_of, source_tag, is_from_row, is_from_repeat, value_tag, is_from_column, is_from_group, is_from_code, item_tag, is_segment_item, is_loop_item, ElementPlanIs, is_element_plan, SegmentPlanIs, is_segment_plan}
+use Rattle.format.proofs.Ends.{source_low, source_table_lem, value_column, value_code, item_is}
 use Rattle.spec.specs.Answers.{Holds}
-use Rattle.spec.specs.Standing.{les_room, next_place}
-use Rattle.spec.specs.Reads.{num_reads, stretch_is, flag_byte, flag_tag}
+use Rattle.spec.proofs.Standing.{les_room, next_place}
+use Rattle.spec.proofs.ReadsLaws.{num_reads, stretch_is, flag_byte, flag_tag}
 use Rattle.plan.specs.declared.answers.ElementPlan.{ElementPlan}
 use Rattle.plan.specs.declared.answers.ValueSource.TheVariants.{Column, Group, Code}
 use Rattle.plan.specs.declared.answers.Planned.{Planned}
 use Rattle.plan.specs.Answers.{source_of, source_len, ValueRead, ElementRead}
-use Rattle.plan.specs.Elements.{run_list}
+use Rattle.plan.proofs.Elements.{run_list}
 use Rattle.plan.specs.Planned.{SegmentRead}
 
 -- ---- options

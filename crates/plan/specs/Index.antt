@@ -1,7 +1,7 @@
+-- Not to be believed: words of inner contracts, on which no contract of what users call rests.
 -- The region of plan and layout in the index of a job that passed. A list takes 33 numbers: its place, then the places of its first 32 items.
-use Rattle.std.specs.Prelude.{ℕ, ◌+◌, ◌*◌, ◌≤◌, ◌<◌, ◌≡◌, List, length, get_or, leb}
-use Rattle.std.proofs.Common.{arith}
-use Rattle.codec.specs.Codec.{pick, le, list_c}
+use Rattle.std.specs.Prelude.{ℕ, ◌+◌, ◌*◌, ◌≤◌, ◌<◌, List, length, get_or}
+use Rattle.codec.specs.Codec.{list_c}
 use Rattle.codec.specs.Forms.{num_c, opt_c, flag_c}
 use Rattle.codec.specs.Skip.{Is}
 use Rattle.format.specs.Plan.{loop_plan_c, segment_plan_c}
@@ -9,7 +9,7 @@ use Rattle.format.specs.Layout.{item_c}
 use Rattle.format.specs.Sections.{job_of, layout_start, envelope_start}
 use Rattle.format.specs.Ask.{plan_of}
 use Rattle.spec.specs.Kept.{Kept}
-use Rattle.spec.specs.Region.{Listed, listed_kept}
+use Rattle.spec.specs.Region.{Listed}
 
 -- from here on, the planned segments of a loop
 abbrev pub segments_at : ℕ → ℕ
@@ -28,27 +28,7 @@ pub record PlanIndexed (b idx : List ℕ) : Type 0 where
   pub depth : Listed (opt_c num_c) b (envelope_start b) idx 1156 (job_of b).layout.depth
   pub capacity : Is (list_c num_c) b (envelope_start b) (get_or idx 1189 0) (job_of b).layout.capacity
 
--- it holds as well of any index that agrees on the region
-pub plan_indexed_kept : (b idx new : List ℕ) → ((i : ℕ) → 1024 ≤ i → i < 2560 → get_or new i 0 ≡ get_or idx i 0) → PlanIndexed b idx → PlanIndexed b new
-plan_indexed_kept b idx new q h = record {
-  short = h.short;
-  plan_end = h.plan_end;
-  layout_end = h.layout_end;
-  few = h.few;
-  plan = listed_kept _ b _ 1024 idx new _ (λ i m n. q i (omega arith) (omega arith)) h.plan;
-  segments = λ l m n. listed_kept _ b _ (segments_at l) idx new _ (λ i o p. q i (omega arith) (omega arith)) (h.segments l m n);
-  order = listed_kept _ b _ 1057 idx new _ (λ i m n. q i (omega arith) (omega arith)) h.order;
-  forced = listed_kept _ b _ 1090 idx new _ (λ i m n. q i (omega arith) (omega arith)) h.forced;
-  columns = listed_kept _ b _ 1123 idx new _ (λ i m n. q i (omega arith) (omega arith)) h.columns;
-  depth = listed_kept _ b _ 1156 idx new _ (λ i m n. q i (omega arith) (omega arith)) h.depth;
-  capacity = rw (q 1189 (omega arith) (omega arith)) h.capacity;
-}
-
 -- what filling does: the region of an index that has room for it, and nothing else
 pub record PlanFilled (b old new : List ℕ) : Type 0 where
   pub kept : Kept 1024 2560 old new
   pub indexed : 2560 ≤ length old → PlanIndexed b new
-
--- how many items the inner list of number l has, by what the index and the job hold
-unfoldable pub inner_count : List ℕ → List ℕ → ℕ → ℕ → ℕ
-inner_count b idx k l = pick (leb (le 4 b (get_or idx k 0)) l) 0 (le 4 b (get_or idx (k + 1 + l) 0))

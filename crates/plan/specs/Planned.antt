@@ -1,12 +1,12 @@
+-- Not to be believed: words of inner contracts, on which no contract of what users call rests.
 -- A planned segment, all that is asked of it read at once, and the order of a loop.
-use mathlib.Core.Path.{refl}
 use Rattle.std.specs.Prelude.{ℕ, ◌+◌, ◌*◌, ◌≤◌, ◌<◌, ◌≡◌, List, true, false, length, get_or, ltb}
 use Rattle.codec.specs.Skip.{Is}
-use Rattle.codec.specs.Field.{Stands, stands_at}
 use Rattle.format.specs.Plan.{SegmentPlan, element_plan_c}
 use Rattle.format.specs.Layout.{item_c}
 use Rattle.format.specs.Sections.{job_of, layout_start, envelope_start}
-use Rattle.format.specs.Ask.{plan_of, planned_of, order_of}
+use Rattle.format.specs.Ask.{plan_of, planned_of}
+use Rattle.format.specs.Orders.{order_of}
 use Rattle.plan.specs.declared.answers.Order.{Order}
 use Rattle.plan.specs.declared.answers.Planned.{Planned}
 use Rattle.plan.specs.declared.answers.Source.TheVariants.{Envelope}
@@ -38,7 +38,3 @@ pub record OrderIs (b : List ℕ) (l : ℕ) (r : Order) : Type 0 where
   pub count : r.count ≡ length (order_of (job_of b) l)
   pub within : envelope_start b ≤ length b
   pub item : (k : ℕ) → k < r.count → Is item_c b (envelope_start b) (r.first + k * 5) (get_or (order_of (job_of b) l) k no_item)
-
--- an item that it counts stands there
-pub order_stands : {b : List ℕ} {l k : ℕ} {r : Order} → OrderIs b l r → k < r.count → Stands item_c b (r.first + k * 5)
-order_stands {b} o h = stands_at item_c b _ _ _ _ refl o.within (o.item _ h)

@@ -3,7 +3,8 @@ ghost use Rattle.std.specs.Prelude.{◌≡◌, ℕ, ◌+◌, ◌*◌, ◌<◌, f
 ghost use Rattle.codec.specs.Field.{Stands};
 ghost use Rattle.format.specs.Layout.{item_c};
 ghost use Rattle.format.specs.Sections.{job_of};
-ghost use Rattle.format.specs.Ask.{order_of, forced_of, group_columns_of, depth_of, capacity_of};
+ghost use Rattle.format.specs.Orders.{order_of};
+ghost use Rattle.format.specs.Ask.{forced_of, group_columns_of, depth_of, capacity_of};
 ghost use Rattle.plan.specs.Answers.{item_of, no_item};
 ghost use Rattle.plan.specs.Index.{PlanIndexed};
 ghost use Rattle.plan.specs.Planned.{OrderIs};

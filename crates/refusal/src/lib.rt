@@ -40,7 +40,7 @@ impl Refusal {
 /// Whether the bytes of a job can be written from: `Ok` where none of the refusals 1 to 5 applies, otherwise the one with the lowest number, each judged
 /// over the whole job (docs/RULES.md, "Answers"). Takes any bytes of any length; nothing is changed. Refusals 6 and 7 aren't tried here: 6 needs the walk
 /// over the job's rows, 7 the lists that `baktuven::write` is lent.
-#[tactic(auto, using(format::specs::Passed::refused_1, format::specs::Passed::refused_2, format::specs::Passed::refused_3, format::specs::Passed::refused_4, format::specs::Passed::refused_5, format::specs::Passed::refused_not))]
+#[tactic(auto, using(format::proofs::Passed::refused_1, format::proofs::Passed::refused_2, format::proofs::Passed::refused_3, format::proofs::Passed::refused_4, format::proofs::Passed::refused_5, format::proofs::Passed::refused_not))]
 pub fn check(job: &[u8]) -> Result<(), Refusal>
     ensures { number_of result ≡ refusal_of job.now }
 {

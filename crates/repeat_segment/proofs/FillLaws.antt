@@ -6,7 +6,9 @@ use mathlib.Core.Bool.{true, false}
 use native.Mathlib.Omega.{arith}
 use Rattle.std.specs.Prelude.{Option, Some}
 use lib.ListN.{length, get_or, take}
-use Rattle.lent.specs.Fit.{wide, more, Noted}
+use Rattle.lent.proofs.Fit.{wide}
+use Rattle.lent.specs.Fit.{more}
+use Rattle.lent.specs.Window.{Noted}
 use Rattle.lent.proofs.Laws.{unmoved, more_more}
 use Rattle.format.specs.Sections.{job_of}
 use Rattle.format.specs.Ask.{loop_of, planned_of, identifier_of, step_of, max_of, data_of}
@@ -33,7 +35,8 @@ use Rattle.emit.proofs.NameLaws.{name_short, holds_length}
 use Rattle.emit.proofs.FindingLaws.{none_stored, stored_findings, none_found}
 use Rattle.emit.proofs.Plain.{own_textual, textual_free}
 use Rattle.repeat_segment.specs.declared.planned.Planned.{Planned}
-use Rattle.repeat_segment.specs.Planned.{plans_of, Of, Along, Read}
+use Rattle.repeat_segment.specs.Planned.{plans_of, Of}
+use Rattle.repeat_segment.proofs.PlannedLaws.{Along, Read}
 use Rattle.repeat_segment.specs.Places.{element_put, row_puts}
 use Rattle.repeat_segment.specs.Filled.{Filled, found_on}
 use Rattle.repeat_segment.proofs.Limits.{element_small, step_small}

@@ -19,7 +19,8 @@ use Rattle.nest.specs.Finding.{or_zero}
 use Rattle.emit.specs.Puts.{Put, part_at, chunk_put}
 use Rattle.repeat_segment.specs.declared.planned.Planned.{Planned}
 use Rattle.repeat_segment.specs.declared.scan.First.{First}
-use Rattle.repeat_segment.specs.Planned.{plans_of, Of, Along, Read}
+use Rattle.repeat_segment.specs.Planned.{plans_of, Of}
+use Rattle.repeat_segment.proofs.PlannedLaws.{Along, Read}
 use Rattle.repeat_segment.specs.Places.{place_in, text_in, element_put, row_puts, parts_from, parts_of, Earlier, taken, kept, found_text}
 use Rattle.repeat_segment.proofs.Steps.{take_next, take_end, along_first, row_snoc}
 use Rattle.repeat_segment.proofs.PlaceLaws.{element_parts}

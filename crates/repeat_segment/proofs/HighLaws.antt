@@ -17,7 +17,8 @@ use Rattle.plan.specs.Answers.{element_of}
 use Rattle.emit.specs.Puts.{Put, and_put, part_at, chunk_put}
 use Rattle.emit.proofs.PutLaws.{highest_append}
 use Rattle.repeat_segment.specs.declared.planned.Planned.{Planned}
-use Rattle.repeat_segment.specs.Planned.{plans_of, Of, Along, Read}
+use Rattle.repeat_segment.specs.Planned.{plans_of, Of}
+use Rattle.repeat_segment.proofs.PlannedLaws.{Along, Read}
 use Rattle.repeat_segment.specs.Places.{place_in, text_in, element_put, row_puts, parts_from, parts_of, number_by, Lowest}
 use Rattle.repeat_segment.proofs.Steps.{take_next, take_end, along_first, row_none, row_snoc}
 use Rattle.repeat_segment.proofs.PlaceLaws.{element_parts, one_row}

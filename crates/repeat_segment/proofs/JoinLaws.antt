@@ -8,15 +8,18 @@ use Rattle.std.specs.Prelude.{None, Some}
 use lib.ListN.{length, get_or, take, drop}
 use lib.Seq.{drop-cons}
 use Rattle.std.proofs.Math.Seq.{take-length}
-use Rattle.lent.specs.Fit.{cap, stretch, Stored}
+use Rattle.lent.specs.Fit.{cap, Stored}
+use Rattle.lent.specs.Window.{stretch}
 use Rattle.format.specs.Plan.{ElementPlan}
 use Rattle.format.specs.Sections.{job_of}
 use Rattle.segment.specs.declared.Separators.{Separators}
 use Rattle.segment.specs.declared.Pen.{Pen}
 use Rattle.segment.specs.Parts.{Part, highest, joined, sorted}
-use Rattle.segment.specs.Pen.{opened, closing, Penned}
+use Rattle.segment.specs.Values.{opened, closing}
+use Rattle.segment.specs.Pen.{Penned}
 use Rattle.spec.specs.Answers.{stretch_of}
-use Rattle.segment.specs.Calls.{Group, Repeat, position, ended, repeat_text, last_component_at, zero_free}
+use Rattle.segment.specs.Group.{Group}
+use Rattle.segment.specs.Calls.{Repeat, position, ended, repeat_text, last_component_at, zero_free}
 use Rattle.emit.specs.declared.state.Counts.{Counts}
 use Rattle.emit.specs.declared.state.From.{From}
 use Rattle.emit.specs.Puts.{chunk_put, chunk_puts}

@@ -7,3 +7,5 @@ pub mod HighLaws
 pub mod ZeroLaws
 pub mod JoinLaws
 pub mod OrderLaws
+pub mod PlacesLaws
+pub mod PlannedLaws

@@ -8,9 +8,11 @@ use Rattle.std.specs.Prelude.{Option, None, Some}
 use lib.ListN.{length, get_or, get_or-eq_default}
 use lib.Dec.{ltb}
 use borrow.Author.Tests.{ltb-true, ltb-false}
-use Rattle.codec.specs.Limits.{none_of, none_in, any_of}
+use Rattle.codec.proofs.Limits.{none_of, none_in}
+use Rattle.codec.specs.Limits.{any_of}
 use Rattle.format.specs.Spec.{no_table, Repeat}
-use Rattle.format.specs.Plan.{no_loop_plan, no_segment_plan, no_element_plan}
+use Rattle.format.specs.Plan.{no_loop_plan, no_segment_plan}
+use Rattle.format.specs.NoElement.{no_element_plan}
 use Rattle.format.specs.Sections.{job_of}
 use Rattle.format.specs.Refusal.{over, over_spec, over_table, over_step, over_loop_plan, over_segment_plan, over_element_plan, large}
 use Rattle.format.specs.Words.{if_some}

@@ -6,20 +6,23 @@ use native.Mathlib.Omega.{arith}
 use Rattle.std.specs.Prelude.{None, Some, Option}
 use lib.ListN.{length, get_or, take}
 use borrow.Author.Tests.{ne_eqb, lt-ltb}
-use Rattle.lent.specs.Fit.{cap, stretch, Stored}
+use Rattle.lent.specs.Fit.{cap, Stored}
+use Rattle.lent.specs.Window.{stretch}
 use Rattle.lent.proofs.Laws.{stored_length}
 use Rattle.format.specs.Plan.{ElementPlan}
 use Rattle.segment.specs.declared.Separators.{Separators}
 use Rattle.segment.specs.declared.Pen.{Pen}
 use Rattle.segment.specs.Parts.{Part, component_of, insert, sorted, joined}
-use Rattle.segment.specs.Pen.{placed, opened, closing, Penned}
+use Rattle.segment.specs.Pen.{placed, Penned}
+use Rattle.segment.specs.Values.{opened, closing}
 use Rattle.segment.specs.Calls as Calls
 use Rattle.segment.proofs.Fed.{fed_stored}
 use Rattle.plan.specs.declared.answers.ElementPlan.{ElementPlan as Element}
 use Rattle.plan.specs.Answers.{element_of}
 use Rattle.emit.specs.Puts.{Put}
 use Rattle.repeat_segment.specs.declared.planned.Planned.{Planned}
-use Rattle.repeat_segment.specs.Planned.{plans_of, id_of, Of, Along, Read}
+use Rattle.repeat_segment.specs.Planned.{plans_of, id_of, Of}
+use Rattle.repeat_segment.proofs.PlannedLaws.{Along, Read}
 use Rattle.repeat_segment.specs.Places.{place_in, text_in, element_put, row_puts, parts_from, parts_of}
 use Rattle.repeat_segment.specs.Order.{Rises, Ends, Ordered, Fed, done, part}
 use Rattle.repeat_segment.proofs.Steps.{take_next, take_end, along_first, row_none, row_snoc}

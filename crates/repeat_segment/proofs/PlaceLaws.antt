@@ -25,7 +25,8 @@ use Rattle.repeat_segment.specs.declared.planned.Planned.{Planned}
 use Rattle.repeat_segment.specs.declared.places.Source.{Source}
 use Rattle.repeat_segment.specs.declared.places.Source.TheVariants.{Cell, Code as OfCode}
 use Rattle.repeat_segment.specs.Planned.{id_of}
-use Rattle.repeat_segment.specs.Places.{place_by, place_in, text_by, text_in, source_in, put_by, put_at, element_put, Lowest}
+use Rattle.repeat_segment.specs.Places.{place_by, place_in, text_by, text_in, source_in, element_put, Lowest}
+use Rattle.repeat_segment.proofs.PlacesLaws.{put_by, put_at}
 
 -- a moved place is a small number
 pub moved_small : (e step k : ℕ) → e ≤ 255 → step ≤ 255 → k < 256 → (k * step ≤ 65025) × (e + k * step ≤ 65280)

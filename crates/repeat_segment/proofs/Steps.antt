@@ -8,16 +8,18 @@ use lib.ListN.{length, get_or, take}
 use lib.Seq.{take-suc, take_all}
 use Rattle.codec.specs.Skip.{Is}
 use Rattle.codec.specs.Field.{Stands}
-use Rattle.format.specs.Plan.{ElementPlan, element_plan_c, no_element_plan}
+use Rattle.format.specs.Plan.{ElementPlan, element_plan_c}
+use Rattle.format.specs.NoElement.{no_element_plan}
 use Rattle.format.specs.Sections.{layout_start}
 use Rattle.plan.specs.declared.answers.ElementPlan.{ElementPlan as Element}
 use Rattle.plan.specs.Answers.{element_of, ElementRead}
-use Rattle.plan.specs.Elements.{run_here, run_next, run_stands}
+use Rattle.plan.proofs.Elements.{run_here, run_next, run_stands}
 use Rattle.segment.specs.Parts.{Part}
 use Rattle.nest.specs.Finding.{Finding}
 use Rattle.emit.specs.Puts.{Put, nothing, and_put, put_all, chunk_put}
 use Rattle.repeat_segment.specs.declared.planned.Planned.{Planned}
-use Rattle.repeat_segment.specs.Planned.{plans_of, Of, Along, Read}
+use Rattle.repeat_segment.specs.Planned.{plans_of, Of}
+use Rattle.repeat_segment.proofs.PlannedLaws.{Along, Read}
 use Rattle.repeat_segment.specs.Places.{element_put, row_puts}
 
 module _ (b : List ℕ) (s : Planned) (o : Of b s) where

@@ -8,7 +8,8 @@ use Rattle.std.specs.Prelude.{Option, None, Some}
 use lib.Dec.{ltb}
 use lib.ListN.{length, get_or, take}
 use borrow.Author.Tests.{lt-ltb, le-ltb, ltb-true}
-use Rattle.format.specs.Plan.{ElementPlan, no_element_plan}
+use Rattle.format.specs.Plan.{ElementPlan}
+use Rattle.format.specs.NoElement.{no_element_plan}
 use Rattle.format.specs.Ask.{on}
 use Rattle.segment.specs.Parts.{Part, pick}
 use Rattle.segment.specs.Calls.{zero_free}
@@ -16,7 +17,8 @@ use Rattle.plan.specs.declared.answers.ElementPlan.{ElementPlan as Element}
 use Rattle.plan.specs.Answers.{element_of}
 use Rattle.emit.specs.Puts.{part_at, chunk_put}
 use Rattle.repeat_segment.specs.declared.planned.Planned.{Planned}
-use Rattle.repeat_segment.specs.Planned.{plans_of, Of, Along, Read}
+use Rattle.repeat_segment.specs.Planned.{plans_of, Of}
+use Rattle.repeat_segment.proofs.PlannedLaws.{Along, Read}
 use Rattle.repeat_segment.specs.Places.{place_in, text_in, element_put, row_puts, parts_from, parts_of, all_above}
 use Rattle.repeat_segment.proofs.Steps.{take_next, take_end, along_first, row_cons}
 use Rattle.repeat_segment.proofs.PlaceLaws.{element_parts, place_first, place_behind}

@@ -1,3 +1,4 @@
+-- Not to be believed: words of inner contracts, on which no contract of what users call rests.
 -- The parts of a chunk.
 use Rattle.std.specs.Prelude.{ℕ, List, length}
 use Rattle.segment.specs.Parts.{Part}

@@ -1,6 +1,8 @@
+-- Not to be believed: words of inner contracts, on which no contract of what users call rests.
 -- What a row of a chunk leaves in the counts: findings and trace entries; no bytes, no segment.
 use Rattle.std.specs.Prelude.{ℕ, ◌≡◌, List, [], ◌++◌, Option, None, Some}
-use Rattle.lent.specs.Fit.{more, Noted}
+use Rattle.lent.specs.Fit.{more}
+use Rattle.lent.specs.Window.{Noted}
 use Rattle.emit.specs.declared.state.Counts.{Counts}
 use Rattle.texts.specs.Reason.{Outcome}
 use Rattle.nest.specs.Finding.{Finding, Origin, Place}

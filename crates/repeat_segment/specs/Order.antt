@@ -1,3 +1,4 @@
+-- Not to be believed: words of inner contracts, on which no contract of what users call rests.
 -- Parts that are plain and come in the order of their places, and the calls that write them as they come.
 use Rattle.std.specs.Prelude.{ℕ, ◌<◌, ◌≡◌, List, [], ◌∷◌, Option, None, Some}
 use Rattle.segment.specs.declared.Separators.{Separators}

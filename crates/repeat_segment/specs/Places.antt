@@ -1,3 +1,4 @@
+-- Not to be believed: words of inner contracts, on which no contract of what users call rests.
 -- Where a planned element of a repeat segment puts its text for a row, and which text (emit's `chunk_value`, taken apart).
 use Rattle.std.specs.Prelude.{ℕ, zero, suc, ◌+◌, ◌*◌, ◌<◌, ◌≡◌, List, [], ◌∷◌, ◌++◌, Bool, true, false, eqb, ltb, get_or, Option, None, Some}
 use Rattle.format.specs.Plan.{Value, from_column, from_group, from_code, ElementPlan}
@@ -10,7 +11,7 @@ use Rattle.plan.specs.declared.answers.ElementPlan.{ElementPlan as Element}
 use Rattle.plan.specs.Answers.{element_of}
 use Rattle.plan.specs.declared.answers.ValueSource.{ValueSource}
 use Rattle.plan.specs.declared.answers.ValueSource.TheVariants.{Column, Group, Code}
-use Rattle.emit.specs.Puts.{cell_outcome, put_cell, put_text, chunk_value, chunk_put, Put}
+use Rattle.emit.specs.Puts.{cell_outcome, chunk_value, chunk_put, Put}
 use Rattle.repeat_segment.specs.declared.planned.Planned.{Planned}
 use Rattle.repeat_segment.specs.declared.places.Source.{Source}
 use Rattle.repeat_segment.specs.declared.places.Source.TheVariants.{Cell, Code as OfCode}
@@ -42,15 +43,6 @@ abbrev pub source_in : ValueSource → Source
 source_in (Column n) = Cell n
 source_in (Group n) = Cell n
 source_in (Code c) = OfCode c
-
--- what an element puts at e
-abbrev pub put_by : Job → List ℕ → ℕ → ℕ → Option ℕ → ℕ → Value → Put
-put_by j id t e c r (from_column n) = put_cell j id e c t n r
-put_by j id t e c r (from_group n) = put_cell j id e c t n r
-put_by j id t e c r (from_code code) = put_text e c code
-
-unfoldable pub put_at : List ℕ → Planned → ℕ → ℕ → ElementPlan → Put
-put_at b s e r x = put_by (job_of b) (id_of b s) s.table.0 e x.component r x.value
 
 -- what row number k puts, and one element of it
 unfoldable pub element_put : List ℕ → Planned → ℕ → ℕ → ElementPlan → Put

@@ -1,11 +1,11 @@
+-- Not to be believed: words of inner contracts, on which no contract of what users call rests.
 -- A planned segment as code holds it, with what it needs to be written.
-use Rattle.std.specs.Prelude.{ℕ, ◌+◌, ◌≤◌, ◌<◌, ◌≡◌, List, length, get_or, drop}
-use Rattle.format.specs.Plan.{ElementPlan, no_element_plan}
+use Rattle.std.specs.Prelude.{ℕ, ◌≤◌, ◌<◌, ◌≡◌, List, length, get_or}
+use Rattle.format.specs.Plan.{ElementPlan}
+use Rattle.format.specs.NoElement.{no_element_plan}
 use Rattle.format.specs.Sections.{job_of, layout_start}
 use Rattle.format.specs.Ask.{planned_of, identifier_of, step_of}
 use Rattle.spec.specs.Answers.{Holds}
-use Rattle.plan.specs.declared.answers.ElementPlan.{ElementPlan as ElementRead}
-use Rattle.plan.specs.Answers.{element_of}
 use Rattle.plan.specs.Elements.{Elements}
 use Rattle.repeat_segment.specs.declared.planned.Planned.{Planned}
 
@@ -27,13 +27,3 @@ pub record Of (b : List ℕ) (s : Planned) : Type 0 where
   pub step : s.step ≡ step_of (job_of b) s.table.0
   pub near : s.step ≤ 255
   pub low : (i : ℕ) → i < length (plans_of b s) → (get_or (plans_of b s) i no_element_plan).element ≤ 255
-
--- from the place `at` on stand the elements from number i on
-pub record Along (b : List ℕ) (s : Planned) (at i : ℕ) : Type 0 where
-  pub elements : Elements b at (drop i (plans_of b s))
-
--- what was read is element i
-pub record Read (b : List ℕ) (s : Planned) (i : ℕ) (r : ElementRead) : Type 0 where
-  pub plan : element_of b r ≡ get_or (plans_of b s) i no_element_plan
-  pub low : r.element ≤ 255
-  pub along : Along b s r.next (i + 1)

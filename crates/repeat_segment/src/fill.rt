@@ -1,6 +1,6 @@
 // A row of a chunk: the findings on its cells, and their trace entries.
 ghost use Rattle.std.specs.Prelude.{◌≡◌, true, [], ◌≤◌, ◌<◌};
-ghost use Rattle.lent.specs.Fit.{Noted};
+ghost use Rattle.lent.specs.Window.{Noted};
 ghost use Rattle.format.specs.Sections.{job_of};
 ghost use Rattle.format.specs.Passed.{Passed};
 ghost use Rattle.format.specs.Refusal.{separators};

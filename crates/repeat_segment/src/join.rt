@@ -1,7 +1,8 @@
 // The bytes of a repeat segment: position by position, component by component.
 ghost use Rattle.lent.specs.Fit.{Stored};
 ghost use Rattle.segment.specs.Parts.{joined, sorted};
-ghost use Rattle.segment.specs.Calls.{Group, Repeat, repeat_text, last_component_at};
+ghost use Rattle.segment.specs.Group.{Group};
+ghost use Rattle.segment.specs.Calls.{Repeat, repeat_text, last_component_at};
 ghost use Rattle.repeat_segment.specs.Planned.{Of};
 ghost use Rattle.repeat_segment.specs.Chunk.{parts_in, id_in};
 

@@ -1,6 +1,6 @@
 // The first part at a place of a repeat segment, and its text: one pass over the planned elements.
 ghost use Rattle.std.specs.Prelude.{◌≡◌, List, [], ℕ, ◌≤◌, ◌<◌, length, get_or, Some};
-ghost use Rattle.segment.specs.Pen.{value_text};
+ghost use Rattle.segment.specs.Values.{value_text};
 ghost use Rattle.segment.specs.Calls.{first_at, or_text, repeat_text};
 ghost use Rattle.plan.specs.Answers.{element_of};
 ghost use Rattle.repeat_segment.specs.Planned.{Of};

@@ -8,7 +8,8 @@ use native.Mathlib.Numerals.{add-one}
 use Rattle.std.specs.Prelude.{None}
 use lib.ListN.{length, take, set, replicate, length-set, length-replicate}
 use lib.Seq.{take-suc-set}
-use Rattle.lent.specs.Fit.{cap, wide}
+use Rattle.lent.specs.Fit.{cap}
+use Rattle.lent.proofs.Fit.{wide}
 use Rattle.format.specs.Job.{Job}
 use Rattle.nest.specs.OfJob.{outline_of}
 use Rattle.spec.specs.declared.ids.RowId.{RowId}
@@ -16,7 +17,8 @@ use Rattle.walk.specs.Tour.{stop, fill, chunk, segments_in}
 use Rattle.emit.specs.declared.state.Counts.{Counts}
 use Rattle.emit.specs.Fold as F
 use Rattle.emit.specs.Fold.{stop_out, fill_out, chunk_out, steps_out}
-use Rattle.emit.specs.Did.{Mark, state_of, state_with, Did, DidCounts, DidMark, Fit, Within}
+use Rattle.emit.specs.Did.{Mark, state_of, state_with, Did, DidCounts, DidMark, Within}
+use Rattle.emit.proofs.Did.{Fit}
 use Rattle.emit.proofs.DidLaws.{did_fit, did_small}
 use Rattle.emit.proofs.TookLaws.{did_steps, did_step, step_stop, step_fill, step_chunk}
 use Rattle.repeats.specs.declared.Chunk.{Chunk}

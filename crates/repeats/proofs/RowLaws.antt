@@ -9,7 +9,8 @@ use native.Mathlib.Numerals.{add-one}
 use Rattle.std.proofs.lemmas.Option.{none-some}
 use lib.ListN.{length, get_or, get_or-eq_default}
 use borrow.Author.Tests.{ltb-false, ne_eqb}
-use Rattle.codec.specs.Limits.{any_of, none_of, none_in}
+use Rattle.codec.specs.Limits.{any_of}
+use Rattle.codec.proofs.Limits.{none_of, none_in}
 use Rattle.format.specs.Job.{Job}
 use Rattle.format.specs.Sections.{job_of}
 use Rattle.format.specs.Refusal.{over, large}
@@ -20,12 +21,14 @@ use Rattle.spec.specs.declared.ids.LoopId.{LoopId}
 use Rattle.spec.specs.declared.ids.RowId.{RowId}
 use Rattle.spec.specs.declared.ids.TableId.{TableId}
 use Rattle.std.specs.Prelude.{Option, Some, None}
-use Rattle.nest.specs.Lists.{keep, first, from, up_to}
+use Rattle.nest.specs.Lists.{keep, first, from}
+use Rattle.nest.specs.UpTo.{up_to}
 use Rattle.nest.specs.Outline.{Outline, row_count, repeated}
 use Rattle.nest.specs.Nest.{hooked, repeat_rows}
 use Rattle.nest.specs.Found.{found_by, nest_at, held_at, hooked_at}
 use Rattle.nest.specs.Rising.{Climbs, Parted, rises}
-use Rattle.nest.specs.Ready.{Ready, outline_at}
+use Rattle.nest.specs.Ready.{Ready}
+use Rattle.nest.specs.OutlineAt.{outline_at}
 use Rattle.nest.specs.OfJob.{outline_of}
 use Rattle.nest.proofs.Scan.{keep_alike, keep_none, keep_skip, keep_cut, up_to_all}
 use Rattle.nest.proofs.Bridge.{rows_is, data-count-is}

@@ -14,16 +14,18 @@ use Rattle.format.specs.Job.{Job}
 use Rattle.format.specs.Sections.{job_of}
 use Rattle.spec.specs.declared.ids.LoopId.{LoopId}
 use Rattle.spec.specs.declared.ids.TableId.{TableId}
-use Rattle.nest.specs.Lists.{keep, up_to}
+use Rattle.nest.specs.Lists.{keep}
+use Rattle.nest.specs.UpTo.{up_to}
 use Rattle.nest.specs.Nest.{repeat_rows}
 use Rattle.nest.specs.Found.{hooked_at}
-use Rattle.nest.specs.Ready.{outline_at}
+use Rattle.nest.specs.OutlineAt.{outline_at}
 use Rattle.walk.specs.Nested.{Nested}
 use Rattle.walk.specs.Tour.{Step, stop, fill, chunk, segments_in, repeat_steps}
 use Rattle.walk.proofs.Counts.{segments_append}
 use Rattle.emit.specs.declared.state.Counts.{Counts}
 use Rattle.emit.specs.Fold.{steps_out}
-use Rattle.emit.specs.Did.{Mark, state_with, DidMark, Fit, Within}
+use Rattle.emit.specs.Did.{Mark, state_with, DidMark, Within}
+use Rattle.emit.proofs.Did.{Fit}
 use Rattle.emit.proofs.TookLaws.{did_steps, took_none}
 use Rattle.repeat_segment.specs.declared.planned.Planned.{Planned}
 use Rattle.repeats.specs.declared.Table.{Table}

@@ -1,14 +1,16 @@
+-- Not to be believed: words of inner contracts, on which no contract of what users call rests.
 -- What the functions of this crate do: the rows of a table, a chunk that rows are added to, and what adding one leaves.
 use Rattle.std.specs.Prelude.{ℕ, ◌+◌, ◌≤◌, ◌<◌, max, ◌≡◌, Bool, List, length, take}
 use Rattle.format.specs.Job.{Job}
 use Rattle.format.specs.Refusal.{rows_of_all}
 use Rattle.format.specs.Sections.{job_of}
 use Rattle.tables.specs.Parts.{rows_before}
-use Rattle.nest.specs.Lists.{keep, up_to}
+use Rattle.nest.specs.Lists.{keep}
+use Rattle.nest.specs.UpTo.{up_to}
 use Rattle.nest.specs.Found.{hooked_at}
 use Rattle.nest.specs.Outline.{row_count}
 use Rattle.nest.specs.Nest.{repeat_rows}
-use Rattle.nest.specs.Ready.{outline_at}
+use Rattle.nest.specs.OutlineAt.{outline_at}
 use Rattle.walk.specs.Tour.{Step, segments_in}
 use Rattle.emit.specs.Fold.{steps_out}
 use Rattle.emit.specs.declared.state.Counts.{Counts}

@@ -1,3 +1,4 @@
+-- Not to be believed: words of inner contracts, on which no contract of what users call rests.
 -- The repeat segments of an instance a row at a time, as code makes them: a row joins the chunk, or the chunk is written and the row
 -- begins the next one (write/emit.rs; that these are the steps of `repeat_steps` is `repeat_rows_lem` in proofs/GoingLaws).
 use Rattle.std.specs.Prelude.{ℕ, ◌+◌, Bool, true, false, ◌&&◌, List, [], ◌∷◌, ◌++◌, ltb}

@@ -3,7 +3,8 @@
 
 ghost use Rattle.std.specs.Prelude.{◌≡◌, true, false, ◌&&◌, List, [], ◌∷◌, ◌++◌, ℕ, ◌+◌, ◌≤◌, ◌<◌, max, length, take, set, ltb};
 ghost use Rattle.lent.specs.Fit.{cap};
-ghost use Rattle.nest.specs.Lists.{keep, up_to};
+ghost use Rattle.nest.specs.Lists.{keep};
+ghost use Rattle.nest.specs.UpTo.{up_to};
 ghost use Rattle.nest.specs.Outline.{row_count, repeated};
 ghost use Rattle.nest.specs.Found.{hooked_at};
 ghost use Rattle.walk.specs.Tour.{stop, fill, chunk, segments_in, repeat_steps};

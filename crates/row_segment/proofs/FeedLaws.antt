@@ -4,7 +4,8 @@ use mathlib.Core.Path.{◌≡◌, sym, ap, ◌∙◌}
 use mathlib.Core.Bool.{true}
 use mathlib.Core.List.{List, [], ◌++◌, append-nil}
 use native.Mathlib.Omega.{arith}
-use Rattle.lent.specs.Fit.{stretch, more, Noted}
+use Rattle.lent.specs.Window.{stretch, Noted}
+use Rattle.lent.specs.Fit.{more}
 use Rattle.format.specs.Passed.{Passed}
 use Rattle.format.specs.Sections.{job_of}
 use Rattle.format.specs.Refusal.{separators}
@@ -18,7 +19,8 @@ use Rattle.std.specs.Result.{result_err}
 use Rattle.texts.specs.declared.Text.{Text}
 use Rattle.texts.specs.declared.render.Refused.{Refused}
 use Rattle.texts.specs.Held.{held}
-use Rattle.texts.specs.Reason.{Outcome, gives, text_of, why_in, Says}
+use Rattle.texts.specs.Reason.{Outcome, gives}
+use Rattle.texts.specs.Said.{text_of, why_in, Says}
 use Rattle.spec.specs.declared.ids.Stretch.{Stretch}
 use Rattle.spec.specs.Answers.{stretch_of}
 use Rattle.segment.specs.declared.Separators.{Separators}

@@ -5,17 +5,19 @@ use Rattle.std.specs.Prelude.{Some, None}
 use mathlib.Core.List.{List, [], ◌∷◌, ◌++◌}
 use native.Mathlib.Omega.{arith}
 use lib.ListN.{length}
-use Rattle.lent.specs.Fit.{cap, base, wide, more, StoredAt}
+use Rattle.lent.specs.Fit.{cap, more, StoredAt}
+use Rattle.lent.specs.Window.{base}
+use Rattle.lent.proofs.Fit.{wide}
 use Rattle.lent.proofs.Laws.{stored_none, stored_append, stored_length, stored_small}
 use Rattle.format.specs.Plan.{ElementPlan, Value, from_column, from_group, from_code}
 use Rattle.format.specs.Sections.{job_of}
 use Rattle.spec.specs.declared.ids.Stretch.{Stretch}
 use Rattle.segment.specs.Parts.{Part, pick, is_empty, highest, last_element}
-use Rattle.segment.specs.Pen.{value_text}
+use Rattle.segment.specs.Values.{value_text}
 use Rattle.nest.specs.Finding.{cell}
 use Rattle.emit.specs.declared.cells.Written.{Written}
 use Rattle.emit.specs.Puts.{Put, and_put, put_all, place_of, held_in, unwritten, put_cell, row_put}
-use Rattle.texts.specs.Reason.{why_in}
+use Rattle.texts.specs.Said.{why_in}
 use Rattle.emit.specs.Written.{Writes, words_of, tried}
 use Rattle.emit.proofs.FindingLaws.{stored_findings, none_stored}
 use Rattle.emit.proofs.PutLaws.{highest_append, cell_findings}

@@ -6,7 +6,9 @@ use Rattle.std.specs.declared.option.Option.{Option}
 use mathlib.Core.List.{List, [], ◌∷◌, ◌++◌}
 use native.Mathlib.Omega.{arith}
 use lib.ListN.{length}
-use Rattle.lent.specs.Fit.{base, cap, wide, more, stretch, Stored, StoredAt}
+use Rattle.lent.specs.Window.{base, stretch}
+use Rattle.lent.specs.Fit.{cap, more, Stored, StoredAt}
+use Rattle.lent.proofs.Fit.{wide}
 use Rattle.lent.proofs.Laws.{stored_none, stored_append, stored_length, stored_small}
 use Rattle.codec.specs.Skip.{Is}
 use Rattle.codec.specs.Field.{Stands as StandsIn}
@@ -19,7 +21,8 @@ use Rattle.plan.specs.Answers.{element_of, ElementRead}
 use Rattle.segment.specs.declared.Separators.{Separators}
 use Rattle.segment.specs.declared.Pen.{Pen}
 use Rattle.segment.specs.Parts.{Part, component_of, joined}
-use Rattle.segment.specs.Pen.{opened, closing, Penned}
+use Rattle.segment.specs.Values.{opened, closing}
+use Rattle.segment.specs.Pen.{Penned}
 use Rattle.segment.specs.Calls.{Behind, Rises, Fed, done, part}
 use Rattle.segment.proofs.Fed.{fed_stored}
 use Rattle.emit.specs.Fold.{separators_of}

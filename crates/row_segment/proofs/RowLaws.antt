@@ -5,13 +5,17 @@ use Rattle.std.specs.Prelude.{Some, None}
 use mathlib.Core.List.{List}
 use borrow.Author.Tests.{lt-ltb}
 use lib.ListN.{length}
-use Rattle.lent.specs.Fit.{cap, wide, more, stretch, Stored}
+use Rattle.lent.specs.Fit.{cap, more, Stored}
+use Rattle.lent.proofs.Fit.{wide}
+use Rattle.lent.specs.Window.{stretch}
 use Rattle.lent.proofs.Laws.{stored_length}
 use Rattle.segment.specs.declared.Separators.{Separators}
 use Rattle.segment.specs.declared.Pen.{Pen}
 use Rattle.segment.specs.Parts.{joined}
-use Rattle.segment.specs.Pen.{opened, closing, Penned}
-use Rattle.segment.specs.Calls.{Group, next, finish, Row, group, close, stays}
+use Rattle.segment.specs.Values.{opened, closing}
+use Rattle.segment.specs.Pen.{Penned}
+use Rattle.segment.specs.Group.{Group, next, finish}
+use Rattle.segment.specs.Calls.{Row, group, close, stays}
 use Rattle.segment.proofs.Runs.{run_stored}
 use Rattle.format.specs.Sections.{job_of}
 use Rattle.spec.specs.Answers.{stretch_of}

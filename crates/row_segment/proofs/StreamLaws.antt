@@ -9,7 +9,8 @@ use native.Mathlib.Omega.{arith}
 use lib.ListN.{length, get_or}
 use Rattle.codec.specs.Skip.{Is}
 use Rattle.codec.specs.Field.{Stands as StandsIn}
-use Rattle.format.specs.Plan.{ElementPlan as ElementPlanIn, element_plan_c, no_element_plan}
+use Rattle.format.specs.Plan.{ElementPlan as ElementPlanIn, element_plan_c}
+use Rattle.format.specs.NoElement.{no_element_plan}
 use Rattle.format.specs.Passed.{Passed}
 use Rattle.format.specs.Sections.{job_of}
 use Rattle.format.specs.Ask.{loop_of, planned_of, identifier_of}
@@ -18,7 +19,8 @@ use Rattle.spec.specs.Answers.{Holds}
 use Rattle.plan.specs.declared.answers.ElementPlan.{ElementPlan}
 use Rattle.plan.specs.Answers.{element_of, ElementRead}
 use Rattle.plan.specs.Index.{PlanIndexed}
-use Rattle.plan.specs.Elements.{Elements, ElementStep, element_stands, element_step}
+use Rattle.plan.specs.Elements.{Elements, ElementStep}
+use Rattle.plan.proofs.Elements.{element_stands, element_step}
 use Rattle.segment.specs.Parts.{Part}
 use Rattle.emit.specs.Puts.{Put, nothing, and_put, part_at, put_cell, row_put}
 use Rattle.emit.proofs.PutLaws.{put_next, put_end}

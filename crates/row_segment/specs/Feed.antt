@@ -1,6 +1,8 @@
+-- Not to be believed: words of inner contracts, on which no contract of what users call rests.
 -- A part of a row segment, as code writes and notes it where the parts come in the order of their places.
 use Rattle.std.specs.Prelude.{ℕ, ◌+◌, ◌≡◌, List}
-use Rattle.lent.specs.Fit.{base, StoredAt}
+use Rattle.lent.specs.Window.{base}
+use Rattle.lent.specs.Fit.{StoredAt}
 use Rattle.segment.specs.declared.Separators.{Separators}
 use Rattle.segment.specs.declared.Pen.{Pen}
 use Rattle.segment.specs.Parts.{or_one}

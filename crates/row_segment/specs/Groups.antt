@@ -1,11 +1,13 @@
+-- Not to be believed: words of inner contracts, on which no contract of what users call rests.
 -- The parts of a row segment at one element, as code looks through them.
 use Rattle.std.specs.Prelude.{ℕ, ◌<◌, ◌≡◌, List, length, Some}
 use Rattle.lent.specs.Fit.{Stored}
 use Rattle.segment.specs.declared.Separators.{Separators}
 use Rattle.segment.specs.declared.Pen.{Pen}
 use Rattle.segment.specs.Parts.{here, after, last_component, component_text}
-use Rattle.segment.specs.Pen.{closing}
-use Rattle.segment.specs.Calls.{Group, Row}
+use Rattle.segment.specs.Values.{closing}
+use Rattle.segment.specs.Group.{Group}
+use Rattle.segment.specs.Calls.{Row}
 use Rattle.row_segment.specs.declared.parts.Line.{Line}
 use Rattle.row_segment.specs.declared.parts.Look.{Look}
 use Rattle.row_segment.specs.declared.parts.Planned.{Planned}

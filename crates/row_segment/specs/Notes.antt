@@ -1,6 +1,8 @@
+-- Not to be believed: words of inner contracts, on which no contract of what users call rests.
 -- What is noted of the parts of a row segment.
 use Rattle.std.specs.Prelude.{ℕ, ◌+◌, ◌≤◌, ◌<◌, max, ◌≡◌, List, length}
-use Rattle.lent.specs.Fit.{base, cap, StoredAt}
+use Rattle.lent.specs.Window.{base}
+use Rattle.lent.specs.Fit.{cap, StoredAt}
 use Rattle.format.specs.Sections.{job_of}
 use Rattle.format.specs.Refusal.{separators}
 use Rattle.segment.specs.Parts.{last_element}

@@ -1,3 +1,4 @@
+-- Not to be believed: words of inner contracts, on which no contract of what users call rests.
 -- The parts of a row segment as code goes through them: what its planned elements put from some number on.
 use Rattle.std.specs.Prelude.{ℕ, suc, ◌-◌, ◌≤◌, ◌<◌, ◌≡◌, List, length, drop, Some, None, Option}
 use Rattle.format.specs.Plan.{ElementPlan}

@@ -1,6 +1,7 @@
 // A part that is written and noted as it comes, by what gives it its text.
 ghost use Rattle.std.specs.Prelude.{◌≡◌, true, ◌<◌, Some};
-ghost use Rattle.lent.specs.Fit.{stretch, more};
+ghost use Rattle.lent.specs.Window.{stretch};
+ghost use Rattle.lent.specs.Fit.{more};
 ghost use Rattle.format.specs.Ask.{data_of};
 ghost use Rattle.format.specs.Refusal.{separators};
 ghost use Rattle.column.specs.Cell.{cell_of};

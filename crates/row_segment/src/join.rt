@@ -2,7 +2,7 @@
 ghost use Rattle.std.specs.Prelude.{◌≡◌, ◌≤◌, ◌<◌};
 ghost use Rattle.lent.specs.Fit.{cap, Stored};
 ghost use Rattle.segment.specs.Parts.{here, component_text, joined};
-ghost use Rattle.segment.specs.Pen.{value_text, closing};
+ghost use Rattle.segment.specs.Values.{value_text, closing};
 ghost use Rattle.emit.specs.Fold.{separators_of};
 ghost use Rattle.row_segment.specs.Stream.{Lined, Sees, ahead, puts, id_of};
 ghost use Rattle.row_segment.specs.Groups.{Scans, Steps, Rows};

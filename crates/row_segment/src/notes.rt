@@ -1,7 +1,8 @@
 // What the parts of a row segment are noted for: the findings on their texts, their trace entries, the last filled element.
 ghost use Rattle.std.specs.Prelude.{◌≡◌, ◌≤◌, ◌<◌};
-ghost use Rattle.lent.specs.Fit.{base, cap, more, StoredAt, Noted};
-ghost use Rattle.texts.specs.Reason.{why_in};
+ghost use Rattle.lent.specs.Window.{base, Noted};
+ghost use Rattle.lent.specs.Fit.{cap, more, StoredAt};
+ghost use Rattle.texts.specs.Said.{why_in};
 ghost use Rattle.spec.specs.Answers.{Holds};
 ghost use Rattle.nest.specs.Finding.{cell};
 ghost use Rattle.emit.specs.Puts.{place_of, unwritten};

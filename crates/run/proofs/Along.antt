@@ -11,7 +11,8 @@ use Rattle.walk.proofs.Counts.{segments_append}
 use Rattle.emit.specs.declared.state.State.{State}
 use Rattle.emit.specs.declared.state.Taken.{Taken}
 use Rattle.emit.specs.Fold.{steps_out}
-use Rattle.emit.specs.Did.{state_of, Did, Fit, Small, Took}
+use Rattle.emit.specs.Did.{state_of, Did, Small, Took}
+use Rattle.emit.proofs.Did.{Fit}
 use Rattle.emit.proofs.DidLaws.{did_nothing, did_small}
 use Rattle.emit.proofs.TookLaws.{steps_none, did_steps}
 use Rattle.run.specs.Went.{Went}

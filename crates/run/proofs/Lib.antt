@@ -4,3 +4,4 @@ pub mod Few
 pub mod Along
 pub mod Walking
 pub mod Touring
+pub mod Went

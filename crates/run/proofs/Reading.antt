@@ -6,14 +6,15 @@ use native.Mathlib.Omega.{arith}
 use Rattle.std.specs.Prelude.{Option, Some, None, is_some}
 use Rattle.format.specs.Job.{Job}
 use Rattle.format.specs.Sections.{job_of}
-use Rattle.format.specs.Passed.{Passed, few}
+use Rattle.format.specs.Passed.{Passed}
+use Rattle.format.proofs.Passed.{few}
 use Rattle.format.specs.Ask as A
 use Rattle.spec.specs.Answers.{control_of, text_of, HoldsText}
 use Rattle.spec.specs.declared.ids.ControlRule.{ControlRule}
 use Rattle.spec.specs.declared.ids.Stretch.{Stretch}
 use Rattle.nest.specs.Outline.{loop_of, row_count}
 use Rattle.nest.specs.OfJob.{outline_of, is_there}
-use Rattle.nest.specs.Ready.{outline_at}
+use Rattle.nest.specs.OutlineAt.{outline_at}
 use Rattle.nest.proofs.Bridge.{controlled_is, ends_is, data-count-is}
 use Rattle.nest.proofs.Sizes.{rows_past}
 use Rattle.nest.proofs.Stored.{row_there}

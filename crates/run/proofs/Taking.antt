@@ -13,7 +13,7 @@ use Rattle.format.specs.Plan as P
 use Rattle.format.specs.Job.{Job}
 use Rattle.format.specs.Sections.{job_of}
 use Rattle.format.specs.Ask as A
-use Rattle.format.specs.Passed.{few}
+use Rattle.format.proofs.Passed.{few}
 use Rattle.lent.specs.Fit.{cap}
 use Rattle.spec.specs.declared.ids.RowId.{RowId}
 use Rattle.spec.specs.declared.ids.TableId.{TableId}
@@ -25,7 +25,8 @@ use Rattle.nest.specs.Outline.{Outline, row_table, kind_of, loop_of, planned, ha
 use Rattle.std.specs.Prelude.{Option, Some, None}
 use Rattle.nest.specs.Nest.{Row, row_of, repeat_rows}
 use Rattle.nest.specs.OfJob.{outline_of, kind_in, source_in}
-use Rattle.nest.specs.Ready.{Ready, outline_at}
+use Rattle.nest.specs.Ready.{Ready}
+use Rattle.nest.specs.OutlineAt.{outline_at}
 use Rattle.nest.proofs.Bridge.{kind_is, planned_is, source_is}
 use Rattle.nest.proofs.Placing.{rows_few}
 use Rattle.walk.specs.declared.Context.{Context as Kept}

@@ -10,7 +10,7 @@ use Rattle.format.specs.Sections.{job_of}
 use Rattle.lent.specs.Fit.{cap}
 use Rattle.nest.specs.Lists.{each}
 use Rattle.nest.specs.OfJob.{outline_of}
-use Rattle.nest.specs.Ready.{outline_at}
+use Rattle.nest.specs.OutlineAt.{outline_at}
 use Rattle.nest.proofs.Bridge.{loop_count_is, roots_is}
 use Rattle.nest.proofs.Scan.{each_at, each_past}
 use Rattle.walk.specs.declared.Context.{Context as Kept}
@@ -23,7 +23,8 @@ use Rattle.walk.proofs.ContextLaws.{stands_outside}
 use Rattle.walk.proofs.NestedLaws.{sound_outside}
 use Rattle.emit.specs.declared.state.State.{State}
 use Rattle.emit.specs.Fold.{steps_out}
-use Rattle.emit.specs.Did.{state_of, Did, Fit, Small}
+use Rattle.emit.specs.Did.{state_of, Did, Small}
+use Rattle.emit.proofs.Did.{Fit}
 use Rattle.run.specs.declared.Visited.{Visited}
 use Rattle.run.specs.Went.{Walks, Went}
 use Rattle.nest.proofs.Small.{root_small}

@@ -10,7 +10,9 @@ use Rattle.format.specs.Layout as L
 use Rattle.format.specs.Job.{Job}
 use Rattle.format.specs.Sections.{job_of}
 use Rattle.format.specs.Ask as A
-use Rattle.format.specs.Passed.{Passed, few}
+use Rattle.format.specs.Orders
+use Rattle.format.specs.Passed.{Passed}
+use Rattle.format.proofs.Passed.{few}
 use Rattle.lent.specs.Fit.{cap}
 use Rattle.spec.specs.declared.ids.LoopId.{LoopId}
 use Rattle.plan.specs.Answers.{item_of}
@@ -20,7 +22,7 @@ use Rattle.nest.specs.Lists.{each}
 use Rattle.nest.specs.Outline.{Outline, Item, segment, loop, kind_of, order_of, row_count}
 use Rattle.nest.specs.Nest.{Row}
 use Rattle.nest.specs.OfJob.{outline_of, item_in}
-use Rattle.nest.specs.Ready.{outline_at}
+use Rattle.nest.specs.OutlineAt.{outline_at}
 use Rattle.nest.proofs.Scan.{each_at, each_past}
 use Rattle.nest.proofs.Placing.{rows_few}
 use Rattle.walk.specs.Instances.{Context, instances}
@@ -31,10 +33,12 @@ use Rattle.emit.specs.declared.state.State.{State}
 use Rattle.emit.specs.declared.state.Taken.{Taken}
 use Rattle.emit.specs.Fold as F
 use Rattle.emit.specs.Fold.{step_out, steps_out}
-use Rattle.emit.specs.Did.{state_of, Did, Fit, Small, Took}
+use Rattle.emit.specs.Did.{state_of, Did, Small, Took}
+use Rattle.emit.proofs.Did.{Fit}
 use Rattle.emit.proofs.TookLaws.{did_steps, took_none}
 use Rattle.run.specs.declared.Visited.{Visited}
-use Rattle.run.specs.Went.{Went, item_count}
+use Rattle.run.specs.Went.{Went}
+use Rattle.run.proofs.Went.{item_count}
 use Rattle.nest.proofs.Bridge.{order_length, order_item}
 use Rattle.run.proofs.Few.{instances_few, children_few}
 use Rattle.run.proofs.Along.{Along, along_none, along_next, along_end, along_room}
@@ -135,14 +139,14 @@ module _ (j : Job) (h l : ℕ) (c : Context) where
   pub items_none : {s : State} {d g f p : List ℕ} → Small s → ItemsTo 0 s s 0 0 d d g g f f p p
   items_none {s = s} q = rw (← children_all inner (outline_of j) l c) (along_none j (each one (order_of (outline_of j) l)) (children inner (outline_of j) l c) s q)
 
-  module _ {s t : State} {w n : ℕ} {d d₁ g g₁ f f₁ p p₁ : List ℕ} (count k : ℕ) (e : count ≡ length (A.order_of j l)) (a : ItemsTo k s t w n d d₁ g g₁ f f₁ p p₁) where
+  module _ {s t : State} {w n : ℕ} {d d₁ g g₁ f f₁ p p₁ : List ℕ} (count k : ℕ) (e : count ≡ length (Orders.order_of j l)) (a : ItemsTo k s t w n d d₁ g g₁ f f₁ p p₁) where
     pub items_end : count ≤ k
         → Went j (each one (order_of (outline_of j) l)) (children inner (outline_of j) l c) s t (record { written = w; instances = n }) d d₁ g g₁ f f₁ p p₁
     items_end b =
         let q : length (order_of (outline_of j) l) ≤ k = omega (arith, order_length j l, e) in
         along_end (rw (each_past one (order_of (outline_of j) l) k q, children_end inner (outline_of j) l c k q) at a)
 
-    module _ (x : asked.Item) (b : k < count) (y : item_of x ≡ get_or (A.order_of j l) k (L.segment_item 0)) where
+    module _ (x : asked.Item) (b : k < count) (y : item_of x ≡ get_or (Orders.order_of j l) k (L.segment_item 0)) where
       split : Along j (each one (order_of (outline_of j) l)) (children inner (outline_of j) l c) (one (item_in (item_of x)) ++ each one (drop (k + 1) (order_of (outline_of j) l)))
           (item_count inner c (item_in (item_of x)) + children_from inner (outline_of j) l c (k + 1)) s t w n d d₁ g g₁ f f₁ p p₁
       split =
@@ -247,5 +251,5 @@ module _ {b : List ℕ} (w : Passed b) (h l : ℕ) (c : Context) where
   pub few_instances : length (instances (outline_at b) h l c) ≤ 4096
   few_instances = instances_few (outline_at b) 4096 (omega arith) rows_in_lem h l c
 
-  pub few_children : children (instances (outline_at b) h) (outline_at b) l c ≤ length (A.order_of (job_of b) l) * 4096
+  pub few_children : children (instances (outline_at b) h) (outline_at b) l c ≤ length (Orders.order_of (job_of b) l) * 4096
   few_children = omega (arith, children_few (outline_at b) 4096 (omega arith) rows_in_lem h l c, ap (λ k. k * 4096) (order_length (job_of b) l))

@@ -1,12 +1,12 @@
+-- Not to be believed: words of inner contracts, on which no contract of what users call rests.
 -- What the walk asks for and what it did (write/emit.rs, `run` and `instance`).
-use Rattle.std.specs.Prelude.{ℕ, ◌<◌, ◌≡◌, List, [], ◌∷◌, length, Some, None, Option}
+use Rattle.std.specs.Prelude.{ℕ, ◌<◌, ◌≡◌, List, [], ◌∷◌, Some, None, Option}
 use Rattle.format.specs.Job.{Job}
 use Rattle.spec.specs.declared.ids.RowId.{RowId}
 use Rattle.spec.specs.declared.ids.TableId.{TableId}
-use Rattle.nest.specs.Outline.{Outline, Item, segment, loop}
+use Rattle.nest.specs.Outline.{Outline}
 use Rattle.nest.specs.Nest.{Row}
 use Rattle.walk.specs.declared.Context.{Context as Kept}
-use Rattle.walk.specs.Instances.{Context}
 use Rattle.walk.specs.Contexts.{context_by}
 use Rattle.walk.specs.Nested.{Sound}
 use Rattle.walk.specs.Tour.{Step, opener, row_segment, repeat_steps}
@@ -27,11 +27,6 @@ pub record Walks (o : Outline) (s : State) (l : ℕ) (c : Kept) : Type 0 where
 pub record Went (j : Job) (xs : List Step) (n : ℕ) (s t : State) (r : Visited) (d d' g g' f f' p p' : List ℕ) : Type 0 where
   pub took : Took j xs s (record { state = t; written = r.written }) d d' g g' f f' p p'
   pub instances : r.instances ≡ n
-
--- how many child instances an item gives
-abbrev pub item_count : (ℕ → Context → List Context) → Context → Item → ℕ
-item_count inner c (segment i) = 0
-item_count inner c (loop k) = length (inner k c)
 
 -- the row that opened an instance, as an answer of code
 abbrev pub owner_by : Option Owner → Option Row

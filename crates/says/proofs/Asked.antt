@@ -9,7 +9,8 @@ use borrow.Author.Tests.{ltb-true, ltb-false}
 use Rattle.std.specs.Prelude.{Option, Some, None, is_some, not}
 use Rattle.std.proofs.Common.{subst}
 use Rattle.codec.specs.Codec.{Codec}
-use Rattle.codec.specs.Skip.{skip, steps, steps_last}
+use Rattle.codec.specs.Skip.{skip, steps}
+use Rattle.codec.proofs.Skip.{steps_last}
 use Rattle.says.specs.Says.{NotFound, Found, Searched, SearchedTo, Passed, Stopped, Walked}
 
 -- k places are asked, none of them found, and q is the next

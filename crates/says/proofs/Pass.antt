@@ -6,7 +6,8 @@ use mathlib.Core.Bool.{Bool, true, false}
 use native.Mathlib.Omega.{arith}
 use Rattle.codec.specs.Codec.{Codec, Got, got, bad, bind, pick, le_c, list_c, when_c, ◌⊗◌}
 use Rattle.codec.specs.Forms.{num_c, bytes_c}
-use Rattle.codec.specs.Skip.{after, skip, steps, count_at, Is, list_start, list_again, list_done}
+use Rattle.codec.specs.Skip.{after, skip, steps, count_at, Is}
+use Rattle.codec.proofs.Skip.{list_start, list_again, list_done}
 use Rattle.codec.specs.Maps.{num_map_c, bytes_map_c, rises_from, rises_after}
 use Rattle.codec.specs.Limits.{any, any_of}
 use Rattle.std.specs.Prelude.{Option, Some, None, is_some, not}

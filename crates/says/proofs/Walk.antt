@@ -10,10 +10,12 @@ use lib.Dec.{ltb, eqb}
 use borrow.Author.Tests.{eq-eqb, ne_eqb, lt-ltb, le-ltb}
 use Rattle.codec.specs.Codec.{Codec, got, pick, le_c, list_c, le}
 use Rattle.codec.specs.Forms.{opt_c, num_c, byte_c}
-use Rattle.codec.specs.Skip.{skip, steps, count_at, tag_at, Is, skip_le}
-use Rattle.codec.specs.Field.{ListIs, is_list, is_in, is_none, is_some, count_list, is_le}
-use Rattle.codec.specs.Ways.{tag_in, tag_case}
-use Rattle.codec.specs.Limits.{any, alone, any_of}
+use Rattle.codec.specs.Skip.{skip, steps, count_at, tag_at, Is}
+use Rattle.codec.proofs.Skip.{skip_le}
+use Rattle.codec.proofs.Field.{ListIs, is_list, is_in, is_none, is_some, count_list, is_le}
+use Rattle.codec.proofs.Ways.{tag_in, tag_case}
+use Rattle.codec.specs.Limits.{any, any_of}
+use Rattle.codec.proofs.Limits.{alone}
 use Rattle.format.specs.Words.{if_some, present}
 use Rattle.says.specs.Says.{Says, Rest}
 

@@ -1,3 +1,4 @@
+-- Not to be believed: words of inner contracts, on which no contract of what users call rests.
 -- What a test answers: of whatever stands at a place, what the definition says of it.
 use Rattle.std.specs.Prelude.{ℕ, zero, suc, ◌<◌, ◌^◌, ◌≡◌, List, [], ◌∷◌, Bool, true, false, length, get_or, Option, Some, None}
 use Rattle.codec.specs.Codec.{Codec, pick}

@@ -12,7 +12,8 @@ use Rattle.segment.specs.declared.Separators.{Separators}
 use Rattle.segment.specs.Joining.{component_bytes, kept_on, trimmed}
 use Rattle.segment.specs.Grammar.{Segment, All, Without, Plain, Apart, Grammatical, Reads, document_bytes}
 use Rattle.segment.specs.Reading.{Parts, cut}
-use Rattle.segment.specs.Places.{text_at, place, components_of, component, elements_at, Planned, written, Clear, AsPlanned, Match}
+use Rattle.segment.specs.Places.{text_at, place, components_of, component, Match}
+use Rattle.segment.proofs.Places.{elements_at, Planned, written, Clear, AsPlanned}
 use Rattle.segment.proofs.Cuts.{all_append, all_map, behind_without, cut_joined}
 use Rattle.segment.proofs.OneReading.{written_reads, written_once}
 

@@ -8,7 +8,7 @@ use Rattle.lent.proofs.Laws.{stored_length}
 use Rattle.segment.specs.declared.Separators.{Separators}
 use Rattle.segment.specs.declared.Pen.{Pen}
 use Rattle.segment.specs.Pen.{placed, finished, Penned}
-use Rattle.segment.specs.Calls.{Group, next, finish}
+use Rattle.segment.specs.Group.{Group, next, finish}
 
 abbrev pub GroupSoFar : Separators → ℕ → (ℕ → List ℕ) → ℕ → Pen → List ℕ → ℕ → Pen → List ℕ → Type 0
 GroupSoFar s k f p pen d c t d₁ = (c ≤ k + 1) × (length d₁ ≡ length d) × ((r : Pen) (d₂ : List ℕ) → Group s k f p c t d₁ r d₂ → Group s k f p 1 pen d r d₂)

@@ -15,7 +15,7 @@ use Rattle.segment.specs.declared.Pen.{Pen}
 use Rattle.segment.specs.Joining.{behind, component_bytes, segment_bytes, kept_on, trimmed}
 use Rattle.segment.specs.Parts.{is_empty, texts}
 use Rattle.segment.specs.Pen.{due, placed, ending}
-use Rattle.segment.specs.Calls.{Group, next, finish}
+use Rattle.segment.specs.Group.{Group, next, finish}
 use Rattle.segment.specs.Elements.{Elements, OneMore}
 use Rattle.segment.proofs.Strokes.{anew, finished_some, finished_none}
 use Rattle.segment.proofs.Pending.{replicate_snoc, behind_empty, inside, components, inside_step, inside_finish, Room, room_first, room_next}

@@ -12,8 +12,10 @@ use Rattle.lent.proofs.Laws.{stored_append, stored_length, stored_small}
 use Rattle.segment.specs.declared.Separators.{Separators}
 use Rattle.segment.specs.declared.Pen.{Pen}
 use Rattle.segment.specs.Parts.{Part, pick, is_empty, component_of, highest, last_element, last_component, here, after, component_text, joined}
-use Rattle.segment.specs.Pen.{nothing, placed, finished, opened, closing, due, Penned}
-use Rattle.segment.specs.Calls.{Group, next, finish, Row, group, close, stays, Rises, Fed, done, part}
+use Rattle.segment.specs.Pen.{nothing, placed, finished, due, Penned}
+use Rattle.segment.specs.Values.{opened, closing}
+use Rattle.segment.specs.Group.{Group, next, finish}
+use Rattle.segment.specs.Calls.{Row, group, close, stays, Rises, Fed, done, part}
 use Rattle.segment.proofs.Runs.{run_stored}
 
 -- ---- lengths and places

@@ -14,7 +14,8 @@ use Rattle.segment.specs.Joining.{component_bytes, segment_bytes}
 use Rattle.segment.specs.Parts.{Part, pick, is_empty, rank, is_plain, or_one, component_of, highest, last_element, last_component, here, after, all_plain, first_text, component_text, texts, element_text, elements_from, elements_of, joined}
 use Rattle.segment.specs.Grammar.{Segment, All, Without, Plain, Apart, Reads, document_bytes}
 use Rattle.segment.specs.Reading.{read_document}
-use Rattle.segment.specs.Places.{place, component, elements_at, Planned, written, Clear, AsPlanned, Match}
+use Rattle.segment.specs.Places.{place, component, Match}
+use Rattle.segment.proofs.Places.{elements_at, Planned, written, Clear, AsPlanned}
 use Rattle.segment.specs.ReadParts.{Due, joined_all, text_of, PlainAt, ComposedAt, RisesFrom, Free, ReadAs}
 use Rattle.segment.proofs.Groups.{texts_same}
 use Rattle.segment.proofs.Rows.{highest_tail, component_past}

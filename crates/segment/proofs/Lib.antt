@@ -21,3 +21,5 @@ pub mod Sorted
 pub mod Placed
 pub mod Steps
 pub mod Examples
+pub mod Calls
+pub mod Places

@@ -9,7 +9,9 @@ use borrow.Author.Tests.{eq-eqb, ne_eqb, lt-ltb, le-ltb}
 use Rattle.segment.specs.Parts.{Part, pick, is_empty, component_of, highest, last_component, here, after, component_text}
 use Rattle.segment.specs.declared.Separators.{Separators}
 use Rattle.segment.specs.declared.Pen.{Pen}
-use Rattle.segment.specs.Calls.{numbered, up_to, Group, Row, group, stays, stands_at, first_at, zero_free}
+use Rattle.segment.proofs.Calls.{numbered, up_to}
+use Rattle.segment.specs.Group.{Group}
+use Rattle.segment.specs.Calls.{Row, group, stays, stands_at, first_at, zero_free}
 use Rattle.segment.proofs.Rows.{here_same, here_other, after_same, after_other}
 
 pub up_some : (part : ℕ → Part) (i e : ℕ) → i < e → up_to part i e ≡ part i ∷ up_to part (i + 1) e

@@ -9,7 +9,8 @@ use lib.ListN.{replicate, replicate-append-replicate}
 use Rattle.segment.specs.declared.Separators.{Separators}
 use Rattle.segment.specs.declared.Pen.{Pen}
 use Rattle.segment.specs.Joining.{behind, component_bytes, line_feed, segment_bytes}
-use Rattle.segment.specs.Pen.{components_in, due, placed, finished, ending, closing}
+use Rattle.segment.specs.Pen.{components_in, due, placed, finished, ending}
+use Rattle.segment.specs.Values.{closing}
 use Rattle.segment.proofs.Strokes.{anew, still, finished_some}
 
 -- ---- separators and texts behind them

@@ -14,7 +14,8 @@ use borrow.Author.Tests.{eq-eqb, ne_eqb}
 use Rattle.segment.specs.declared.Separators.{Separators}
 use Rattle.segment.specs.declared.read.SegmentAt.TheVariants.{Whole, Nameless, NoTerminator, NoLineFeed, End}
 use Rattle.segment.specs.Joining.{line_feed}
-use Rattle.segment.specs.Reading.{cut, ahead, ahead_at, run, run_at, feed, front, front_of, fronted, by_name}
+use Rattle.segment.specs.Reading.{cut, ahead, ahead_at, feed, front, front_of, fronted, by_name}
+use Rattle.segment.specs.Reader.{run, run_at}
 use Rattle.segment.specs.Reading.Front.{unended}
 use Rattle.segment.specs.ByPlace.{ending_of, starts_feed, named, placed, segment_at}
 use Rattle.segment.proofs.Cuts.{cut_hit, cut_miss}

@@ -13,7 +13,7 @@ use Rattle.segment.specs.declared.Separators.{Separators}
 use Rattle.segment.specs.declared.Pen.{Pen}
 use Rattle.segment.specs.Joining.{component_bytes, segment_bytes}
 use Rattle.segment.specs.Parts.{Part, pick, is_empty, or_one, component_of, rank, highest, last_element, last_component, here, after, component_text, texts, element_text, elements_from, elements_of, joined, insert, sorted, not_behind}
-use Rattle.segment.specs.Pen.{closing}
+use Rattle.segment.specs.Values.{closing}
 use Rattle.segment.specs.Calls.{stays, stands_at, first_at, or_text, repeat_text, component_in, last_component_at, zero_free}
 use Rattle.segment.proofs.Pending.{to_come, come_open, come_close, come_skip}
 use Rattle.segment.proofs.Groups.{texts_some, texts_none, texts_same, group_rest, group_start}

@@ -13,7 +13,8 @@ use Rattle.segment.specs.declared.Separators.{Separators}
 use Rattle.segment.specs.declared.Pen.{Pen}
 use Rattle.segment.specs.Joining.{behind, component_bytes}
 use Rattle.segment.specs.Parts.{Part, rank, pick, is_empty, or_one, is_plain, component_of, highest, last_element, last_component, here, after, all_plain, first_text, component_text, texts, element_text, elements_from, elements_of, joined}
-use Rattle.segment.specs.Pen.{finished, closing}
+use Rattle.segment.specs.Pen.{finished}
+use Rattle.segment.specs.Values.{closing}
 use Rattle.segment.specs.Calls.{stays}
 use Rattle.segment.proofs.Pending.{to_come, come_open, come_past, come_close, come_skip}
 use Rattle.segment.proofs.Groups.{group_rest, group_start, group_past, Among, among_start, after_finish}

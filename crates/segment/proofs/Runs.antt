@@ -11,8 +11,10 @@ use Rattle.lent.proofs.Laws.{stored_append, stored_length}
 use Rattle.segment.specs.declared.Separators.{Separators}
 use Rattle.segment.specs.declared.Pen.{Pen}
 use Rattle.segment.specs.Parts.{Part, last_element, after, texts, elements_from, joined, sorted}
-use Rattle.segment.specs.Pen.{placed, finished, opened, closing, Penned}
-use Rattle.segment.specs.Calls.{Group, next, finish, Row, group, close, Repeat, position, pass, ended, last_component_at, zero_free}
+use Rattle.segment.specs.Pen.{placed, finished, Penned}
+use Rattle.segment.specs.Values.{opened, closing}
+use Rattle.segment.specs.Group.{Group, next, finish}
+use Rattle.segment.specs.Calls.{Row, group, close, Repeat, position, pass, ended, last_component_at, zero_free}
 use Rattle.segment.proofs.Pending.{to_come}
 use Rattle.segment.proofs.Groups.{group_rest, group_next, group_finish, Among, among_start, among_next, after_finish}
 use Rattle.segment.proofs.Rows.{row_rest, row_open, row_group, row_jump, row_close, Under, under_open, under_group, under_jump, after_lower}

@@ -12,7 +12,8 @@ use Rattle.segment.specs.declared.Separators.{Separators}
 use Rattle.segment.specs.declared.Pen.{Pen}
 use Rattle.segment.specs.Joining.{line_feed}
 use Rattle.segment.specs.Parts.{is_empty}
-use Rattle.segment.specs.Pen.{components_in, due, nothing, reached, placed, finished, ending, closing, Penned}
+use Rattle.segment.specs.Pen.{components_in, due, nothing, reached, placed, finished, ending, Penned}
+use Rattle.segment.specs.Values.{closing}
 
 -- ---- separators
 

@@ -8,11 +8,12 @@ use native.Mathlib.Numerals.{add-one}
 use lib.ListN.{length, get_or, take, drop, replicate, length-append, length-replicate, drop_of_length-le}
 use lib.Seq.{drop-cons, get_or-take, get_or-drop}
 use lib.Dec.{eqb, eqb-suc-zero}
-use Rattle.lent.specs.Fit.{cap, more, stretch, Stored}
+use Rattle.lent.specs.Fit.{cap, more, Stored}
+use Rattle.lent.specs.Window.{stretch}
 use Rattle.lent.proofs.Laws.{stored_append, length_stretch}
 use Rattle.segment.specs.declared.Value.{Value}
 use Rattle.segment.specs.Parts.{pick, is_empty}
-use Rattle.segment.specs.Pen.{value_text, holds, holds_any, one_of}
+use Rattle.segment.specs.Values.{value_text, holds, holds_any, one_of}
 
 -- ---- whether a text is empty
 

@@ -1,3 +1,4 @@
+-- Not to be believed: words of inner contracts, on which no contract of what users call rests.
 -- A document read by place: what starts at a place, with the places of its terminator and of what follows.
 use Rattle.std.specs.Prelude.{ℕ, ◌+◌, Bool, false, List, [], ◌∷◌, length, drop, eqb}
 use Rattle.segment.specs.declared.Separators.{Separators}

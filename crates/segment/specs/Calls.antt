@@ -1,30 +1,17 @@
+-- Not to be believed: words of inner contracts, on which no contract of what users call rests.
 -- The calls that write a segment, in the order in which the standard has its places: for the contracts of functions that feed a pen.
 -- What the calls together store is proved in proofs/Runs.antt: the joining of the parts, whatever they are.
-use Rattle.std.specs.Prelude.{ℕ, zero, suc, ◌+◌, ◌-◌, ◌≤◌, ◌<◌, ◌≡◌, Bool, true, false, List, [], ◌∷◌, eqb, ltb, Option, None, Some}
+use Rattle.std.specs.Prelude.{ℕ, suc, ◌+◌, ◌≤◌, ◌<◌, ◌≡◌, Bool, true, false, List, [], ◌∷◌, eqb, ltb, Option, None, Some}
 use Rattle.lent.specs.Fit.{Stored}
 use Rattle.segment.specs.declared.Separators.{Separators}
 use Rattle.segment.specs.declared.Pen.{Pen}
 use Rattle.segment.specs.Parts.{Part, pick, rank, component_of, highest, last_component, here, after, component_text}
 use Rattle.segment.specs.declared.Value.{Value}
-use Rattle.segment.specs.Pen.{value_text, placed, finished, closing, Penned}
-
--- ---- parts that are numbered: `part` gives each
-
--- n parts from number i on
-unfoldable pub numbered : (ℕ → Part) → ℕ → ℕ → List Part
-numbered part zero i = []
-numbered part (suc n) i = part i ∷ numbered part n (i + 1)
-
--- from number i up to e
-abbrev pub up_to : (ℕ → Part) → ℕ → ℕ → List Part
-up_to part i e = numbered part (e - i) i
+use Rattle.segment.specs.Values.{value_text, closing}
+use Rattle.segment.specs.Pen.{placed, Penned}
+use Rattle.segment.specs.Group.{Group}
 
 -- ---- one element
-
--- calls that write element p from component c on, whose texts f gives up to the last filled, k; pen and document before and after
-pub data Group (s : Separators) (k : ℕ) (f : ℕ → List ℕ) (p : ℕ) : ℕ → Pen → List ℕ → Pen → List ℕ → Type 0 where
-  next : {c : ℕ} {pen r t : Pen} {d d₁ d₂ : List ℕ} → c ≤ k → Penned (placed s pen p c (f c)) pen.at r d d₁ → Group s k f p (c + 1) r d₁ t d₂ → Group s k f p c pen d t d₂
-  finish : {c : ℕ} {pen r : Pen} {d d₁ : List ℕ} → c ≡ k + 1 → Penned (finished s pen p k) pen.at r d d₁ → Group s k f p c pen d r d₁
 
 -- who is asked answers each component with its text by f
 abbrev pub Gives : List ℕ → (ℕ → Value → Type 0) → (ℕ → List ℕ) → Type 0

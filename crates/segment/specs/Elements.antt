@@ -6,7 +6,7 @@ use Rattle.segment.specs.declared.Pen.{Pen}
 use Rattle.segment.specs.Joining.{behind, component_bytes, segment_bytes, trimmed}
 use Rattle.segment.specs.Parts.{texts}
 use Rattle.segment.specs.Pen.{ending}
-use Rattle.segment.specs.Calls.{Group}
+use Rattle.segment.specs.Group.{Group}
 
 -- the elements `done`, filled or empty, have been written as `written`
 pub record Elements (s : Separators) (id : List ℕ) (done : List (List ℕ)) (pen : Pen) (written : List ℕ) : Type 0 where

@@ -10,3 +10,6 @@ pub mod ReadParts
 pub mod OneReading
 pub mod Elements
 pub mod Examples
+pub mod Group
+pub mod Reader
+pub mod Values

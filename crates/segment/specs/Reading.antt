@@ -28,15 +28,6 @@ unfoldable pub ahead : ℕ → List ℕ → Option (List ℕ × List ℕ)
 ahead b [] = None
 ahead b (x ∷ xs) = ahead_at (eqb x b) x xs (ahead b xs)
 
-abbrev pub run_at : Bool → ℕ → ℕ
-run_at true n = 0
-run_at false n = suc n
-
--- how many bytes stand ahead of the first b: all of them, where there is none
-unfoldable pub run : ℕ → List ℕ → ℕ
-run b [] = 0
-run b (x ∷ xs) = run_at (eqb x b) (run b xs)
-
 -- ---- the front of a document
 
 pub data Front : Type 0 where

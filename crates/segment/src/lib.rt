@@ -5,10 +5,13 @@ pub mod laws;
 pub mod read;
 
 ghost use Rattle.std.specs.Prelude.{◌≡◌, List, [], ◌++◌, ℕ, ◌+◌, ◌-◌, ◌≤◌, ◌<◌, max, take, replicate};
-ghost use Rattle.lent.specs.Fit.{more, stretch, Stored};
-ghost use Rattle.segment.specs.Calls.{Gives, Group};
+ghost use Rattle.lent.specs.Fit.{more, Stored};
+ghost use Rattle.lent.specs.Window.{stretch};
+ghost use Rattle.segment.specs.Calls.{Gives};
+ghost use Rattle.segment.specs.Group.{Group};
 ghost use Rattle.segment.specs.Parts.{pick, is_empty};
-ghost use Rattle.segment.specs.Pen.{value_text, Plain, holds, holds_any, one_of, components_in, due, placed, finished, opened, ending, closing, Penned};
+ghost use Rattle.segment.specs.Values.{value_text, Plain, holds, holds_any, one_of, opened, closing};
+ghost use Rattle.segment.specs.Pen.{components_in, due, placed, finished, ending, Penned};
 
 // The bytes that part a document, and whether a line feed follows each terminator.
 #[derive(Clone, Copy)]

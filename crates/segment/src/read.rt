@@ -1,6 +1,7 @@
 // Reading a document segment by segment.
 ghost use Rattle.std.specs.Prelude.{◌≡◌, ◌+◌, ◌-◌, ◌<◌, ◌≤◌, length, take, drop};
-ghost use Rattle.segment.specs.Reading.{run, cut};
+ghost use Rattle.segment.specs.Reader.{run};
+ghost use Rattle.segment.specs.Reading.{cut};
 ghost use Rattle.segment.specs.ByPlace.{starts_feed, named, segment_at};
 
 use super::Separators;

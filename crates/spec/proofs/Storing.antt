@@ -10,10 +10,13 @@ use lib.Seq.{get_or-set_same, get_or-set_other}
 use lib.Dec.{ltb}
 use borrow.Author.Tests.{lt-ltb, le-ltb, ltb-true, ltb-false}
 use Rattle.codec.specs.Codec.{Codec, le_c, list_c}
-use Rattle.codec.specs.Skip.{skip, steps, count_at, Is, skip_le, skip_list, steps_last}
-use Rattle.codec.specs.Field.{ListIs, is_list, count_list}
-use Rattle.codec.specs.Rows.{small, is_small}
-use Rattle.spec.specs.Kept.{Kept, kept_same, kept_set, kept_then, kept_wide}
+use Rattle.codec.specs.Skip.{skip, steps, count_at, Is}
+use Rattle.codec.proofs.Skip.{skip_le, skip_list, steps_last}
+use Rattle.codec.proofs.Field.{ListIs, is_list, count_list}
+use Rattle.codec.specs.Rows.{small}
+use Rattle.codec.proofs.Rows.{is_small}
+use Rattle.spec.specs.Kept.{Kept}
+use Rattle.spec.proofs.Kept.{kept_same, kept_set, kept_then, kept_wide}
 use Rattle.spec.specs.Region.{Stored, Listed, Lists, put_item}
 
 -- ---- the items of a list, stored one after the other

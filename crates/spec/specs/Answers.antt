@@ -1,6 +1,7 @@
+-- Not to be believed: words of inner contracts, on which no contract of what users call rests.
 -- What the answers of the accessors stand for.
 use Rattle.std.specs.Prelude.{ℕ, ◌+◌, ◌≤◌, ◌<◌, ◌≡◌, List, Bool, true, false, length, take, drop, Option, None, Some}
-use Rattle.format.specs.Spec.{Usage, required, situational, Counted, count_segments, count_children, Control}
+use Rattle.format.specs.Spec.{Counted, count_segments, count_children, Control}
 use Rattle.spec.specs.declared.ids.Stretch.{Stretch}
 use Rattle.spec.specs.declared.ids.ControlRule.{ControlRule}
 
@@ -47,8 +48,3 @@ rule_of c = record { opener = c.opener; closer = c.closer; count = c.count; coun
 abbrev pub control_of : Option ControlRule → Option Control
 control_of None = None
 control_of (Some c) = Some (rule_of c)
-
--- a loop of which every instance of its parent holds one
-abbrev pub is_required : Usage → Bool
-is_required required = true
-is_required situational = false

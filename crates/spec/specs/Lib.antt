@@ -2,7 +2,6 @@ pub mod Answers
 pub mod Cursor
 pub mod EnvelopeIndex
 pub mod Filled
-pub mod Filling
 pub mod Found
 pub mod Index
 pub mod Kept
@@ -10,5 +9,5 @@ pub mod Reads
 pub mod Region
 pub mod Rows
 pub mod Segments
-pub mod Standing
 pub mod VersionIs
+pub mod Usage

@@ -1,9 +1,8 @@
+-- Not to be believed: words of inner contracts, on which no contract of what users call rests.
 -- What an index holds of a list of a job: its place, then the places of its first 32 items.
-use Rattle.std.specs.Prelude.{ℕ, ◌+◌, ◌*◌, ◌≤◌, ◌<◌, ◌≡◌, refl, List, length, get_or, set, ltb, Option, None, Some}
-use Rattle.std.proofs.Common.{arith}
+use Rattle.std.specs.Prelude.{ℕ, ◌+◌, ◌*◌, ◌≤◌, ◌<◌, ◌≡◌, List, length, get_or, set, ltb, Option, None, Some}
 use Rattle.codec.specs.Codec.{Codec, pick, le, le_c, list_c}
 use Rattle.codec.specs.Skip.{skip, steps, count_at, Is}
-use Rattle.codec.specs.Field.{Stands, is_list, stands_at, stands_list}
 use Rattle.codec.specs.Rows.{small}
 use Rattle.spec.specs.Kept.{Kept}
 
@@ -28,25 +27,6 @@ pub record Listed {A : Type 0} (C : Codec A) (b : List ℕ) (e : ℕ) (idx : Lis
 abbrev pub ItemAt : List ℕ → List ℕ → ℕ → ℕ → Option ℕ → Type 0
 ItemAt b idx k i None = le 4 b (get_or idx k 0) ≤ i
 ItemAt b idx k i (Some p) = (i < le 4 b (get_or idx k 0)) × (p ≡ get_or idx (k + 1 + i) 0) × (p < 4294967296)
-
--- the four bytes of the list's count are there
-pub listed_room : {A : Type 0} (C : Codec A) (b : List ℕ) (e : ℕ) (idx : List ℕ) (k : ℕ) (vs : List A) → e ≤ length b → Listed C b e idx k vs → get_or idx k 0 + 4 ≤ length b
-listed_room C b e idx k vs r l = stands_list C b _ (stands_at (list_c C) b _ _ e vs refl r l.list)
-
--- item i by its place, and that it stands there
-module _ {A : Type 0} (C : Codec A) (b : List ℕ) (e : ℕ) (idx : List ℕ) (k : ℕ) (vs : List A) (l : Listed C b e idx k vs) (i p : ℕ) (d : A) (m : i < 32) (q : ItemAt b idx k i (Some p)) where
-  pub listed_is : Is C b e p (get_or vs i d)
-  listed_is = let c = (is_list C b e _ vs l.list).counted in rw q.1 (l.item i d (omega (arith, q.0, c)) m)
-
-  pub listed_stands : e ≤ length b → Stands C b p
-  listed_stands r = stands_at C b p p e (get_or vs i d) refl r listed_is
-
--- an index that agrees on these numbers holds the same
-pub listed_kept : {A : Type 0} (C : Codec A) (b : List ℕ) (e k : ℕ) (idx new : List ℕ) (vs : List A) → ((i : ℕ) → k ≤ i → i < k + 33 → get_or new i 0 ≡ get_or idx i 0) → Listed C b e idx k vs → Listed C b e new k vs
-listed_kept C b e k idx new vs q h = record {
-  list = rw (q k (omega arith) (omega arith)) h.list;
-  item = λ i d m n. rw (q (k + 1 + i) (omega arith) (omega arith)) (h.item i d m n);
-}
 
 -- the place p of item i stored, if it is among the first 32
 unfoldable pub put_item : List ℕ → ℕ → ℕ → ℕ → List ℕ

@@ -1,3 +1,4 @@
+-- Not to be believed: words of inner contracts, on which no contract of what users call rests.
 -- The numbers that the index holds: the places of the parts of each loop and each table, one row after the other, and those of the envelope.
 use Rattle.std.specs.Prelude.{ℕ, List, [], ◌∷◌}
 use Rattle.codec.specs.Codec.{le_c, ◌⊗◌}
@@ -5,8 +6,7 @@ use Rattle.codec.specs.Skip.{skip, count_at}
 use Rattle.codec.specs.Forms.{bytes_c}
 use Rattle.codec.specs.Rows.{rows, small}
 use Rattle.format.specs.Spec.{loop_c, table_c, segment_c}
-use Rattle.format.specs.Sections.{plan_start}
-use Rattle.format.specs.Fields.{loop_trigger, loop_occurrences, loop_usage, loop_end, loop_control, loop_children, table_segment, table_repeat, table_columns, table_parent, table_ancestors, spec_roots, spec_tables, spec_version}
+use Rattle.format.specs.Fields.{loop_trigger, loop_occurrences, loop_usage, loop_end, loop_control, loop_children, table_segment, table_repeat, table_columns, table_parent, table_ancestors}
 
 -- the parts of a loop that stands at a place
 abbrev pub loop_row : List ℕ → ℕ → ℕ → List ℕ
@@ -15,10 +15,6 @@ loop_row b e at = small at ∷ small (loop_trigger b e at) ∷ small (loop_occur
 -- the parts of a table
 abbrev pub table_row : List ℕ → ℕ → ℕ → List ℕ
 table_row b e at = small at ∷ small (table_segment b e at) ∷ small (table_repeat b e at) ∷ small (table_columns b e at) ∷ small (table_parent b e at) ∷ small (table_ancestors b e at) ∷ []
-
--- the lists of loops, roots and tables, and the version
-unfoldable pub head_row : List ℕ → List ℕ
-head_row b = small 0 ∷ small (spec_roots b (plan_start b) 0) ∷ small (spec_tables b (plan_start b) 0) ∷ small (spec_version b (plan_start b) 0) ∷ []
 
 -- the rows of a list that stands at a place
 unfoldable pub loop_rows : List ℕ → ℕ → ℕ → List ℕ

@@ -2,7 +2,8 @@
 ghost use Rattle.std.specs.Prelude.{◌<◌, ◌≡◌, [], get_or, length};
 ghost use Rattle.format.specs.Sections.{job_of};
 ghost use Rattle.format.specs.Ask.{loop_of};
-ghost use Rattle.spec.specs.Answers.{Holds, HoldsText, control_of, is_required};
+ghost use Rattle.spec.specs.Answers.{Holds, HoldsText, control_of};
+ghost use Rattle.spec.specs.Usage.{is_required};
 ghost use Rattle.spec.specs.Index.{SpecIndexed, row_place};
 
 use crate::Indexed;

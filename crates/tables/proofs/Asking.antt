@@ -11,7 +11,8 @@ use borrow.Author.Tests.{ltb-true, ltb-false}
 use Rattle.codec.specs.Codec.{Codec, le}
 use Rattle.codec.specs.Forms.{opt_c}
 use Rattle.codec.specs.Skip.{skip, Is}
-use Rattle.codec.specs.Field.{Stands, stands_at, is_list, is_le}
+use Rattle.codec.specs.Field.{Stands}
+use Rattle.codec.proofs.Field.{stands_at, is_list, is_le}
 use Rattle.format.specs.Data.{Column, column_c, TableData, table_data_c, no_table_data}
 use Rattle.format.specs.Sections.{job_of, trailer}
 use Rattle.format.specs.Refusal.{rows_of_all}
@@ -19,9 +20,10 @@ use Rattle.format.specs.Ask.{data_of}
 use Rattle.column.specs.Cell.{cell_of, segment_cell, opt_get, key_of, reference_of, reference_in, ref_column}
 use Rattle.column.specs.Answers.{Reads, Within, cell_at}
 use Rattle.column.specs.declared.Cell.TheVariants as cell
-use Rattle.column.specs.Parts.{TableDataIs, is_table_data, absent_cell, absent_key, past_cell}
+use Rattle.column.proofs.Parts.{TableDataIs, is_table_data, absent_cell, absent_key, past_cell}
 use Rattle.tables.specs.Parts.{TableAt, rows_before}
-use Rattle.spec.specs.Region.{ItemAt, listed_is}
+use Rattle.spec.specs.Region.{ItemAt}
+use Rattle.spec.proofs.RegionLaws.{listed_is}
 use Rattle.tables.specs.Index.{TablesIndexed, columns_at}
 
 before_past : (ts : List TableData) (t : ℕ) → length ts ≤ t → rows_before ts (length ts) ≡ rows_before ts t

@@ -12,18 +12,23 @@ use lib.Dec.{ltb}
 use borrow.Author.Tests.{ltb-true, ltb-false}
 use Rattle.codec.specs.Codec.{le, le_c, list_c}
 use Rattle.codec.specs.Forms.{opt_c}
-use Rattle.codec.specs.Skip.{skip, steps, count_at, Is, skip_le, skip_map, skip_pair}
-use Rattle.codec.specs.Field.{is_list, count_list, is_le}
-use Rattle.codec.specs.Rows.{small, is_small}
-use Rattle.codec.specs.Limits.{none_of, none_in}
+use Rattle.codec.specs.Skip.{skip, steps, count_at, Is}
+use Rattle.codec.proofs.Skip.{skip_le, skip_map, skip_pair}
+use Rattle.codec.proofs.Field.{is_list, count_list, is_le}
+use Rattle.codec.specs.Rows.{small}
+use Rattle.codec.proofs.Rows.{is_small}
+use Rattle.codec.proofs.Limits.{none_of, none_in}
 use Rattle.format.specs.Data.{column_c, TableData, table_data_c, no_table_data, data_c}
 use Rattle.format.specs.Sections.{job_of, data_start, trailer}
-use Rattle.format.specs.Decoding.{is_read}
+use Rattle.format.proofs.Decoding.{is_read}
 use Rattle.format.specs.Refusal.{over, over_data, over_table_data, rows_of_all}
-use Rattle.format.specs.Passed.{Passed, few}
+use Rattle.format.specs.Passed.{Passed}
+use Rattle.format.proofs.Passed.{few}
 use Rattle.format.specs.Ask.{data_of}
-use Rattle.column.specs.Parts.{refs_c, is_table_data}
-use Rattle.spec.specs.Kept.{Kept, kept_same, kept_set, kept_then, kept_wide}
+use Rattle.column.specs.Parts.{refs_c}
+use Rattle.column.proofs.Parts.{is_table_data}
+use Rattle.spec.specs.Kept.{Kept}
+use Rattle.spec.proofs.Kept.{kept_same, kept_set, kept_then, kept_wide}
 use Rattle.spec.specs.Region.{Stored, Listed}
 use Rattle.spec.proofs.Storing.{stored_kept, listed, lists_more}
 use Rattle.tables.specs.Parts.{refs_from, columns_from, rows_before, rows_by}

@@ -1,8 +1,8 @@
+-- Not to be believed: words of inner contracts, on which no contract of what users call rests.
 -- The region of data in the index of a job that passed: the place of the list of tables and those of its tables (33 numbers), how many
 -- rows stand before each table and in all (17), for each table the place of its list of columns and those of its columns (33), and how many
 -- tables there are and the place of each one's references (17).
 use Rattle.std.specs.Prelude.{ℕ, ◌+◌, ◌*◌, ◌≤◌, ◌<◌, ◌≡◌, List, length, get_or}
-use Rattle.std.proofs.Common.{◌∙◌, arith}
 use Rattle.codec.specs.Codec.{le_c}
 use Rattle.codec.specs.Forms.{opt_c}
 use Rattle.codec.specs.Skip.{skip, steps, count_at, Is}
@@ -13,7 +13,7 @@ use Rattle.format.specs.Refusal.{rows_of_all}
 use Rattle.format.specs.Ask.{data_of}
 use Rattle.column.specs.Parts.{refs_c}
 use Rattle.spec.specs.Kept.{Kept}
-use Rattle.spec.specs.Region.{Stored, Listed, Lists, listed_kept}
+use Rattle.spec.specs.Region.{Stored, Listed, Lists}
 use Rattle.tables.specs.Parts.{refs_from, columns_from, rows_before}
 
 -- from here on, the columns of a table
@@ -30,22 +30,6 @@ pub record TablesIndexed (b idx : List ℕ) : Type 0 where
   pub count : get_or idx 3202 0 ≡ length (job_of b).tables
   pub refs : (t : ℕ) → t < length (job_of b).tables → Is refs_c b (trailer b) (get_or idx (3203 + t) 0) (data_of (job_of b) t).refs
   pub columns : (t : ℕ) → t < length (job_of b).tables → Listed (opt_c column_c) b (trailer b) idx (columns_at t) (data_of (job_of b) t).columns
-
--- it holds as well of any index that agrees on the region
-pub tables_indexed_kept : (b idx new : List ℕ) → ((i : ℕ) → 2624 ≤ i → i < 4096 → get_or new i 0 ≡ get_or idx i 0) → TablesIndexed b idx → TablesIndexed b new
-tables_indexed_kept b idx new q h =
-    let n = h.few in
-    record {
-      short = h.short;
-      few = n;
-      few_rows = h.few_rows;
-      few_columns = h.few_columns;
-      tables = listed_kept _ _ _ 2624 idx new _ (λ i m o. q i (omega arith) (omega arith)) h.tables;
-      first = λ t m. rw (q (2657 + t) (omega arith) (omega arith)) (h.first t m);
-      count = q 3202 (omega arith) (omega arith) ∙ h.count;
-      refs = λ t m. rw (q (3203 + t) (omega arith) (omega arith)) (h.refs t m);
-      columns = λ t m. listed_kept _ _ _ (columns_at t) idx new _ (λ i o p. q i (omega arith) (omega arith)) (h.columns t m);
-    }
 
 -- the tables, and the columns of each
 abbrev pub DataLists : List ℕ → ℕ → ℕ → ℕ → ℕ → List ℕ → List ℕ → Type 0

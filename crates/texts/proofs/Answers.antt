@@ -6,7 +6,8 @@ use Rattle.texts.specs.declared.render.Refused.TheVariants.{Year, Window, Day, S
 use Rattle.texts.specs.declared.Text.{Text}
 use Rattle.texts.specs.Calendar as Calendar
 use Rattle.texts.specs.Calendar.{or, civil_of, near}
-use Rattle.texts.specs.Reason.{Width, Outcome, gives, refuses, pick, reason_of, text_of, why_of, why_in, Says, shorter}
+use Rattle.texts.specs.Reason.{Width, Outcome, gives, refuses, pick, shorter}
+use Rattle.texts.specs.Said.{reason_of, text_of, why_of, why_in, Says}
 use Rattle.texts.specs.DateText.{between, long_date, short_date, day_text, date_text, without_century, envelope_date}
 use Rattle.texts.specs.Clock.{within_day, hours_minutes, hours_minutes_seconds, short_clock, envelope_time}
 

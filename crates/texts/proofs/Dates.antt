@@ -1,8 +1,9 @@
 -- The calendar day by day: yesterday undoes tomorrow, each day has a valid date, and the date of a day is the one that its era gives it.
 use Rattle.std.proofs.Common.{◌≡◌, ℕ, zero, suc, ◌+◌, ◌-◌, ◌*◌, ◌/◌, ◌%◌, ◌<◌, ◌≤◌, Bool, true, false, T, leb, ℤ, pos, negsuc, ◌+ℤ◌, ◌-ℤ◌, ◌*ℤ◌, sym, refl, ap, ◌∙◌, subst, ap₂, ⊎_elim, arith, leb→le, le-ltb, lt-ltb}
 use lib.IntN.{suc_ℤ, suc_ℤ-+ℤ, pred-suc, -ℤ-+ℤ_cancel, +ℤ_assoc}
-use Rattle.texts.specs.Floor.{floor_div, floor_rem}
-use Rattle.texts.specs.Calendar.{Day, day_of, and, leap, month_length, Valid, tomorrow, yesterday, civil_of, from_march}
+use Rattle.texts.proofs.Floor.{floor_div, floor_rem}
+use Rattle.texts.specs.Calendar.{Day, day_of, and, leap, month_length, Valid, tomorrow, yesterday, civil_of}
+use Rattle.texts.specs.Dated.{from_march}
 use Rattle.texts.proofs.Tested.{below, below_at, both}
 use Rattle.std.proofs.lemmas.Bool.{cases_lt}
 use Rattle.texts.proofs.Years.{year_of, common, start, year_small}

@@ -2,7 +2,7 @@
 use Rattle.std.proofs.Common.{◌≡◌, ℕ, zero, suc, ◌+◌, ◌-◌, ◌*◌, ◌/◌, ◌%◌, ◌<◌, ◌≤◌, Bool, true, false, eqb, ltb, ◌⊎◌, ℤ, pos, negsuc, ◌+ℤ◌, ◌*ℤ◌, neg_ℤ, nat_abs, sym, refl, ap, ◌∙◌, inl, inr, ⊎_elim, eq-or-lt_of_le, arith, ltb-false, ltb-true, eq-eqb, ne_eqb, eqb-true}
 use lib.IntN.{suc_ℤ, sub_ℕ, +ℤ_idr, +ℤ_assoc, suc_ℤ-*ℤ}
 use borrow.Author.Tests.{eqb-false}
-use Rattle.texts.specs.Floor.{floor_div, floor_rem}
+use Rattle.texts.proofs.Floor.{floor_div, floor_rem}
 use Rattle.texts.specs.Calendar.{Day, leap, february, Valid, tomorrow}
 use Rattle.std.proofs.lemmas.Bool.{cases_lt}
 use Rattle.texts.proofs.Years.{year_of, start, first_start, last_start, year_long, year_small, year_start, year_end, year_is}

@@ -20,3 +20,4 @@ mod Signs
 pub mod Spells
 pub mod Sizes
 mod Wholes
+pub mod Floor

@@ -9,7 +9,7 @@ use Rattle.std.specs.declared.ops.RangeInclusive.{RangeInclusive}
 use Rattle.std.specs.Result.{OkIff, is_ok, result_ok}
 use Rattle.std.specs.Int.{FitsUnsignedBits}
 use Rattle.std.proofs.lemmas.Option.{none-some, same_Some}
-use Rattle.texts.specs.Floor.{ranged_of, pick_ranged}
+use Rattle.texts.specs.Ranged.{ranged_of, pick_ranged}
 use Rattle.texts.specs.DateText.{between}
 use Rattle.texts.proofs.Sums.{Back}
 

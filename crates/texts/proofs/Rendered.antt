@@ -7,10 +7,13 @@ use Rattle.std.proofs.lemmas.Option.{none-some, same_Some}
 use Rattle.texts.specs.declared.Text.{Text}
 use Rattle.texts.specs.declared.parse.Date.{Date}
 use Rattle.texts.specs.declared.render.Refused.{Refused}
-use Rattle.texts.specs.Calendar.{Day, day_of, dated, leap, civil_of, civil_from, near}
+use Rattle.texts.specs.Calendar.{Day, day_of, leap, civil_of, near}
+use Rattle.texts.specs.Dated.{dated, civil_from}
 use Rattle.texts.specs.Held.{held, added}
-use Rattle.texts.specs.Reason.{Width, Outcome, gives, refuses, pick, reason_of, Says, shorter}
-use Rattle.texts.specs.DateText.{two, between, long_date, short_date, date_by, date_text, without_century, envelope_date}
+use Rattle.texts.specs.Reason.{Width, Outcome, gives, refuses, pick, shorter}
+use Rattle.texts.specs.Said.{reason_of, Says}
+use Rattle.texts.specs.DateText.{two, between, long_date, short_date, date_text, without_century, envelope_date}
+use Rattle.texts.specs.DateBy.{date_by}
 use Rattle.texts.specs.Clock.{hours_minutes, hours_minutes_seconds, clock, time_text, short_clock, envelope_time}
 use Rattle.texts.proofs.Sums.{Back}
 use Rattle.texts.proofs.Ranges.{Inside, within}

@@ -3,8 +3,9 @@ use Rattle.std.proofs.Common.{◌≡◌, ℕ, suc, ◌+◌, ◌<◌, Bool, true,
 use lib.IntN.{sub_ℕ}
 use lib.Signed.{le_z, mag}
 use Rattle.std.specs.Int.{int_div_euclid, int_rem_euclid}
-use Rattle.texts.specs.Floor.{floor_div, floor_rem}
-use Rattle.texts.specs.Calendar.{Day, day_of, dated, civil_from, from_march}
+use Rattle.texts.proofs.Floor.{floor_div, floor_rem}
+use Rattle.texts.specs.Calendar.{Day, day_of}
+use Rattle.texts.specs.Dated.{dated, civil_from, from_march}
 use Rattle.texts.proofs.Sums.{Back}
 use Rattle.texts.proofs.Dates.{later, civil_later}
 

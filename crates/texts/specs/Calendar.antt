@@ -1,9 +1,7 @@
 -- The Gregorian calendar, run forwards and backwards over all years, the year 0 and those before it too (ISO 8601), told day by day from
 -- 1970-01-01, which is day 0 (docs/RULES.md, "Dates").
-use Rattle.std.specs.Prelude.{ℕ, zero, suc, ◌+◌, ◌-◌, ◌%◌, ◌≤◌, ◌≡◌, Bool, true, false, not, [], ◌∷◌, ℤ, pos, negsuc, ◌+ℤ◌, ◌-ℤ◌, ◌==◌, int_le, nat_lt, slice_index, unsigned_abs, Option}
+use Rattle.std.specs.Prelude.{ℕ, zero, suc, ◌+◌, ◌-◌, ◌%◌, ◌≤◌, ◌≡◌, Bool, true, false, not, [], ◌∷◌, ℤ, pos, negsuc, ◌+ℤ◌, ◌-ℤ◌, ◌==◌, int_le, nat_lt, slice_index, unsigned_abs}
 use Rattle.std.proofs.Math.IntN.{suc_ℤ, pred_ℤ}
-use Rattle.std.specs.Bool.{then_some}
-use Rattle.texts.specs.declared.parse.Date.{Date}
 
 pub record Day : Type 0 where
   pub year : ℤ
@@ -90,20 +88,9 @@ new_year (negsuc (suc n)) = new_year (negsuc n) -ℤ pos (year_length (leap (neg
 unfoldable pub day_number : Day → ℤ
 day_number t = new_year t.year +ℤ pos (days_before (leap t.year) t.month + (t.day - 1)) -ℤ new_year (pos 1970)
 
--- the date e days after the first of March of the year 0
-unfoldable pub from_march : ℕ → Day
-from_march e = civil_of (pos e -ℤ pos 719468)
-
-abbrev pub dated : Day → Date
-dated t = record { year = t.year; month = t.month; day = t.day }
-
 -- 719,468 days more do not overflow an i32; a day for which they do has no text, for reason 1 (docs/RULES.md, "Reasons")
 abbrev pub near : ℤ → Bool
 near d = int_le (d +ℤ pos 719468) (pos 2147483647)
-
--- what is answered of a day: its date, or none
-unfoldable pub civil_from : ℤ → Option Date
-civil_from d = then_some (near d) (dated (civil_of d))
 
 -- Days and dates, one for one: a law of these definitions.
 pub record DaysAndDates : Type 0 where

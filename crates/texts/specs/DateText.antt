@@ -29,11 +29,6 @@ short_date low high reason t =
 abbrev pub day_text : Day → Width → Outcome
 day_text t max = pick (shorter max 8) (short_date 1950 2049 2 t) (long_date t)
 
--- a date, in six digits of the years from low to high where the element holds fewer than eight; days too far on have none
-unfoldable pub date_by : ℕ → ℕ → ℕ → ℤ → Width → Outcome
-date_by low high reason d max =
-    pick (near d) (pick (shorter max 8) (short_date low high reason (civil_of d)) (long_date (civil_of d))) (refuses 1)
-
 -- days too far on have none
 unfoldable pub date_text : ℤ → Width → Outcome
 date_text d max = pick (near d) (day_text (civil_of d) max) (refuses 1)

@@ -1,3 +1,4 @@
+-- Not to be believed: words of inner contracts, on which no contract of what users call rests.
 -- A text by value: 48 bytes of which the first `len` are the text, zeros behind them.
 use Rattle.std.specs.Prelude.{ℕ, ◌+◌, ◌-◌, List, ◌++◌, length, replicate}
 use Rattle.std.proofs.lemmas.List.Edits.{sets}

@@ -9,3 +9,8 @@ pub mod Number
 pub mod Digits
 pub mod Pad
 pub mod Spelling
+pub mod DateBy
+pub mod Dated
+pub mod Ranged
+pub mod Said
+pub mod Valued

@@ -1,10 +1,5 @@
 -- Two's complement, as Rust's signed integers have it: from half of the range on, the bits stand for a negative number.
-use Rattle.std.specs.Prelude.{ℕ, ◌+◌, ◌-◌, ◌*◌, ◌^◌, cond, ℤ, pos, negsuc, nat_lt}
-use Rattle.texts.specs.declared.number.Wide.{Wide}
-
--- the number of the bits of both halves
-abbrev pub value : Wide → ℕ
-value w = w.lo + w.hi * 2 ^ 64
+use Rattle.std.specs.Prelude.{ℕ, ◌+◌, ◌-◌, ◌^◌, cond, ℤ, pos, negsuc, nat_lt}
 
 -- the number that n stands for, where negative numbers begin at half; negsuc k is -(k + 1)
 unfoldable pub signed : ℕ → ℕ → ℤ

@@ -1,7 +1,8 @@
 // Whole numbers and decimals as text.
 ghost use Rattle.std.specs.Prelude.{◌≡◌, ◌+◌, ◌-◌, ◌/◌, ◌%◌, ◌^◌, ◌<◌, ◌≤◌, min, ◌++◌};
 ghost use Rattle.texts.specs.Held.{held, added};
-ghost use Rattle.texts.specs.Wide.{value, signed64, signed128};
+ghost use Rattle.texts.specs.Valued.{value};
+ghost use Rattle.texts.specs.Wide.{signed64, signed128};
 ghost use Rattle.texts.specs.Number.{size, count_text, int_text, decimal_text, fixed_text, minus};
 ghost use Rattle.texts.specs.Digits.{Written, FirstFilled, Shortens, down};
 

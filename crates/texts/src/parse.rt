@@ -2,7 +2,8 @@
 ghost use Rattle.std.specs.Prelude.{◌≡◌, ◌<◌, ◌≤◌};
 ghost use Rattle.std.specs.Int.Signed.{mag};
 ghost use Rattle.texts.specs.Floor.{signed32};
-ghost use Rattle.texts.specs.Calendar.{civil_from, day_of, from_march};
+ghost use Rattle.texts.specs.Dated.{civil_from, from_march};
+ghost use Rattle.texts.specs.Calendar.{day_of};
 
 // A day of the calendar. Its fields are any numbers; what writes them asks for bounds.
 #[derive(Clone, Copy)]

@@ -2,8 +2,10 @@
 ghost use Rattle.std.specs.Prelude.{◌≡◌, ◌%◌, ◌<◌, ◌≤◌, ◌++◌};
 ghost use Rattle.texts.specs.Calendar.{day_of};
 ghost use Rattle.texts.specs.Held.{held, added};
-ghost use Rattle.texts.specs.Reason.{reason_of, Says, shorter};
-ghost use Rattle.texts.specs.DateText.{two, long_date, short_date, date_by, date_text, envelope_date};
+ghost use Rattle.texts.specs.Said.{reason_of, Says};
+ghost use Rattle.texts.specs.Reason.{shorter};
+ghost use Rattle.texts.specs.DateText.{two, long_date, short_date, date_text, envelope_date};
+ghost use Rattle.texts.specs.DateBy.{date_by};
 ghost use Rattle.texts.specs.Clock.{time_text, envelope_time};
 
 use crate::parse::Date;

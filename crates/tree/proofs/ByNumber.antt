@@ -7,8 +7,10 @@ use native.Mathlib.Omega.{arith}
 use Rattle.codec.specs.Codec.{le_c, list_c}
 use Rattle.codec.specs.Forms.{num_c}
 use Rattle.codec.specs.Limits.{any_of}
-use Rattle.codec.specs.Skip.{skip, steps, steps_last, count_at}
-use Rattle.format.specs.Fields.{loop_children, is_loop}
+use Rattle.codec.specs.Skip.{skip, steps, count_at}
+use Rattle.codec.proofs.Skip.{steps_last}
+use Rattle.format.specs.Fields.{loop_children}
+use Rattle.format.proofs.Fields.{is_loop}
 use Rattle.format.specs.Spec.{Loop, loop_c}
 use Rattle.format.specs.Words.{any_from}
 use lib.Dec.{ltb}

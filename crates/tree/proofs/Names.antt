@@ -11,7 +11,7 @@ use Rattle.std.specs.List.{list_any}
 use Rattle.codec.specs.Codec.{Codec, pick, le_c, list_c}
 use Rattle.codec.specs.Forms.{num_c}
 use Rattle.codec.specs.Skip.{skip, count_at, Is}
-use Rattle.codec.specs.Field.{is_list, count_list}
+use Rattle.codec.proofs.Field.{is_list, count_list}
 use Rattle.format.specs.Words.{member_of, repeats}
 use Rattle.says.specs.Says.{Says, Rest}
 use Rattle.tree.specs.Parts.{Noted}

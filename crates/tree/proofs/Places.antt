@@ -10,7 +10,8 @@ use lib.Dec.{ltb}
 use borrow.Author.Tests.{ltb-true, ltb-false}
 use Rattle.codec.specs.Codec.{le_c, list_c}
 use Rattle.codec.specs.Forms.{num_c}
-use Rattle.codec.specs.Skip.{skip, steps, steps_last, count_at, skip_map, skip_pair}
+use Rattle.codec.specs.Skip.{skip, steps, count_at}
+use Rattle.codec.proofs.Skip.{steps_last, skip_map, skip_pair}
 use Rattle.format.specs.Fields.{loop_children}
 use Rattle.format.specs.Spec.{loop_c}
 use Rattle.tree.specs.Parts.{Placed}

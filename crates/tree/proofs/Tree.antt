@@ -8,14 +8,16 @@ use lib.ListN.{length, get_or-eq_default}
 use lib.Dec.{leb, eqb}
 use Rattle.codec.specs.Codec.{le_c, list_c, pick}
 use Rattle.codec.specs.Forms.{opt_c, num_c}
-use Rattle.codec.specs.Skip.{skip, steps, count_at, tag_at, skip_le}
-use Rattle.codec.specs.Field.{ListIs, is_list, is_in, is_none, is_some, count_list}
-use Rattle.codec.specs.Ways.{tag_in, tag_case}
+use Rattle.codec.specs.Skip.{skip, steps, count_at, tag_at}
+use Rattle.codec.proofs.Skip.{skip_le}
+use Rattle.codec.proofs.Field.{ListIs, is_list, is_in, is_none, is_some, count_list}
+use Rattle.codec.proofs.Ways.{tag_in, tag_case}
 use Rattle.codec.specs.Limits.{any_of}
 use Rattle.format.specs.Words.{member_of, repeats}
 use Rattle.format.specs.Spec.{Loop, loop_c, no_loop}
 use Rattle.format.specs.Layout.{Item, segment_item, loop_item, item_c}
-use Rattle.format.specs.Fields.{loop_children, item_tag, is_loop_item, is_loop}
+use Rattle.format.specs.Fields.{loop_children}
+use Rattle.format.proofs.Fields.{item_tag, is_loop_item, is_loop}
 use Rattle.format.specs.Refusal.{loop_at, loops_in, outside}
 use Rattle.says.specs.Says.{Says, SaysRest, SaysBefore, any_before}
 use Rattle.std.specs.Prelude.{Some, None}

@@ -1,3 +1,4 @@
+-- Not to be believed: words of inner contracts, on which no contract of what users call rests.
 -- Loops that an order names, places of loops, numbers noted, and loop numbers of the spec that are out of range.
 use Rattle.std.specs.Prelude.{ℕ, ◌<◌, ◌^◌, ◌≡◌, List, [], ◌∷◌, ◌++◌, Bool, false, length, get_or, take, Option, Some, None}
 use Rattle.codec.specs.Codec.{le_c}

@@ -11,20 +11,22 @@ use Rattle.format.specs.Spec.{Kind, kind_an, kind_id, kind_n, kind_r, kind_dt, k
 use Rattle.format.specs.Job.{Job}
 use Rattle.format.specs.Refusal.{separators}
 use Rattle.format.specs.Ask.{loop_of, min_of, depth_of}
-use Rattle.lent.specs.Fit.{wide, stretch, Noted}
+use Rattle.lent.proofs.Fit.{wide}
+use Rattle.lent.specs.Window.{stretch, Noted}
 use Rattle.spec.specs.declared.ids.Element.{Element}
 use Rattle.spec.specs.Cursor as cursor
 use Rattle.spec.specs.Cursor.{Entries, ElementSays}
 use Rattle.std.specs.Prelude.{Some, None, Option}
 use Rattle.texts.specs.Number.{count_text}
-use Rattle.texts.specs.Reason.{Width, why_in}
+use Rattle.texts.specs.Reason.{Width}
+use Rattle.texts.specs.Said.{why_in}
 use Rattle.texts.specs.Pad.{is_at, padded, zero_padded, space_padded, control_text}
 use Rattle.segment.specs.declared.Separators.{Separators}
 use Rattle.segment.specs.declared.Pen.{Pen}
 use Rattle.segment.specs.declared.Value.{Value}
 use Rattle.segment.specs.Parts.{pick, is_empty, highest, last_element, last_component, component_text}
-use Rattle.segment.specs.Pen.{value_text, Plain}
-use Rattle.segment.specs.Calls.{Group}
+use Rattle.segment.specs.Values.{value_text, Plain}
+use Rattle.segment.specs.Group.{Group}
 use Rattle.nest.specs.Lists.{on}
 use Rattle.nest.specs.Finding.{field, number_from}
 use Rattle.emit.specs.declared.findings.Spot.{Spot}

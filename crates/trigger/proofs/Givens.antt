@@ -13,7 +13,7 @@ use Rattle.format.specs.Envelope as E
 use Rattle.format.specs.Job.{Job}
 use Rattle.column.specs.Cell.{same_bytes as by_cell, both}
 use Rattle.format.specs.Ask.{same_bytes}
-use Rattle.lent.specs.Fit.{stretch}
+use Rattle.lent.specs.Window.{stretch}
 use Rattle.spec.specs.declared.ids.Stretch.{Stretch}
 use Rattle.spec.specs.declared.ids.Element.{Element}
 use Rattle.spec.specs.declared.ids.VersionRule.{VersionRule}
@@ -23,7 +23,7 @@ use Rattle.spec.specs.VersionIs.{HoldsVersion, version_rule}
 use Rattle.std.specs.Prelude as Rust
 use Rattle.std.specs.Prelude.{Some, None, Option, cond, eqb}
 use Rattle.std.specs.Option.{unwrap_or}
-use Rattle.segment.specs.Pen.{Plain}
+use Rattle.segment.specs.Values.{Plain}
 use Rattle.texts.specs.Reason.{Outcome}
 use Rattle.texts.specs.DateText.{envelope_date}
 use Rattle.texts.specs.Clock.{envelope_time}

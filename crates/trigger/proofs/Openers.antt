@@ -16,24 +16,31 @@ use Rattle.format.specs.Sections.{plan_start}
 use Rattle.format.specs.Ask.{found, segment_def, element_def, min_of}
 use Rattle.format.specs.Spec.{element_c, segment_c}
 use Rattle.codec.specs.Skip.{Is}
-use Rattle.codec.specs.Maps.{is_num_map}
-use Rattle.codec.specs.Field.{Stands, stands_at}
-use Rattle.spec.specs.Found.{PlaceOf, place_nowhere, place_at}
+use Rattle.codec.proofs.Maps.{is_num_map}
+use Rattle.codec.specs.Field.{Stands}
+use Rattle.codec.proofs.Field.{stands_at}
+use Rattle.spec.specs.Found.{PlaceOf}
+use Rattle.spec.proofs.Found.{place_nowhere, place_at}
 use Rattle.spec.specs.Answers.{stretch_of, rule_of}
-use Rattle.segment.specs.Pen.{Penned, opened}
+use Rattle.segment.specs.Pen.{Penned}
+use Rattle.segment.specs.Values.{opened}
 use Rattle.segment.proofs.Runs.{run_stored}
-use Rattle.lent.specs.Fit.{stretch}
+use Rattle.lent.specs.Window.{stretch}
 use Rattle.emit.specs.Envelope.{opener_put}
 use Rattle.trigger.specs.declared.frame.Frame.{Frame}
-use Rattle.lent.specs.Fit.{cap, wide, more, Stored, Noted}
+use Rattle.lent.specs.Fit.{cap, more, Stored}
+use Rattle.lent.proofs.Fit.{wide}
+use Rattle.lent.specs.Window.{Noted}
 use Rattle.spec.specs.declared.ids.Element.{Element}
 use Rattle.spec.specs.declared.ids.Elements.{Elements}
-use Rattle.spec.specs.Cursor.{Entries, EntryAt, ElementSays, entry_left}
+use Rattle.spec.specs.Cursor.{Entries, EntryAt, ElementSays}
+use Rattle.spec.proofs.Cursor.{entry_left}
 use Rattle.segment.specs.declared.Separators.{Separators}
 use Rattle.segment.specs.declared.Pen.{Pen}
 use Rattle.segment.specs.Parts.{Part, highest, last_element, last_component, here, after, component_text}
-use Rattle.segment.specs.Pen.{closing}
-use Rattle.segment.specs.Calls.{Group, Row, group, close, stays}
+use Rattle.segment.specs.Values.{closing}
+use Rattle.segment.specs.Group.{Group}
+use Rattle.segment.specs.Calls.{Row, group, close, stays}
 use Rattle.segment.proofs.Rows.{here_other, after_other}
 use Rattle.nest.specs.Job.{job_by}
 use Rattle.nest.specs.Lists.{on}

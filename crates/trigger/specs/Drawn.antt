@@ -1,6 +1,8 @@
+-- Not to be believed: words of inner contracts, on which no contract of what users call rests.
 -- The elements of a trigger as code draws them.
 use Rattle.std.specs.Prelude.{ℕ, ◌≤◌, ◌<◌, max, ◌≡◌, Bool, true, false, List, [], ◌∷◌, length, get_or, Option, None}
-use Rattle.lent.specs.Fit.{more, Stored, Noted}
+use Rattle.lent.specs.Fit.{more, Stored}
+use Rattle.lent.specs.Window.{Noted}
 use Rattle.codec.specs.Maps.{rises_from}
 use Rattle.format.specs.Spec.{ElementDef, SegmentDef}
 use Rattle.format.specs.Job.{Job}
@@ -13,8 +15,9 @@ use Rattle.spec.specs.Cursor.{Entries, ElementSays}
 use Rattle.segment.specs.declared.Separators.{Separators}
 use Rattle.segment.specs.declared.Pen.{Pen}
 use Rattle.segment.specs.Parts.{Part, last_element, last_component, component_text, joined}
-use Rattle.segment.specs.Pen.{closing}
-use Rattle.segment.specs.Calls.{Group, Row}
+use Rattle.segment.specs.Values.{closing}
+use Rattle.segment.specs.Group.{Group}
+use Rattle.segment.specs.Calls.{Row}
 use Rattle.nest.specs.Lists.{on}
 use Rattle.emit.specs.Puts.{Put, part_at}
 use Rattle.emit.specs.Written.{words_of}

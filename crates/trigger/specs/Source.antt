@@ -1,11 +1,12 @@
+-- Not to be believed: words of inner contracts, on which no contract of what users call rests.
 -- What an element of a trigger takes, as an answer of code.
 use Rattle.std.specs.Prelude.{ℕ, ◌≡◌, List, Option}
 use Rattle.std.specs.Prelude as Rust
 use Rattle.std.specs.Prelude.{Some, None}
-use Rattle.segment.specs.Pen.{value_text, Plain}
+use Rattle.segment.specs.Values.{value_text, Plain}
 use Rattle.format.specs.Spec.{ElementDef}
 use Rattle.format.specs.Job.{Job}
-use Rattle.texts.specs.Reason.{why_in}
+use Rattle.texts.specs.Said.{why_in}
 use Rattle.nest.specs.Lists.{on}
 use Rattle.emit.specs.Envelope.{Sourced, field_at, fielded, version_at, versioned, unsourced}
 use Rattle.trigger.specs.declared.given.Source.{Source}

@@ -6,7 +6,7 @@ ghost use Rattle.format.specs.Spec.{Control};
 ghost use Rattle.format.specs.Ask.{loop_of};
 ghost use Rattle.spec.specs.Answers.{counted_of, rule_of};
 ghost use Rattle.segment.specs.Parts.{pick};
-ghost use Rattle.segment.specs.Pen.{value_text};
+ghost use Rattle.segment.specs.Values.{value_text};
 ghost use Rattle.emit.specs.Envelope.{control_in};
 ghost use Rattle.emit.specs.Fold.{next, previous, count_of, opener_out, closer_out};
 ghost use Rattle.emit.specs.Did.{DidNumber, Within};

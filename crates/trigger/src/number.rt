@@ -1,7 +1,7 @@
 // A loop's control number.
 ghost use Rattle.std.specs.Prelude.{◌≡◌};
 ghost use Rattle.format.specs.Spec.{Control};
-ghost use Rattle.segment.specs.Pen.{value_text};
+ghost use Rattle.segment.specs.Values.{value_text};
 ghost use Rattle.emit.specs.Envelope.{control_in};
 ghost use Rattle.nest.specs.Job.{job_by};
 

@@ -1,20 +1,21 @@
 // The trigger of an envelope loop, element by element.
 ghost use Rattle.std.specs.Prelude.{◌≡◌, true, List, [], ◌∷◌, ℕ, ◌+◌, ◌≤◌, ◌<◌, length, ltb, Option, None};
-ghost use Rattle.lent.specs.Fit.{Noted, more};
+ghost use Rattle.lent.specs.Window.{Noted};
+ghost use Rattle.lent.specs.Fit.{more};
 ghost use Rattle.format.specs.Spec.{ElementDef};
 ghost use Rattle.format.specs.Ask.{min_of, segment_def};
 ghost use Rattle.spec.specs.Answers.{stretch_of, rule_of};
 ghost use Rattle.spec.specs.Cursor.{Entries, ElementSays};
 ghost use Rattle.segment.specs.Parts.{pick};
 ghost use Rattle.segment.specs.declared.Separators as Signs;
-ghost use Rattle.segment.specs.Pen.{value_text, Plain};
+ghost use Rattle.segment.specs.Values.{value_text, Plain};
 ghost use Rattle.nest.specs.Lists.{on};
 ghost use Rattle.nest.specs.Finding.{Origin, Place as In, field};
 ghost use Rattle.emit.specs.Puts.{nothing, put_all, part_at, held_in};
 ghost use Rattle.emit.specs.Written.{spot_of, words_of, tried};
 ghost use Rattle.emit.specs.Envelope.{Sourced, field_findings, padded_to, put_sourced, opener_put};
 ghost use Rattle.codec.specs.Maps.{rises_from};
-ghost use Rattle.texts.specs.Reason.{why_in};
+ghost use Rattle.texts.specs.Said.{why_in};
 ghost use Rattle.trigger.specs.Source.{text_in, sourced_by, Short, Tells};
 ghost use Rattle.trigger.specs.Drawn.{trigger_of, element_put, put_by, Draws, Adds, Known, Opening, Drew, Opened};
 ghost use Rattle.nest.specs.Job.{job_by};

@@ -9,7 +9,8 @@ use Rattle.std.specs.Prelude.{Some, None}
 use Rattle.nest.proofs.FoundLaws.{place_none, place_some}
 use Rattle.walk.specs.declared.Context.{Context as Kept}
 use Rattle.walk.specs.declared.Run.{Run as KeptRun}
-use Rattle.walk.specs.Instances.{Piece, outside, offset, bound, in_row, in_piece}
+use Rattle.walk.specs.Instances.{Piece, outside, offset, in_row, in_piece}
+use Rattle.walk.specs.Bounds.{bound}
 use Rattle.walk.specs.Contexts.{context, run_by, context_by, kept_outside, kept_row, kept_piece, row_by, start_by, end_by}
 use Rattle.walk.proofs.Places.{context_outside, context_row, context_piece}
 

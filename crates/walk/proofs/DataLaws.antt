@@ -3,7 +3,8 @@ use Prim.Native.Nat.{ℕ, suc, ◌+◌, ◌≤◌, ◌<◌}
 use mathlib.Core.Path.{◌≡◌, refl}
 use mathlib.Core.Bool.{Bool, true, false, ◌&&◌}
 use lib.ListN.{length, drop, get_or}
-use Rattle.nest.specs.Lists.{some_of, is, up_to}
+use Rattle.nest.specs.Lists.{some_of, is}
+use Rattle.nest.specs.UpTo.{up_to}
 use Rattle.nest.specs.Outline.{Outline, inside_table, source_table, loop_of, kind_of, segment_of, planned}
 use Rattle.nest.proofs.Scan.{up_to_all, some_at, some_not_at, some_past}
 use Rattle.walk.specs.Instances.{own_data, has_data, shown}

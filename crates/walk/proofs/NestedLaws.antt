@@ -13,7 +13,7 @@ use Rattle.nest.specs.Lists.{is}
 use Rattle.nest.specs.Outline.{Outline, table_parent, row_count, repeated}
 use Rattle.nest.specs.Nest.{referred, hook, hooked, nest_record, nest_array}
 use Rattle.nest.specs.Found.{nest_at, held_at, hooked_at, ArrayIs}
-use Rattle.nest.specs.Ready.{outline_at}
+use Rattle.nest.specs.OutlineAt.{outline_at}
 use Rattle.nest.specs.Rising.{above_of, Climbs, rises}
 use Rattle.nest.proofs.NestLaws.{rows_before}
 use Rattle.nest.proofs.Stored.{place_in, number_in, array_rows}

@@ -10,13 +10,15 @@ use lib.ListN.{length, take, drop, get_or, length-take, length-drop}
 use lib.Seq.{take_all}
 use lib.Dec.{eqb, ltb}
 use borrow.Author.Tests.{lt-ltb, le-ltb, eq-eqb, ne_eqb}
-use Rattle.nest.specs.Lists.{keep, on, from, is, part, up_to}
+use Rattle.nest.specs.Lists.{keep, on, from, is, part}
+use Rattle.nest.specs.UpTo.{up_to}
 use Rattle.nest.specs.Outline.{Outline, table_parent, row_count, plain}
 use Rattle.nest.specs.Nest.{referred, held, hook, hooked, nest_record, repeat_rows}
 use Rattle.nest.proofs.Scan.{up_to_all, keep_all, keep_none, keep_length, window, window_all}
 use Rattle.nest.proofs.NestLaws.{holds}
 use Rattle.nest.proofs.Hanging.{plain_not}
-use Rattle.walk.specs.Instances.{Context, Run, at, held_by, held_in, cut_to, rows_in, offset, bound, pieces}
+use Rattle.walk.specs.Instances.{Context, Run, at, held_in, cut_to, rows_in, offset, pieces}
+use Rattle.walk.specs.Bounds.{held_by, bound}
 use Rattle.walk.specs.Tour.{chunks}
 
 -- ---- whether a row is one of its parent's row

@@ -1,10 +1,12 @@
+-- Not to be believed: words of inner contracts, on which no contract of what users call rests.
 -- A context as code keeps it: an array with a place for each table, and a run. `context_by` is the context that it stands for.
 use Rattle.std.specs.Prelude.{ℕ, ◌+◌, List, get_or, set, replicate, Option, Some, None}
 use Rattle.nest.specs.Found.{found_by, row_place}
 use Rattle.spec.specs.declared.ids.RowId.{RowId}
 use Rattle.walk.specs.declared.Context.{Context as Kept}
 use Rattle.walk.specs.declared.Run.{Run as KeptRun}
-use Rattle.walk.specs.Instances.{Context, Run, offset, bound}
+use Rattle.walk.specs.Instances.{Context, Run, offset}
+use Rattle.walk.specs.Bounds.{bound}
 
 -- over any array: `read` gives the row that a place stands for, and `empty` stands for none
 unfoldable pub context : {A : Type 0} → (A → Option ℕ) → A → List A → Option Run → Context

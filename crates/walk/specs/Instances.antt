@@ -1,8 +1,8 @@
 -- The instances of a loop inside an instance (write/walk.rs; docs/RULES.md, "Instances" and "Groups").
-use Rattle.std.specs.Prelude.{ℕ, zero, suc, ◌+◌, Bool, true, false, cond, not, ◌&&◌, ◌||◌, List, [], ◌∷◌, map, length, eqb, Option, None, Some}
+use Rattle.std.specs.Prelude.{ℕ, zero, suc, ◌+◌, Bool, false, cond, not, ◌&&◌, ◌||◌, List, [], ◌∷◌, map, length, eqb, Option, None, Some}
 use Rattle.nest.specs.Lists.{some_of, is_empty_list, on, from, is, part}
 use Rattle.nest.specs.Outline.{Outline, Kind, rows, absent, envelope, implied, inside, groups, inside_table, source_table, loop_of, kind_of, segment_of, planned, table_parent, row_count, plain}
-use Rattle.nest.specs.Nest.{referred, held}
+use Rattle.nest.specs.Nest.{held}
 
 -- a run of grouped rows: its table, and its bounds counted from the start of the parent's list
 pub record Run : Type 0 where
@@ -26,10 +26,6 @@ at t r old u = cond (eqb u t) (Some r) (old u)
 -- those that its parent's row holds, none where there is no such row; all of them where it has no parent
 unfoldable pub held_in : Outline → ℕ → (ℕ → Option ℕ) → List ℕ
 held_in j t row = on (table_parent j t) (λ u. on (row u) (held j t u) []) (from 0 (row_count j t))
-
--- whether a row is one of those
-unfoldable pub held_by : Outline → ℕ → (ℕ → Option ℕ) → ℕ → Bool
-held_by j t row r = on (table_parent j t) (λ u. on (row u) (is (referred j t r u)) false) true
 
 -- cut to the run where it is of that table; a run never passes the end of its list (proofs/Runs)
 abbrev pub cut_to : ℕ → Option Run → List ℕ → List ℕ
@@ -58,10 +54,6 @@ pieces_of same (r ∷ more) = pieces same r 0 1 more
 -- where the context's list starts in the parent's
 abbrev pub offset : ℕ → Option Run → ℕ
 offset t run = on run (λ p. cond (eqb p.table t) p.start 0) 0
-
--- and where it ends there; n where no run of that table bounds it
-abbrev pub bound : ℕ → Option Run → ℕ → ℕ
-bound t run n = on run (λ p. cond (eqb p.table t) p.end n) n
 
 -- ---- data below an `Inside` loop
 

@@ -10,3 +10,4 @@ pub mod Height
 pub mod Runs
 pub mod EachKind
 pub mod Example
+pub mod Bounds

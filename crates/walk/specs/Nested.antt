@@ -1,13 +1,17 @@
+-- Not to be believed: words of inner contracts, on which no contract of what users call rests.
 -- What the walk asks for: a job that passed, its index, nest's array and its flags; and a context whose rows are there and whose run begins at its table's row.
 use Rattle.std.specs.Prelude.{ℕ, ◌+◌, ◌*◌, ◌≤◌, ◌<◌, ◌≡◌, true, false, List, length, get_or, Some}
 use Rattle.format.specs.Refusal.{rows_of_all}
 use Rattle.format.specs.Sections.{job_of}
-use Rattle.nest.specs.Lists.{keep, up_to}
+use Rattle.nest.specs.Lists.{keep}
+use Rattle.nest.specs.UpTo.{up_to}
 use Rattle.nest.specs.Outline.{Outline, table_parent, row_count}
 use Rattle.nest.specs.Nest.{nest_array}
 use Rattle.nest.specs.Rising.{falls, rises}
-use Rattle.nest.specs.Ready.{Ready, outline_at}
-use Rattle.walk.specs.Instances.{Context, Run, held_by}
+use Rattle.nest.specs.Ready.{Ready}
+use Rattle.nest.specs.OutlineAt.{outline_at}
+use Rattle.walk.specs.Instances.{Context, Run}
+use Rattle.walk.specs.Bounds.{held_by}
 
 pub record Nested (b idx n : List ℕ) : Type 0 where
   pub ready : Ready b idx

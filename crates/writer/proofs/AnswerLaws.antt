@@ -8,13 +8,14 @@ use lib.ListN.{length, take, drop}
 use borrow.Author.Tests.{lt-ltb, le-ltb}
 use Rattle.codec.specs.Codec.{pick}
 use Rattle.format.specs.Sections.{spoilt, decode, job_of}
-use Rattle.format.specs.Decoding.{decode_read}
+use Rattle.format.proofs.Decoding.{decode_read}
 use Rattle.format.specs.Refusal.{refusal_of}
-use Rattle.format.specs.Passed.{Passed, passed, refused_not}
+use Rattle.format.specs.Passed.{Passed}
+use Rattle.format.proofs.Passed.{passed, refused_not}
 use Rattle.nest.specs.OfJob.{outline_of}
 use Rattle.nest.specs.Finding.{record_of}
 use Rattle.walk.specs.Tour.{census}
-use Rattle.emit.specs.Did.{traced_word, stop_word}
+use Rattle.emit.specs.Words.{traced_word, stop_word}
 use Rattle.lossless.proofs.Theorem.{nothing_lost}
 use Rattle.std.specs.Prelude.{Some, Err}
 use Rattle.std.proofs.lemmas.Option.{none-some}
@@ -26,7 +27,8 @@ use Rattle.writer.specs.Answer.{Answered, number_of, values_of}
 use Rattle.writer.specs.Result.{result_of, ResultKept, counts_of}
 use Rattle.writer.specs.Refused.{first_of, crowded, refusal}
 use Rattle.writer.specs.Lists.{in_front, holding}
-use Rattle.writer.specs.Wrote.{threes, tens, short, number_for, values_for, window_from, WroteFrom}
+use Rattle.writer.specs.Numbers.{threes, short, number_for, values_for}
+use Rattle.writer.specs.Wrote.{tens, window_from, WroteFrom}
 
 -- ---- the refusal
 

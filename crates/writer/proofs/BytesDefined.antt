@@ -11,8 +11,9 @@ use lib.Dec.{eqb}
 use Rattle.codec.specs.Codec.{Codec, items_enc, list_c, map_c, dep_c, ◌⊗◌, when_c}
 use Rattle.codec.specs.Forms.{num_c, bytes_c}
 use Rattle.codec.specs.Maps.{num_map_c}
-use Rattle.codec.specs.Limits.{none_of}
-use Rattle.format.specs.Words.{if_some, none_some}
+use Rattle.codec.proofs.Limits.{none_of}
+use Rattle.format.specs.Words.{if_some}
+use Rattle.format.proofs.Words.{none_some}
 use Rattle.format.specs.Spec as S
 use Rattle.format.specs.Spec.{ElementDef, SegmentDef, Control, Loop, no_loop}
 use Rattle.format.specs.Job.{Job}

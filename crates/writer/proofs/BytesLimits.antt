@@ -8,7 +8,8 @@ use Rattle.std.specs.Prelude.{Option, None, Some}
 use lib.ListN.{get_or}
 use borrow.Author.Tests.{ltb-false}
 use Rattle.codec.specs.Codec.{pick}
-use Rattle.codec.specs.Limits.{none_of, any_of}
+use Rattle.codec.proofs.Limits.{none_of}
+use Rattle.codec.specs.Limits.{any_of}
 use Rattle.format.specs.Words.{if_some}
 use Rattle.format.specs.Spec.{Repeat, Table, no_table}
 use Rattle.format.specs.Plan.{ElementPlan, SegmentPlan, LoopPlan, no_segment_plan, no_loop_plan}

@@ -16,7 +16,8 @@ use Rattle.format.specs.Plan.{Value, from_column, from_group, from_code, Element
 use Rattle.format.specs.Job.{Job}
 use Rattle.format.specs.Sections.{job_of}
 use Rattle.format.proofs.RoundTrip.{encode_read}
-use Rattle.format.specs.Passed.{Passed, few}
+use Rattle.format.specs.Passed.{Passed}
+use Rattle.format.proofs.Passed.{few}
 use Rattle.format.specs.Envelope.{Envelope, envelope_c}
 use Rattle.format.specs.Ask.{loop_of, planned_of, data_of}
 use Rattle.nest.specs.Lists.{sum, All}

@@ -9,7 +9,9 @@ use lib.ListN.{length, take, drop}
 use lib.Seq.{sets}
 use lib.Dec.{ltb}
 use Rattle.codec.specs.Codec.{Bytes, pick}
-use Rattle.lent.specs.Fit.{cap, base, wide, placed, Noted}
+use Rattle.lent.specs.Fit.{cap, placed}
+use Rattle.lent.specs.Window.{base, Noted}
+use Rattle.lent.proofs.Fit.{wide}
 use Rattle.format.specs.Job.{Job}
 use Rattle.format.specs.Sections.{job_of}
 use Rattle.format.specs.Passed.{Passed}
@@ -23,13 +25,15 @@ use Rattle.walk.specs.Tour.{Stop, tour, census}
 use Rattle.emit.specs.declared.state.State.{State}
 use Rattle.emit.specs.Fold as F
 use Rattle.emit.specs.Written.{words_of}
-use Rattle.emit.specs.Did.{state_of, row_words, traced_word, traced_words, stop_word, stop_words, Did, Small}
+use Rattle.emit.specs.Did.{state_of, traced_words, stop_words, Did, Small}
+use Rattle.emit.specs.Words.{row_words, traced_word, stop_word}
 use Rattle.emit.proofs.FindingLaws.{stored_findings}
 use Rattle.lossless.specs.Due.{trace_list}
 use Rattle.lossless.specs.NothingLost.{walked_out}
 use Rattle.writer.specs.Answer.{Answered, number_of, values_of}
 use Rattle.writer.specs.Result.{Result, result_of}
-use Rattle.writer.specs.Wrote.{threes, tens, WroteFrom}
+use Rattle.writer.specs.Numbers.{threes}
+use Rattle.writer.specs.Wrote.{tens, WroteFrom}
 use Rattle.writer.specs.Filled.{first_state, start_of, Filled}
 use Rattle.writer.proofs.FrontLaws.{bytes_front, each_length, items_front, windowed, all_counted, all_noted}
 use Rattle.writer.proofs.AnswerLaws.{refused_none, passed_refusal, wrote_all}

@@ -9,7 +9,9 @@ use lib.ListN.{length, take, drop, length-append, length-take, take-append-drop,
 use lib.Seq.{sets, sets-eq, take-nil, take-append-add, length-take-le, drop-nil, drop-append-le, drop-append-add}
 use lib.Dec.{leb}
 use borrow.Author.Tests.{leb-true, leb-false}
-use Rattle.lent.specs.Fit.{cap, base, wide, placed, Stored, Noted}
+use Rattle.lent.specs.Fit.{cap, placed, Stored}
+use Rattle.lent.specs.Window.{base, Noted}
+use Rattle.lent.proofs.Fit.{wide}
 use Rattle.lent.proofs.Laws.{sets_fits}
 use Rattle.nest.specs.Lists.{each}
 use Rattle.writer.specs.Lists.{in_front, holding}

@@ -18,7 +18,7 @@ use Rattle.format.specs.Data.{data_c}
 use Rattle.format.specs.Job.{Job}
 use Rattle.format.specs.Sections.{job_of, encode}
 use Rattle.format.specs.Ask.{on, found, same_bytes, segment_def}
-use Rattle.format.specs.Decoding.{framed_length}
+use Rattle.format.proofs.Decoding.{framed_length}
 use Rattle.format.proofs.RoundTrip.{encode_read}
 use Rattle.format.specs.Passed.{Passed}
 use Rattle.nest.specs.Outline.{no_table, order_of, table_of}

@@ -7,13 +7,14 @@ use native.Mathlib.Omega.{arith}
 use lib.ListN.{length, get_or}
 use lib.Seq.{sets, length-sets}
 use borrow.Author.Tests.{eqb-true}
-use Rattle.codec.specs.Rows.{get_d_sets_out}
+use Rattle.codec.proofs.Rows.{get_d_sets_out}
 use Rattle.format.specs.Refusal.{rows_of_all}
 use Rattle.format.specs.Sections.{job_of}
 use Rattle.nest.specs.Nest.{nest_array}
 use Rattle.nest.specs.Found.{ArrayIs}
 use Rattle.nest.specs.Rising.{rising_flags, rises}
-use Rattle.nest.specs.Ready.{Ready, outline_at}
+use Rattle.nest.specs.Ready.{Ready}
+use Rattle.nest.specs.OutlineAt.{outline_at}
 use Rattle.nest.proofs.Bridge.{data-count-is}
 use Rattle.nest.proofs.Stored.{array_in, array_rows}
 use Rattle.nest.proofs.RisingRows.{flag_right}

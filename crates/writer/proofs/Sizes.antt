@@ -5,11 +5,13 @@ use mathlib.Core.List.{List, [], ◌∷◌, ◌++◌}
 use native.Mathlib.Omega.{arith}
 use native.Mathlib.Nat.{mul-one, mul-le-mul_right}
 use lib.ListN.{length, length-append}
-use Rattle.lent.specs.Fit.{cap, wide}
+use Rattle.lent.specs.Fit.{cap}
+use Rattle.lent.proofs.Fit.{wide}
 use Rattle.codec.specs.Codec.{Bytes}
 use Rattle.format.specs.Job.{Job}
 use Rattle.format.specs.Sections.{job_of}
-use Rattle.format.specs.Passed.{Passed, few}
+use Rattle.format.specs.Passed.{Passed}
+use Rattle.format.proofs.Passed.{few}
 use Rattle.nest.specs.Lists.{sum}
 use Rattle.nest.specs.NestFindings.{nest_findings}
 use Rattle.nest.specs.Outline.{Outline, row_count}

@@ -1,6 +1,8 @@
+-- Not to be believed: words of inner contracts, on which no contract of what users call rests.
 -- What the code knows on the way: the first state, and what the lists hold once the result is stored in them.
 use Rattle.std.specs.Prelude.{ℕ, ◌*◌, ◌-◌, List, replicate, None}
-use Rattle.lent.specs.Fit.{base, Stored, Noted}
+use Rattle.lent.specs.Window.{base, Noted}
+use Rattle.lent.specs.Fit.{Stored}
 use Rattle.emit.specs.declared.state.State.{State}
 use Rattle.emit.specs.Written.{words_of}
 use Rattle.emit.specs.Did.{traced_words, stop_words}

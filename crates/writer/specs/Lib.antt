@@ -4,3 +4,4 @@ pub mod Refused
 pub mod Lists
 pub mod Wrote
 pub mod Filled
+pub mod Numbers

@@ -1,5 +1,5 @@
 use lib.ListN.{length}
-use Rattle.nest.specs.Ready.{outline_at}
+use Rattle.nest.specs.OutlineAt.{outline_at}
 use Rattle.walk.specs.Contexts.{context_by}
 use Rattle.instances.specs.Cursor.{coming}
 use Rattle.census.proofs.Counting.{Below, Entering}

@@ -1,4 +1,4 @@
-use Rattle.nest.specs.Ready.{outline_at}
+use Rattle.nest.specs.OutlineAt.{outline_at}
 use Rattle.census.proofs.Bounding.{Most}
 use Prim.Native.Nat.{◌-◌}
 use Rattle.census.proofs.+most.Given as goal

@@ -1,5 +1,5 @@
 use Prim.Native.Nat.{◌+◌, ◌<◌}
-use Rattle.codec.specs.Skip.{skip_le, skip_short}
+use Rattle.codec.proofs.Skip.{skip_le, skip_short}
 use mathlib.Core.Path.{sym}
 use native.Mathlib.Omega.{arith}
 use Rattle.codec.proofs.le_at.Goals as goal

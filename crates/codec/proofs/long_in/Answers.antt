@@ -1,4 +1,4 @@
-use Rattle.codec.specs.Ways.{le_eight}
+use Rattle.codec.proofs.Ways.{le_eight}
 use Rattle.codec.proofs.long_in.Goals as goal
 
 pub returns : goal.returns

@@ -1,4 +1,4 @@
-use Rattle.codec.specs.Ways.{le_four}
+use Rattle.codec.proofs.Ways.{le_four}
 use native.Mathlib.Omega.{arith}
 use Rattle.codec.proofs.num.Goals as goal
 

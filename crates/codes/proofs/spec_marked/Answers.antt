@@ -1,5 +1,5 @@
-use Rattle.codec.specs.Maps.{is_bytes_map}
-use Rattle.format.specs.Fields.{is_spec}
+use Rattle.codec.proofs.Maps.{is_bytes_map}
+use Rattle.format.proofs.Fields.{is_spec}
 use Rattle.codes.specs.Codes.{marked_spec}
 use Rattle.codes.proofs.Laws.{either_first, either_next}
 use Rattle.says.proofs.Walk.{says_at}

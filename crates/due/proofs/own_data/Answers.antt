@@ -1,7 +1,8 @@
 use mathlib.Core.Path.{sym, ap, ◌∙◌}
 use borrow.Author.Rules.{rules}
 use Rattle.format.specs.Sections.{job_of}
-use Rattle.nest.specs.Lists.{some_of, up_to}
+use Rattle.nest.specs.Lists.{some_of}
+use Rattle.nest.specs.UpTo.{up_to}
 use Rattle.nest.specs.OfJob.{outline_of}
 use Rattle.nest.proofs.Bridge.{planned_is}
 use Rattle.walk.proofs.DataLaws.{own_all}

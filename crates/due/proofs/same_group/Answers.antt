@@ -3,7 +3,8 @@ use borrow.Author.Rules.{rules}
 use lib.ListN.{get_or}
 use Rattle.format.specs.Ask as A
 use Rattle.format.specs.Sections.{job_of}
-use Rattle.nest.specs.Lists.{some_of, up_to}
+use Rattle.nest.specs.Lists.{some_of}
+use Rattle.nest.specs.UpTo.{up_to}
 use mathlib.Core.Bool.{not}
 use Rattle.std.specs.Prelude.{unwrap_or}
 use Rattle.spec.specs.declared.ids.TableId.{TableId}

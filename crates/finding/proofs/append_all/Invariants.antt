@@ -1,6 +1,6 @@
 use Rattle.std.proofs.Common.{◌≡◌}
 use Rattle.std.proofs.lemmas.List.Edits.{sets}
-use Rattle.finding.specs.Findings.{findings_in}
+use Rattle.finding.specs.Records.{findings_in}
 use Rattle.finding.proofs.append_all.Given as goal
 
 abbrev pub invariant-loop-k : goal.invariant-loop-k

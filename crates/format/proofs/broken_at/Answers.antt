@@ -1,5 +1,5 @@
 use mathlib.Core.Path.{refl}
-use Rattle.format.specs.Decoding.{broken_is, broken_short, broken_long}
+use Rattle.format.proofs.Decoding.{broken_is, broken_short, broken_long}
 use Rattle.codec.proofs.Joined.{or_pick, pick_pick}
 use Rattle.format.proofs.broken_at.Goals as goal
 

@@ -1,6 +1,6 @@
 use mathlib.Core.Path.{refl}
 use native.Mathlib.Omega.{arith}
-use Rattle.format.specs.Decoding.{sound_of, spoilt_is}
+use Rattle.format.proofs.Decoding.{sound_of, spoilt_is}
 use Rattle.codec.proofs.Joined.{or_pick, pick_pick}
 use Rattle.format.proofs.spoilt_at.Goals as goal
 

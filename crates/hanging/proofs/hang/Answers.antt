@@ -1,5 +1,5 @@
 use Rattle.std.proofs.Common.{rules, sym, ap, ◌∙◌}
-use Rattle.format.specs.Passed.{passed}
+use Rattle.format.proofs.Passed.{passed}
 use Rattle.refusal.specs.Answer.{number_of}
 use Rattle.hanging.proofs.Laws.{nested, refused}
 use Rattle.hanging.proofs.hang.Goals as goal

@@ -1,6 +1,6 @@
 use native.Mathlib.Omega.{arith}
 use Rattle.nest.specs.Nest.{nest_array}
-use Rattle.nest.specs.Ready.{outline_at}
+use Rattle.nest.specs.OutlineAt.{outline_at}
 use Rattle.hanging.proofs.Laws.{copied}
 use Rattle.hanging.proofs.nested.Goals as goal
 

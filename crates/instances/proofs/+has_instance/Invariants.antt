@@ -1,5 +1,5 @@
 use mathlib.Core.Path.{◌≡◌}
-use Rattle.nest.specs.Ready.{outline_at}
+use Rattle.nest.specs.OutlineAt.{outline_at}
 use Rattle.walk.specs.Contexts.{context_by}
 use Rattle.walk.proofs.TourLaws.{some_child}
 use Prim.Native.Nat.{◌-◌}

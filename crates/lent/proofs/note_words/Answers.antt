@@ -1,5 +1,5 @@
 use Rattle.lent.proofs.Laws.{sized, noted_fit}
-use Rattle.lent.specs.Fit.{base}
+use Rattle.lent.specs.Window.{base}
 use native.Mathlib.Omega.{arith}
 use Rattle.lent.proofs.note_words.Goals as goal
 

@@ -1,4 +1,4 @@
-use Rattle.format.specs.Fields.{is_control}
+use Rattle.format.proofs.Fields.{is_control}
 use Rattle.format.specs.Refusal.{over_control}
 use Rattle.says.proofs.Walk.{both, only, says_at}
 use Rattle.codec.proofs.Joined.{or_pick, pick_pick}

@@ -1,9 +1,9 @@
 use mathlib.Core.Path.{◌∙◌}
-use Rattle.codec.specs.Skip.{skip_map, skip_pair}
-use Rattle.codec.specs.Maps.{is_num_map}
-use Rattle.codec.specs.Field.{is_pair}
-use Rattle.codec.specs.Limits.{any_nil}
-use Rattle.format.specs.Fields.{is_element}
+use Rattle.codec.proofs.Skip.{skip_map, skip_pair}
+use Rattle.codec.proofs.Maps.{is_num_map}
+use Rattle.codec.proofs.Field.{is_pair}
+use Rattle.codec.proofs.Limits.{any_nil}
+use Rattle.format.proofs.Fields.{is_element}
 use Rattle.format.specs.Spec.{element_c}
 use Rattle.format.specs.Refusal.{over_element}
 use Rattle.says.proofs.Pass.{is_found, is_clear, any_here, any_not, told_none, told_some, skip_num_map_list}

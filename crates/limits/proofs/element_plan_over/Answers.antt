@@ -1,6 +1,6 @@
-use Rattle.codec.specs.Skip.{skip_map, skip_pair}
-use Rattle.codec.specs.Limits.{any_nil}
-use Rattle.format.specs.Fields.{is_element_plan}
+use Rattle.codec.proofs.Skip.{skip_map, skip_pair}
+use Rattle.codec.proofs.Limits.{any_nil}
+use Rattle.format.proofs.Fields.{is_element_plan}
 use Rattle.format.specs.Plan.{element_plan_c}
 use Rattle.format.specs.Refusal.{over_element_plan}
 use Rattle.says.proofs.Walk.{says_be}

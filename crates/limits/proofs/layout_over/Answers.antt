@@ -1,4 +1,4 @@
-use Rattle.format.specs.Fields.{is_layout}
+use Rattle.format.proofs.Fields.{is_layout}
 use Rattle.says.proofs.Walk.{says_at}
 use Rattle.limits.proofs.layout_over.Goals as goal
 

@@ -1,5 +1,5 @@
-use Rattle.codec.specs.Skip.{skip_map, skip_pair}
-use Rattle.format.specs.Fields.{is_loop_plan}
+use Rattle.codec.proofs.Skip.{skip_map, skip_pair}
+use Rattle.format.proofs.Fields.{is_loop_plan}
 use Rattle.format.specs.Plan.{loop_plan_c}
 use Rattle.format.specs.Refusal.{over_loop_plan}
 use Rattle.says.proofs.Walk.{long_is, long_not}

@@ -1,8 +1,8 @@
 use mathlib.Core.Path.{refl, sym, ◌∙◌}
 use Rattle.limits.proofs.Known.{no_parts, some_parts}
 use native.Mathlib.Omega.{arith}
-use Rattle.codec.specs.Limits.{any_nil}
-use Rattle.format.specs.Decoding.{read_job, sound_of}
+use Rattle.codec.proofs.Limits.{any_nil}
+use Rattle.format.proofs.Decoding.{read_job, sound_of}
 use Rattle.format.specs.Refusal.{over}
 use Rattle.says.proofs.Walk.{section_says}
 use Rattle.says.proofs.Pass.{section_is, any_here, any_later, any_not, told_none, told_some}

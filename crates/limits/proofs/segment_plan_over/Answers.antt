@@ -1,5 +1,5 @@
-use Rattle.codec.specs.Skip.{skip_map, skip_pair}
-use Rattle.format.specs.Fields.{is_segment_plan}
+use Rattle.codec.proofs.Skip.{skip_map, skip_pair}
+use Rattle.format.proofs.Fields.{is_segment_plan}
 use Rattle.format.specs.Plan.{segment_plan_c}
 use Rattle.format.specs.Refusal.{over_segment_plan}
 use Rattle.says.proofs.Pass.{clears_at, clears_as}

@@ -1,7 +1,7 @@
 use mathlib.Core.Path.{refl, ◌∙◌}
-use Rattle.codec.specs.Maps.{is_bytes_map}
-use Rattle.codec.specs.Limits.{any_nil}
-use Rattle.format.specs.Fields.{is_spec}
+use Rattle.codec.proofs.Maps.{is_bytes_map}
+use Rattle.codec.proofs.Limits.{any_nil}
+use Rattle.format.proofs.Fields.{is_spec}
 use Rattle.format.specs.Refusal.{over_spec}
 use Rattle.says.proofs.Walk.{long_is, long_not, says_be}
 use Rattle.says.proofs.Pass.{any_here, any_later, any_not, told_none, told_some, skip_bytes_map_list}

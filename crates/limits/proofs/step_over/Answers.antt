@@ -1,4 +1,4 @@
-use Rattle.format.specs.Fields.{is_repeat}
+use Rattle.format.proofs.Fields.{is_repeat}
 use Rattle.format.specs.Refusal.{over_step}
 use Rattle.says.proofs.Walk.{says_at}
 use Rattle.limits.proofs.step_over.Goals as goal

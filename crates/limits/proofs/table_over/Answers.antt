@@ -1,7 +1,7 @@
-use Rattle.codec.specs.Ways.{skip_flag}
-use Rattle.codec.specs.Skip.{skip_map, skip_pair}
-use Rattle.codec.specs.Limits.{any_nil}
-use Rattle.format.specs.Fields.{is_table}
+use Rattle.codec.proofs.Ways.{skip_flag}
+use Rattle.codec.proofs.Skip.{skip_map, skip_pair}
+use Rattle.codec.proofs.Limits.{any_nil}
+use Rattle.format.proofs.Fields.{is_table}
 use Rattle.format.specs.Spec.{table_c}
 use Rattle.format.specs.Refusal.{over_table}
 use Rattle.says.proofs.Walk.{above_is, above_not, says_be}

@@ -1,4 +1,4 @@
-use Rattle.format.specs.Fields.{is_version}
+use Rattle.format.proofs.Fields.{is_version}
 use Rattle.format.specs.Refusal.{over_version}
 use Rattle.says.proofs.Walk.{says_at}
 use Rattle.limits.proofs.version_over.Goals as goal

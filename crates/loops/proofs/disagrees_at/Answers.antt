@@ -1,5 +1,5 @@
 use mathlib.Core.Path.{refl, sym, ◌∙◌}
-use Rattle.format.specs.Fields.{is_loop}
+use Rattle.format.proofs.Fields.{is_loop}
 use Rattle.format.specs.Refusal.{disagrees}
 use Rattle.says.proofs.Walk.{says_at}
 use Rattle.loops.proofs.Tangle.{third_true, third_false}

@@ -2,7 +2,7 @@ use native.Mathlib.Omega.{arith}
 use mathlib.Core.Path.{refl}
 use lib.Dec.{eqb}
 use Rattle.std.proofs.Common.{rules}
-use Rattle.codec.specs.Ways.{case_is, case_not}
+use Rattle.codec.proofs.Ways.{case_is, case_not}
 use Rattle.says.proofs.Behind.{rest_says}
 use Rattle.tree.specs.Parts.{on_loop}
 use Rattle.loops.proofs.Items.{item_again, item_never, member_in_any}

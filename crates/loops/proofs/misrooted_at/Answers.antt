@@ -1,6 +1,6 @@
 use native.Mathlib.Omega.{arith}
 use mathlib.Core.Path.{refl}
-use Rattle.codec.specs.Ways.{case_is, case_not}
+use Rattle.codec.proofs.Ways.{case_is, case_not}
 use Rattle.loops.proofs.Tangle.{child_roots, root_roots}
 use Rattle.loops.proofs.misrooted_at.Goals as goal
 

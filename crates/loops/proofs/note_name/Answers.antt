@@ -1,4 +1,4 @@
-use Rattle.codec.specs.Ways.{case_is, case_not}
+use Rattle.codec.proofs.Ways.{case_is, case_not}
 use mathlib.Core.Path.{refl}
 use native.Mathlib.Omega.{arith}
 use lib.ListN.{length-set}

@@ -1,6 +1,6 @@
 use mathlib.Core.Path.{refl}
-use Rattle.codec.specs.Field.{is_at}
-use Rattle.format.specs.Fields.{is_spec}
+use Rattle.codec.proofs.Field.{is_at}
+use Rattle.format.proofs.Fields.{is_spec}
 use Rattle.says.proofs.Walk.{both, only, says_at}
 use Rattle.loops.proofs.Forest.{children_tangle}
 use Rattle.loops.specs.Parts.{tangled_spec}

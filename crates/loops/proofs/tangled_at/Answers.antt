@@ -1,6 +1,6 @@
 use mathlib.Core.Path.{refl}
 use native.Mathlib.Omega.{arith}
-use Rattle.format.specs.Decoding.{read_job, sound_of}
+use Rattle.format.proofs.Decoding.{read_job, sound_of}
 use Rattle.says.proofs.Walk.{section_says}
 use Rattle.says.proofs.Walk.{count_length}
 use Rattle.loops.proofs.Forest.{order_says, order_out, roots_for, spec_loops, spec_roots_lem, tangled_outside, tangled_order, tangled_rest, tangled_roots, tangled_spec_lem}

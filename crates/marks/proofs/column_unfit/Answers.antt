@@ -1,7 +1,7 @@
 use native.Mathlib.Omega.{arith}
 use mathlib.Core.Path.{refl}
-use Rattle.codec.specs.Ways.{case_some, case_none}
-use Rattle.format.specs.Fields.{is_column}
+use Rattle.codec.proofs.Ways.{case_some, case_none}
+use Rattle.format.proofs.Fields.{is_column}
 use Rattle.format.specs.Refusal.{unfit_column}
 use Rattle.marks.proofs.Marks.{scale_int, scale_wide, scale_none}
 use Rattle.marks.proofs.column_unfit.Goals as goal

@@ -1,6 +1,6 @@
-use Rattle.codec.specs.Skip.{skip_map, skip_pair}
-use Rattle.codec.specs.Field.{is_pair}
-use Rattle.format.specs.Fields.{is_component}
+use Rattle.codec.proofs.Skip.{skip_map, skip_pair}
+use Rattle.codec.proofs.Field.{is_pair}
+use Rattle.format.proofs.Fields.{is_component}
 use Rattle.format.specs.Spec.{component_c}
 use Rattle.format.specs.Refusal.{unfit_component}
 use Rattle.says.proofs.Pass.{clears_at, clears_as}

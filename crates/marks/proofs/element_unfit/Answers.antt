@@ -1,8 +1,8 @@
 use mathlib.Core.Path.{◌∙◌}
-use Rattle.codec.specs.Skip.{skip_map, skip_pair}
-use Rattle.codec.specs.Maps.{is_num_map}
-use Rattle.codec.specs.Field.{is_pair}
-use Rattle.format.specs.Fields.{is_element}
+use Rattle.codec.proofs.Skip.{skip_map, skip_pair}
+use Rattle.codec.proofs.Maps.{is_num_map}
+use Rattle.codec.proofs.Field.{is_pair}
+use Rattle.format.proofs.Fields.{is_element}
 use Rattle.format.specs.Spec.{element_c}
 use Rattle.format.specs.Refusal.{unfit_element}
 use Rattle.says.proofs.Pass.{clears_at, clears_after, is_found, any_here, told_none, told_some, skip_num_map_list}

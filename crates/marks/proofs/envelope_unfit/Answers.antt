@@ -1,6 +1,6 @@
 use mathlib.Core.Path.{refl}
-use Rattle.codec.specs.Field.{is_at}
-use Rattle.format.specs.Fields.{is_envelope_lem}
+use Rattle.codec.proofs.Field.{is_at}
+use Rattle.format.proofs.Fields.{is_envelope_lem}
 use Rattle.format.specs.Refusal.{unfit_envelope}
 use Rattle.says.proofs.Walk.{both, only, says_at}
 use Rattle.codec.proofs.Joined.{or_pick, pick_pick}

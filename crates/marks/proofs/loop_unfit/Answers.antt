@@ -1,7 +1,7 @@
-use Rattle.codec.specs.Skip.{skip_map, skip_pair}
-use Rattle.codec.specs.Limits.{any_nil}
-use Rattle.format.specs.Ends.{skip_usage}
-use Rattle.format.specs.Fields.{is_loop}
+use Rattle.codec.proofs.Skip.{skip_map, skip_pair}
+use Rattle.codec.proofs.Limits.{any_nil}
+use Rattle.format.proofs.Ends.{skip_usage}
+use Rattle.format.proofs.Fields.{is_loop}
 use Rattle.format.specs.Spec.{loop_c}
 use Rattle.format.specs.Refusal.{unfit_loop}
 use Rattle.std.proofs.Common.{◌∙◌}

@@ -1,6 +1,6 @@
 use native.Mathlib.Omega.{arith}
 use mathlib.Core.Path.{refl}
-use Rattle.codec.specs.Ways.{case_is, case_not}
+use Rattle.codec.proofs.Ways.{case_is, case_not}
 use Rattle.marks.proofs.Marks.{marks_three, marks_four}
 use Rattle.marks.proofs.marks_unfit.Goals as goal
 

@@ -1,4 +1,4 @@
-use Rattle.codec.specs.Field.{is_pair}
+use Rattle.codec.proofs.Field.{is_pair}
 use Rattle.format.specs.Refusal.{unfit_reference}
 use Rattle.says.proofs.Walk.{says_at}
 use Rattle.marks.proofs.reference_unfit.Goals as goal

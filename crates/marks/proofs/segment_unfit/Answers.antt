@@ -1,7 +1,7 @@
 use mathlib.Core.Path.{refl, sym, ◌∙◌}
-use Rattle.codec.specs.Skip.{skip_pair}
-use Rattle.codec.specs.Maps.{is_num_map}
-use Rattle.codec.specs.Field.{is_pair}
+use Rattle.codec.proofs.Skip.{skip_pair}
+use Rattle.codec.proofs.Maps.{is_num_map}
+use Rattle.codec.proofs.Field.{is_pair}
 use Rattle.format.specs.Refusal.{unfit_segment}
 use Rattle.says.proofs.Walk.{says_be}
 use Rattle.says.proofs.Pass.{clears_at, clears_after, is_found, any_here, skip_num_map_list}

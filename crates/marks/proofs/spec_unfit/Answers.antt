@@ -1,8 +1,8 @@
 use mathlib.Core.Path.{refl, ◌∙◌}
-use Rattle.codec.specs.Skip.{skip_map, skip_pair}
-use Rattle.codec.specs.Maps.{is_bytes_map}
-use Rattle.codec.specs.Limits.{any_nil}
-use Rattle.format.specs.Fields.{is_spec}
+use Rattle.codec.proofs.Skip.{skip_map, skip_pair}
+use Rattle.codec.proofs.Maps.{is_bytes_map}
+use Rattle.codec.proofs.Limits.{any_nil}
+use Rattle.format.proofs.Fields.{is_spec}
 use Rattle.format.specs.Spec.{spec_c}
 use Rattle.format.specs.Refusal.{unfit_spec}
 use Rattle.says.proofs.Walk.{says_be}

@@ -1,6 +1,6 @@
 use mathlib.Core.Path.{◌∙◌}
-use Rattle.codec.specs.Skip.{skip_map, skip_pair}
-use Rattle.format.specs.Fields.{is_table_data_lem}
+use Rattle.codec.proofs.Skip.{skip_map, skip_pair}
+use Rattle.format.proofs.Fields.{is_table_data_lem}
 use Rattle.format.specs.Data.{table_data_c}
 use Rattle.format.specs.Refusal.{unfit_table_data}
 use Rattle.says.proofs.Walk.{says_be}

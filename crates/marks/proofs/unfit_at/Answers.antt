@@ -1,6 +1,6 @@
 use mathlib.Core.Path.{refl}
 use native.Mathlib.Omega.{arith}
-use Rattle.format.specs.Decoding.{read_job, sound_of}
+use Rattle.format.proofs.Decoding.{read_job, sound_of}
 use Rattle.format.specs.Refusal.{unfit}
 use Rattle.says.proofs.Walk.{both, only, section_says}
 use Rattle.says.proofs.Pass.{section_is, told_is}

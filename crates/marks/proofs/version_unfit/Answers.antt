@@ -1,5 +1,5 @@
 use mathlib.Core.Path.{refl}
-use Rattle.format.specs.Fields.{is_version}
+use Rattle.format.proofs.Fields.{is_version}
 use Rattle.format.specs.Refusal.{unfit_version}
 use Rattle.says.proofs.Walk.{both, only, says_at}
 use Rattle.codec.proofs.Joined.{or_pick}

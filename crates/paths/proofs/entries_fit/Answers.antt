@@ -1,6 +1,6 @@
 use mathlib.Core.Path.{refl, sym, ◌∙◌}
 use mathlib.Core.Bool.{true≢false}
-use Rattle.codec.specs.Field.{stands_at, stands_list}
+use Rattle.codec.proofs.Field.{stands_at, stands_list}
 use Rattle.codec.specs.Forms.{num_c}
 use Rattle.codec.specs.Codec.{list_c}
 use Rattle.paths.proofs.Answers.{decides_no, decides_eq, capacity_count, lists_right, lists_pass}

@@ -2,7 +2,8 @@ use native.Mathlib.Omega.{arith}
 use Prim.Native.Nat.{◌≤◌}
 use mathlib.Core.List.{[]}
 use lib.ListN.{length}
-use Rattle.lent.specs.Fit.{cap, wide}
+use Rattle.lent.specs.Fit.{cap}
+use Rattle.lent.proofs.Fit.{wide}
 use Rattle.emit.specs.Fold.{stop_out}
 use Rattle.repeats.proofs.RowLaws.{table_small}
 use Rattle.repeats.proofs.Adding.{row_added, mark_small}

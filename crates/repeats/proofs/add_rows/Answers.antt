@@ -2,7 +2,7 @@ use Rattle.nest.specs.Found.{hooked_at}
 use native.Mathlib.Omega.{arith}
 use Rattle.repeats.proofs.SoFar.{so_start, so_small, so_written, so_next, so_end}
 use Rattle.repeats.proofs.RowLaws.{next_found, next_none, row_in_lem}
-use Rattle.emit.specs.Did.{Fit}
+use Rattle.emit.proofs.Did.{Fit}
 use Rattle.repeats.proofs.add_rows.Goals as goal
 use Rattle.repeats.proofs.add_rows.Goals.{Start}
 

@@ -2,7 +2,7 @@ use native.Mathlib.Omega.{arith}
 use mathlib.Core.Path.{refl}
 use mathlib.Core.List.{[]}
 use Rattle.emit.specs.Fold.{steps_out}
-use Rattle.emit.specs.Did.{Fit}
+use Rattle.emit.proofs.Did.{Fit}
 use Rattle.repeats.proofs.Adding.{mark_small}
 use Rattle.repeats.proofs.RowLaws.{loop_low}
 use Rattle.repeats.proofs.SoFar.{left_first, first_in, first_holds, few_more, took_first}

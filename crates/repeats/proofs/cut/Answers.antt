@@ -1,7 +1,7 @@
 use native.Mathlib.Omega.{arith}
 use mathlib.Core.List.{[]}
 use Rattle.emit.specs.Fold.{steps_out}
-use Rattle.emit.specs.Did.{Fit}
+use Rattle.emit.proofs.Did.{Fit}
 use Rattle.repeats.proofs.Adding.{row_begins, mark_small}
 use Rattle.repeats.proofs.cut.Goals as goal
 use Rattle.repeats.proofs.cut.Goals.{Start}

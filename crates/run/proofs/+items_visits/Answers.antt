@@ -10,10 +10,10 @@ use Rattle.nest.proofs.Small.{order_small}
 use Rattle.walk.specs.Contexts.{context_by}
 use Rattle.walk.specs.Tour.{segments_in}
 use Rattle.walk.proofs.TourLaws.{steps_of}
-use Rattle.emit.specs.Did.{Fit}
+use Rattle.emit.proofs.Did.{Fit}
 use Rattle.emit.proofs.DidLaws.{did_small, did_fit}
 use Rattle.instances.proofs.Cursors.{came_in, sound_in}
-use Rattle.plan.specs.Planned.{order_stands}
+use Rattle.plan.proofs.PlannedLaws.{order_stands}
 use Rattle.run.proofs.Along.{far_small}
 use Rattle.run.proofs.Walking.{items_within, instance_within, instance_took, within, items_none, items_end, segment_within, segment_written, segment_next, loop_within, loop_written, loop_count, loop_next, visits_none, visits_low, visits_within, visits_end, instance_fits, fewer, sum_fits, visits_next, few_instances, few_children}
 use Rattle.run.proofs.+items_visits.Goals as goal

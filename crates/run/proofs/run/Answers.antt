@@ -1,5 +1,5 @@
 use native.Mathlib.Omega.{arith}
-use Rattle.emit.specs.Did.{Fit}
+use Rattle.emit.proofs.Did.{Fit}
 use Rattle.run.proofs.Along.{far_small}
 use Rattle.run.proofs.Touring.{walks_root, tour_none, tour_end, root_within, tour_next}
 use Rattle.run.proofs.run.Goals as goal

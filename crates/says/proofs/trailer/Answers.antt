@@ -1,4 +1,4 @@
-use Rattle.format.specs.Decoding.{sound_of}
+use Rattle.format.proofs.Decoding.{sound_of}
 use native.Mathlib.Omega.{arith}
 use Rattle.says.proofs.trailer.Goals as goal
 

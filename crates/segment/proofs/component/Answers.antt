@@ -1,6 +1,6 @@
 use mathlib.Core.Path.{sym, ◌∙◌}
 use Rattle.segment.proofs.Strokes.{placed_none, penned_none, penned_text}
-use Rattle.segment.specs.Pen.{value_text}
+use Rattle.segment.specs.Values.{value_text}
 use Rattle.segment.proofs.component.Goals as goal
 
 pub returns-then-is_empty : goal.returns-then-is_empty

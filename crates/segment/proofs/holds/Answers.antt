@@ -1,5 +1,5 @@
 use mathlib.Core.Path.{◌∙◌}
-use Rattle.segment.specs.Pen.{value_text}
+use Rattle.segment.specs.Values.{value_text}
 use Rattle.segment.proofs.Texts.{one_byte}
 use Rattle.segment.proofs.holds.Goals as goal
 

@@ -1,7 +1,8 @@
 use Prim.Native.Nat.{◌≤◌}
 use native.Mathlib.Omega.{arith}
 use lib.ListN.{length}
-use Rattle.lent.specs.Fit.{cap, stretch}
+use Rattle.lent.specs.Fit.{cap}
+use Rattle.lent.specs.Window.{stretch}
 use Rattle.lent.proofs.Laws.{stored_append}
 use Rattle.segment.proofs.Strokes.{placed_none, penned_none, penned_text}
 use Rattle.segment.proofs.Texts.{some_there, none_there}

@@ -1,7 +1,8 @@
 use Prim.Native.Nat.{◌≤◌}
 use native.Mathlib.Omega.{arith}
 use lib.ListN.{length, replicate}
-use Rattle.lent.specs.Fit.{cap, stretch}
+use Rattle.lent.specs.Fit.{cap}
+use Rattle.lent.specs.Window.{stretch}
 use Rattle.lent.proofs.Laws.{stored_append}
 use Rattle.segment.proofs.put_back.Goals as goal
 use Rattle.segment.proofs.put_back.Goals.{Start}

@@ -1,6 +1,6 @@
 use mathlib.Core.Path.{refl, ◌∙◌}
 use mathlib.Core.List.{[]}
-use Rattle.segment.specs.Pen.{one_of}
+use Rattle.segment.specs.Values.{one_of}
 use Rattle.segment.proofs.Texts.{any_none, any_run}
 use Rattle.segment.proofs.run_holds.Goals as goal
 

@@ -2,8 +2,8 @@ use Prim.Native.Nat.{◌<◌}
 use mathlib.Core.Path.{sym, ◌∙◌}
 use native.Mathlib.Omega.{arith}
 use lib.ListN.{length}
-use Rattle.lent.specs.Fit.{stretch}
-use Rattle.segment.specs.Pen.{one_of}
+use Rattle.lent.specs.Window.{stretch}
+use Rattle.segment.specs.Values.{one_of}
 use Rattle.segment.proofs.Texts.{any_turn, any_past}
 use Rattle.segment.proofs.stretch_holds.Goals as goal
 

@@ -1,7 +1,7 @@
 use mathlib.Core.Path.{◌≡◌}
 use lib.ListN.{drop}
-use Rattle.lent.specs.Fit.{stretch}
-use Rattle.segment.specs.Pen.{holds_any, one_of}
+use Rattle.lent.specs.Window.{stretch}
+use Rattle.segment.specs.Values.{holds_any, one_of}
 use Rattle.segment.proofs.stretch_holds.Given as goal
 
 abbrev pub invariant-loop-i : goal.invariant-loop-i

@@ -1,4 +1,4 @@
-use Rattle.format.specs.Ends.{skip_usage}
+use Rattle.format.proofs.Ends.{skip_usage}
 use Rattle.tree.proofs.children_at.Goals as goal
 
 pub returns : goal.returns

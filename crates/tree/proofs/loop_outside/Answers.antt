@@ -1,6 +1,6 @@
 use mathlib.Core.Path.{refl}
 use Rattle.codec.proofs.Joined.{or_pick}
-use Rattle.format.specs.Fields.{is_loop}
+use Rattle.format.proofs.Fields.{is_loop}
 use Rattle.format.specs.Refusal.{outside_loop}
 use Rattle.says.proofs.Walk.{both, only, says_at}
 use Rattle.tree.proofs.loop_outside.Goals as goal

@@ -1,6 +1,6 @@
 use native.Mathlib.Omega.{arith}
 use mathlib.Core.Path.{refl, sym}
-use Rattle.codec.specs.Ways.{case_is, case_not}
+use Rattle.codec.proofs.Ways.{case_is, case_not}
 use Rattle.tree.proofs.Tree.{item_there, item_not}
 use Rattle.tree.proofs.named_at.Goals as goal
 

@@ -1,7 +1,7 @@
 use mathlib.Core.Path.{refl, ap, sym, ◌∙◌}
 use Rattle.std.specs.Prelude.{ℕ}
 use Rattle.codec.specs.Limits.{any_of}
-use Rattle.format.specs.Fields.{is_spec}
+use Rattle.format.proofs.Fields.{is_spec}
 use Rattle.format.specs.Refusal.{outside, outside_loop, outside_table}
 use Rattle.says.proofs.Walk.{count_length, says_at}
 use Rattle.says.proofs.Pass.{any_here, any_later, any_one, any_past}

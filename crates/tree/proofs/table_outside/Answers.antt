@@ -1,5 +1,5 @@
 use mathlib.Core.Path.{refl}
-use Rattle.format.specs.Fields.{is_table}
+use Rattle.format.proofs.Fields.{is_table}
 use Rattle.format.specs.Refusal.{outside_table}
 use Rattle.says.proofs.Walk.{says_at}
 use Rattle.tree.proofs.table_outside.Goals as goal

@@ -2,7 +2,7 @@ use Rattle.trigger.proofs.Laws.{close_endless, close_is, text_gone, text_there}
 use Rattle.emit.proofs.DidLaws.{did_nothing}
 use Rattle.emit.proofs.StateLaws.{number_in}
 use Rattle.spec.specs.Answers.{rule_of, stretch_of}
-use Rattle.segment.specs.Pen.{value_text}
+use Rattle.segment.specs.Values.{value_text}
 use Rattle.emit.specs.Did.{state_of, state_with}
 use Rattle.format.specs.Sections.{job_of}
 use mathlib.Core.Path.{refl, sym}

@@ -1,7 +1,7 @@
 use mathlib.Core.Path.{sym, ap, ◌∙◌}
 use Rattle.std.proofs.lemmas.Result.{err_from_is_err_and}
 use Rattle.refusal.specs.Answer.{number_of}
-use Rattle.format.specs.Passed.{passed}
+use Rattle.format.proofs.Passed.{passed}
 use Rattle.writer.proofs.AnswerLaws.{wrote_not}
 use Rattle.writer.proofs.window.Goals as goal
 

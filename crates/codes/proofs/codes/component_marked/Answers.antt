@@ -1,5 +1,5 @@
-use Rattle.codec.specs.Field.{is_pair}
-use Rattle.format.specs.Fields.{is_component}
+use Rattle.codec.proofs.Field.{is_pair}
+use Rattle.format.proofs.Fields.{is_component}
 use Rattle.codes.specs.Codes.{marked_component}
 use Rattle.says.proofs.Walk.{says_at}
 use Rattle.codes.proofs.codes.component_marked.Goals as goal

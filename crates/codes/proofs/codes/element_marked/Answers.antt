@@ -1,6 +1,6 @@
-use Rattle.codec.specs.Maps.{is_num_map}
-use Rattle.codec.specs.Field.{is_pair}
-use Rattle.format.specs.Fields.{is_element}
+use Rattle.codec.proofs.Maps.{is_num_map}
+use Rattle.codec.proofs.Field.{is_pair}
+use Rattle.format.proofs.Fields.{is_element}
 use Rattle.codes.specs.Codes.{marked_element}
 use Rattle.codes.proofs.Laws.{found_first, found_next}
 use Rattle.says.proofs.Walk.{only, says_at}

@@ -1,4 +1,4 @@
-use Rattle.format.specs.Fields.{is_element_plan}
+use Rattle.format.proofs.Fields.{is_element_plan}
 use Rattle.codes.specs.Codes.{marked_element_plan}
 use Rattle.says.proofs.Walk.{says_at}
 use Rattle.codes.proofs.codes.element_plan_marked.Goals as goal

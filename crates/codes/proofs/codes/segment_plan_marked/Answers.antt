@@ -1,4 +1,4 @@
-use Rattle.format.specs.Fields.{is_segment_plan}
+use Rattle.format.proofs.Fields.{is_segment_plan}
 use Rattle.codes.specs.Codes.{marked_segment_plan}
 use Rattle.says.proofs.Walk.{says_at}
 use Rattle.codes.proofs.codes.segment_plan_marked.Goals as goal

@@ -1,6 +1,6 @@
 use native.Mathlib.Omega.{arith}
 use mathlib.Core.Path.{refl}
-use Rattle.codec.specs.Ways.{case_is, case_not}
+use Rattle.codec.proofs.Ways.{case_is, case_not}
 use Rattle.codes.proofs.Reading.{code_there, code_not}
 use Rattle.codes.proofs.codes.value_marked.Goals as goal
 

@@ -1,4 +1,4 @@
-use Rattle.format.specs.Fields.{is_version}
+use Rattle.format.proofs.Fields.{is_version}
 use Rattle.codes.specs.Codes.{marked_version}
 use Rattle.says.proofs.Walk.{says_at}
 use Rattle.codes.proofs.codes.version_marked.Goals as goal

@@ -1,5 +1,5 @@
 use mathlib.Core.Path.{refl}
-use Rattle.codec.specs.Field.{is_pair}
+use Rattle.codec.proofs.Field.{is_pair}
 use Rattle.codes.specs.Maps.{low_component}
 use Rattle.says.proofs.Walk.{says_at}
 use Rattle.codes.proofs.maps.component_low.Goals as goal

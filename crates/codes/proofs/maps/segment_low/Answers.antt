@@ -1,5 +1,5 @@
-use Rattle.codec.specs.Maps.{is_num_map}
-use Rattle.codec.specs.Field.{is_pair}
+use Rattle.codec.proofs.Maps.{is_num_map}
+use Rattle.codec.proofs.Field.{is_pair}
 use Rattle.codes.specs.Maps.{low_segment}
 use Rattle.says.proofs.Walk.{says_at}
 use Rattle.codes.proofs.maps.segment_low.Goals as goal

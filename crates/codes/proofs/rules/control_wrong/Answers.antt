@@ -1,5 +1,5 @@
 use Rattle.std.proofs.Common.{rules}
-use Rattle.format.specs.Fields.{is_control}
+use Rattle.format.proofs.Fields.{is_control}
 use Rattle.codes.proofs.Laws.{control_says, one_of_three, same_numbers}
 use Rattle.says.proofs.Walk.{says_at}
 use Rattle.codes.proofs.rules.control_wrong.Goals as goal

@@ -1,5 +1,5 @@
-use Rattle.format.specs.Ends.{skip_usage}
-use Rattle.format.specs.Fields.{is_loop}
+use Rattle.format.proofs.Ends.{skip_usage}
+use Rattle.format.proofs.Fields.{is_loop}
 use Rattle.codes.specs.Rules.{wrong_loop}
 use Rattle.says.proofs.Walk.{says_at}
 use Rattle.codes.proofs.rules.loop_wrong.Goals as goal

@@ -1,5 +1,5 @@
 use Rattle.column.proofs.Columns.{opt_end_absent, opt_end_there}
-use Rattle.codec.specs.Field.{stands_opt, stands_some}
+use Rattle.codec.proofs.Field.{stands_opt, stands_some}
 use Rattle.column.proofs.data.after_opt.Goals as goal
 
 pub returns-then-job-at-eq0 : goal.returns-then-job-at-eq0

@@ -1,4 +1,4 @@
-use Rattle.codec.specs.Field.{stands_in, stands_first, stands_le, stands_list, stands_next}
+use Rattle.codec.proofs.Field.{stands_in, stands_first, stands_le, stands_list, stands_next}
 use Rattle.column.proofs.Refs.{rest_start, rest_stands, rest_found, rest_next, rest_done}
 use native.Mathlib.Omega.{arith}
 use Rattle.column.proofs.data.find_ref.Goals as goal

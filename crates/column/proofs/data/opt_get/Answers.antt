@@ -1,4 +1,4 @@
-use Rattle.codec.specs.Field.{stands_opt, stands_some}
+use Rattle.codec.proofs.Field.{stands_opt, stands_some}
 use Rattle.column.proofs.Columns.{opt_zero, opt_absent, opt_there}
 use Rattle.column.proofs.data.opt_get.Goals as goal
 

@@ -1,4 +1,4 @@
-use Rattle.codec.specs.Field.{stands_opt, stands_some}
+use Rattle.codec.proofs.Field.{stands_opt, stands_some}
 use Rattle.column.proofs.Columns.{opt_zero, opt_there, int_absent, int_other}
 use Rattle.column.specs.Cell.{int64_of}
 use mathlib.Core.Path.{ap, ◌∙◌}

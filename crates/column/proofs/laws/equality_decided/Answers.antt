@@ -1,6 +1,6 @@
 use Rattle.std.proofs.Common.{◌≡◌, true, subst}
 use Rattle.column.specs.Cell.{same_bytes, same_cell, same_cells, same_answer}
-use Rattle.column.specs.Same.{same_bytes_lem, bytes_same, same_cell_lem, cell_same, same_cells_lem, cells_same, same_answer_lem, answer_same}
+use Rattle.column.proofs.SameLaws.{same_bytes_lem, bytes_same, same_cell_lem, cell_same, same_cells_lem, cells_same, same_answer_lem, answer_same}
 use Rattle.column.proofs.laws.equality_decided.Goals as goal
 
 pub returns : goal.returns

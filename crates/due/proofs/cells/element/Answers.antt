@@ -1,4 +1,4 @@
-use Rattle.plan.specs.Elements.{element_stands, element_step}
+use Rattle.plan.proofs.Elements.{element_stands, element_step}
 use Rattle.due.proofs.cells.element.Goals as goal
 
 pub element_at-requires : goal.element_at-requires

@@ -2,12 +2,13 @@ use Rattle.std.specs.Prelude.{None}
 use Rattle.emit.specs.Puts.{part_at}
 use Rattle.segment.proofs.Runs.{run_stored}
 use Rattle.emit.proofs.JoinLaws.{last_of_two}
-use Rattle.lent.specs.Fit.{cap, stretch}
+use Rattle.lent.specs.Fit.{cap}
+use Rattle.lent.specs.Window.{stretch}
 use lib.ListN.{length}
 use native.Mathlib.Omega.{arith}
 use mathlib.Core.List.{[], ◌∷◌}
 use Prim.Native.Nat.{◌≤◌}
-use Rattle.segment.specs.Pen.{value_text}
+use Rattle.segment.specs.Values.{value_text}
 use Rattle.emit.proofs.closer.join_two.Goals as goal
 use Rattle.emit.proofs.closer.join_two.Goals.{Start}
 

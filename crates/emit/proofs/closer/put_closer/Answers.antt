@@ -1,6 +1,6 @@
 use Rattle.emit.proofs.JoinLaws.{closer_count_first, closer_control_first}
-use Rattle.segment.specs.Pen.{value_text}
-use Rattle.lent.specs.Fit.{stretch}
+use Rattle.segment.specs.Values.{value_text}
+use Rattle.lent.specs.Window.{stretch}
 use Rattle.emit.proofs.closer.put_closer.Goals as goal
 
 pub returns-then-c : goal.returns-then-c

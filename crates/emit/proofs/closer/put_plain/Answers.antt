@@ -1,6 +1,6 @@
 use Rattle.emit.proofs.JoinLaws.{plain_empty, plain_filled}
 use mathlib.Core.Path.{sym, ◌∙◌}
-use Rattle.segment.specs.Pen.{value_text}
+use Rattle.segment.specs.Values.{value_text}
 use Rattle.emit.proofs.closer.put_plain.Goals as goal
 
 pub returns-then-is_empty : goal.returns-then-is_empty

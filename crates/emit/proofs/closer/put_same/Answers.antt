@@ -1,6 +1,6 @@
 use Rattle.emit.proofs.JoinLaws.{same_empty, same_filled}
 use mathlib.Core.Path.{sym, ◌∙◌}
-use Rattle.segment.specs.Pen.{value_text}
+use Rattle.segment.specs.Values.{value_text}
 use Rattle.emit.proofs.closer.put_same.Goals as goal
 
 pub returns-then-both_empty : goal.returns-then-both_empty

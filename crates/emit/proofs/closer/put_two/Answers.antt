@@ -1,6 +1,6 @@
 use Rattle.std.proofs.Math.Arith.{lt_of_le-ne}
 use Rattle.emit.proofs.JoinLaws.{two_stuck, two_same, two_apart}
-use Rattle.segment.specs.Pen.{value_text}
+use Rattle.segment.specs.Values.{value_text}
 use Prim.Native.Nat.{◌<◌}
 use Rattle.emit.proofs.closer.put_two.Goals as goal
 

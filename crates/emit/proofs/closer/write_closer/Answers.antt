@@ -1,6 +1,6 @@
 use Rattle.emit.proofs.StepLaws.{did_closer}
-use Rattle.segment.specs.Pen.{value_text}
-use Rattle.lent.specs.Fit.{stretch}
+use Rattle.segment.specs.Values.{value_text}
+use Rattle.lent.specs.Window.{stretch}
 use Rattle.emit.proofs.closer.write_closer.Goals as goal
 
 pub returns : goal.returns

@@ -1,12 +1,12 @@
-use Rattle.texts.specs.Reason.{why_in}
+use Rattle.texts.specs.Said.{why_in}
 use Rattle.emit.specs.Puts.{held_in, unwritten}
 use Rattle.emit.specs.Written.{tried}
 use Rattle.emit.proofs.FindingLaws.{stored_findings}
-use Rattle.lent.specs.Fit.{wide}
+use Rattle.lent.proofs.Fit.{wide}
 use lib.ListN.{length}
 use native.Mathlib.Omega.{arith}
 use Prim.Native.Nat.{◌≤◌}
-use Rattle.segment.specs.Pen.{value_text}
+use Rattle.segment.specs.Values.{value_text}
 use Rattle.emit.proofs.findings.note_cell.Goals as goal
 use Rattle.emit.proofs.findings.note_cell.Goals.{Start}
 

@@ -1,8 +1,8 @@
 use Rattle.std.proofs.Common.{sym, ◌∙◌, rules}
-use Rattle.texts.specs.Reason.{why_in}
+use Rattle.texts.specs.Said.{why_in}
 use Rattle.texts.proofs.Answers.{no_reason}
 use Rattle.emit.specs.Written.{tried}
-use Rattle.segment.specs.Pen.{value_text}
+use Rattle.segment.specs.Values.{value_text}
 use Rattle.emit.proofs.FindingLaws.{none_found}
 use Rattle.emit.proofs.findings.silent.Goals as goal
 

@@ -1,10 +1,10 @@
 use Rattle.emit.specs.Written.{tried_last}
 use Rattle.emit.proofs.FindingLaws.{stored_next}
-use Rattle.lent.specs.Fit.{wide}
+use Rattle.lent.proofs.Fit.{wide}
 use lib.ListN.{length}
 use native.Mathlib.Omega.{arith}
 use Prim.Native.Nat.{◌≤◌}
-use Rattle.segment.specs.Pen.{value_text}
+use Rattle.segment.specs.Values.{value_text}
 use Rattle.emit.proofs.findings.try_from_segment.Goals as goal
 use Rattle.emit.proofs.findings.try_from_segment.Goals.{Start}
 

@@ -1,5 +1,5 @@
 use Rattle.emit.proofs.FindingLaws.{none_tried}
-use Rattle.segment.specs.Pen.{value_text}
+use Rattle.segment.specs.Values.{value_text}
 use Rattle.emit.proofs.findings.try_last.Goals as goal
 
 pub returns-in-None : goal.returns-in-None

@@ -1,4 +1,4 @@
-use Rattle.segment.specs.Pen.{value_text}
+use Rattle.segment.specs.Values.{value_text}
 use mathlib.Core.Path.{sym, ◌∙◌}
 use Rattle.emit.proofs.FindingLaws.{stored_held, stored_not_held}
 use Rattle.emit.proofs.findings.try_one.Goals as goal

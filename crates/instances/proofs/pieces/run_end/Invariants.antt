@@ -1,5 +1,5 @@
 use Prim.Native.Nat.{◌-◌}
-use Rattle.nest.specs.Ready.{outline_at}
+use Rattle.nest.specs.OutlineAt.{outline_at}
 use Rattle.instances.proofs.Runs.{Running}
 use Rattle.instances.proofs.pieces.run_end.Given as goal
 

@@ -1,4 +1,4 @@
-use Rattle.format.specs.Passed.{passed}
+use Rattle.format.proofs.Passed.{passed}
 use Rattle.lossless.proofs.Theorem.{nothing_lost}
 use Rattle.lossless.proofs.laws.nothing_lost.Goals as goal
 

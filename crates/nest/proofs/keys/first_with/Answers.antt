@@ -4,9 +4,10 @@ use lib.Dec.{eqb}
 use Rattle.format.specs.Ask as A
 use Rattle.format.specs.Sections.{job_of}
 use Rattle.column.specs.Cell.{key_of}
-use Rattle.nest.specs.Lists.{keep, first, up_to}
+use Rattle.nest.specs.Lists.{keep, first}
+use Rattle.nest.specs.UpTo.{up_to}
 use Rattle.nest.specs.Found.{found_by}
-use Rattle.nest.specs.Ready.{outline_at}
+use Rattle.nest.specs.OutlineAt.{outline_at}
 use Rattle.nest.proofs.Bridge.{rows_is, key_is}
 use Rattle.nest.proofs.keys.first_with.Goals as goal
 

@@ -2,7 +2,8 @@ use mathlib.Core.Path.{sym, ap, ◌∙◌}
 use borrow.Author.Rules.{rules}
 use lib.Dec.{eqb}
 use Rattle.format.specs.Sections.{job_of}
-use Rattle.nest.specs.Lists.{some_of, up_to}
+use Rattle.nest.specs.Lists.{some_of}
+use Rattle.nest.specs.UpTo.{up_to}
 use Rattle.nest.specs.Outline.{table_of}
 use Rattle.nest.specs.OfJob.{outline_of}
 use Rattle.nest.proofs.Bridge.{table_count_is}

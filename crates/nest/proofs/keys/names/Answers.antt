@@ -4,7 +4,8 @@ use lib.Dec.{eqb}
 use lib.ListN.{get_or}
 use Rattle.format.specs.Ask as A
 use Rattle.format.specs.Sections.{job_of}
-use Rattle.nest.specs.Lists.{some_of, up_to}
+use Rattle.nest.specs.Lists.{some_of}
+use Rattle.nest.specs.UpTo.{up_to}
 use Rattle.nest.proofs.Bridge.{ancestors_is}
 use Rattle.nest.proofs.Scan.{some_place}
 use Rattle.nest.proofs.keys.names.Goals as goal

@@ -1,5 +1,6 @@
 use Rattle.std.proofs.Common.{ℕ, ◌≡◌, Bool}
-use Rattle.nest.specs.Lists.{keep, first, up_to}
+use Rattle.nest.specs.Lists.{keep, first}
+use Rattle.nest.specs.UpTo.{up_to}
 use Rattle.nest.specs.Seek.{AnswersAs}
 use Rattle.nest.proofs.seek.first_row_where.Given as goal
 

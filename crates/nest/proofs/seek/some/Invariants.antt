@@ -1,5 +1,6 @@
 use Rattle.std.proofs.Common.{ℕ, ◌≡◌, Bool}
-use Rattle.nest.specs.Lists.{some_of, up_to}
+use Rattle.nest.specs.Lists.{some_of}
+use Rattle.nest.specs.UpTo.{up_to}
 use Rattle.nest.specs.Seek.{AnswersAs}
 use Rattle.nest.proofs.seek.some.Given as goal
 

@@ -1,7 +1,7 @@
 use mathlib.Core.Path.{ap, ◌∙◌}
 use borrow.Author.Rules.{rules}
 use lib.ListN.{get_or}
-use Rattle.format.specs.Ask.{order_of}
+use Rattle.format.specs.Orders.{order_of}
 use Rattle.format.specs.Sections.{job_of}
 use Rattle.plan.specs.Answers.{item_of, no_item}
 use Rattle.walk.specs.Check.{how_many}

@@ -1,6 +1,6 @@
 use native.Mathlib.Omega.{arith}
 use mathlib.Core.Path.{refl, sym, ap, ◌∙◌}
-use Rattle.codec.specs.Ways.{case_some, case_none}
+use Rattle.codec.proofs.Ways.{case_some, case_none}
 use Rattle.places.specs.Spots.{filled_of}
 use Rattle.places.proofs.Reading.{source_repeat, source_row, source_envelope}
 use Rattle.places.proofs.spots.filled_at.Goals as goal

@@ -1,4 +1,4 @@
-use Rattle.format.specs.Fields.{is_loop_plan}
+use Rattle.format.proofs.Fields.{is_loop_plan}
 use Rattle.says.proofs.Walk.{says_at}
 use Rattle.places.specs.Spots.{wrong_plan}
 use Rattle.places.proofs.spots.plan_wrong.Goals as goal

@@ -1,6 +1,6 @@
 use native.Mathlib.Omega.{arith}
 use mathlib.Core.Path.{refl}
-use Rattle.codec.specs.Ways.{case_is, case_not}
+use Rattle.codec.proofs.Ways.{case_is, case_not}
 use Rattle.places.proofs.Reading.{reach_group, reach_one}
 use Rattle.places.proofs.spots.reach_at.Goals as goal
 

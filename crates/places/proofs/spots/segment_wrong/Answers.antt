@@ -1,5 +1,5 @@
-use Rattle.codec.specs.Field.{is_at}
-use Rattle.format.specs.Fields.{is_segment_plan}
+use Rattle.codec.proofs.Field.{is_at}
+use Rattle.format.proofs.Fields.{is_segment_plan}
 use Rattle.says.proofs.Walk.{says_at}
 use Rattle.places.proofs.Reading.{segment_is}
 use Rattle.places.proofs.spots.segment_wrong.Goals as goal

@@ -1,5 +1,5 @@
 use mathlib.Core.Path.{refl}
-use Rattle.format.specs.Fields.{is_element_plan}
+use Rattle.format.proofs.Fields.{is_element_plan}
 use Rattle.says.proofs.Walk.{number_is, says_at}
 use Rattle.places.proofs.Reading.{spot_is}
 use Rattle.places.proofs.spots.spot_at.Goals as goal

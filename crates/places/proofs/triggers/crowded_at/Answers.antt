@@ -1,8 +1,8 @@
 use mathlib.Core.Path.{refl, sym}
 use borrow.Author.Tests.{eq-eqb, ne_eqb}
-use Rattle.codec.specs.Maps.{is_num_map}
-use Rattle.codec.specs.Field.{is_pair}
-use Rattle.format.specs.Fields.{is_element}
+use Rattle.codec.proofs.Maps.{is_num_map}
+use Rattle.codec.proofs.Field.{is_pair}
+use Rattle.format.proofs.Fields.{is_element}
 use Rattle.says.proofs.Walk.{number_is}
 use Rattle.places.proofs.Turning.{count_empty, crowded_is}
 use Rattle.places.proofs.triggers.crowded_at.Goals as goal

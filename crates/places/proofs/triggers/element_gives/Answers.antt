@@ -1,7 +1,7 @@
 use mathlib.Core.Path.{refl}
 use borrow.Author.Tests.{eq-eqb}
-use Rattle.codec.specs.Field.{is_pair}
-use Rattle.format.specs.Fields.{is_element}
+use Rattle.codec.proofs.Field.{is_pair}
+use Rattle.format.proofs.Fields.{is_element}
 use Rattle.says.proofs.Walk.{number_is}
 use Rattle.places.proofs.Turning.{count_empty, gives_opener, gives_field}
 use Rattle.places.proofs.triggers.element_gives.Goals as goal

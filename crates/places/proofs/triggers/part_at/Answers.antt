@@ -1,9 +1,9 @@
 use native.Mathlib.Omega.{arith}
 use mathlib.Core.Path.{refl, sym}
 use borrow.Author.Tests.{eq-eqb, ne_eqb}
-use Rattle.format.specs.Fields.{is_element_plan}
-use Rattle.codec.specs.Field.{is_at}
-use Rattle.codec.specs.Ways.{case_is, case_not}
+use Rattle.format.proofs.Fields.{is_element_plan}
+use Rattle.codec.proofs.Field.{is_at}
+use Rattle.codec.proofs.Ways.{case_is, case_not}
 use Rattle.says.proofs.Walk.{number_is, present_by}
 use Rattle.places.proofs.Turning.{part_is}
 use Rattle.places.proofs.triggers.part_at.Goals as goal

@@ -1,5 +1,5 @@
-use Rattle.format.specs.Fields.{is_loop_plan}
-use Rattle.spec.specs.Found.{place_nowhere, place_at}
+use Rattle.format.proofs.Fields.{is_loop_plan}
+use Rattle.spec.proofs.Found.{place_nowhere, place_at}
 use Rattle.says.proofs.Walk.{says_at}
 use Rattle.places.proofs.Turning.{ruled_nowhere, ruled_there}
 use Rattle.places.proofs.triggers.ruled_wrong.Goals as goal

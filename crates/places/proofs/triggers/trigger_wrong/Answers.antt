@@ -1,8 +1,8 @@
 use native.Mathlib.Omega.{arith}
 use mathlib.Core.Path.{refl}
-use Rattle.codec.specs.Field.{is_at}
-use Rattle.codec.specs.Ways.{case_is, case_not}
-use Rattle.format.specs.Fields.{is_segment_plan}
+use Rattle.codec.proofs.Field.{is_at}
+use Rattle.codec.proofs.Ways.{case_is, case_not}
+use Rattle.format.proofs.Fields.{is_segment_plan}
 use Rattle.plan.proofs.Reading.{source_room}
 use Rattle.places.proofs.Turning.{trigger_yes, trigger_no}
 use Rattle.places.proofs.triggers.trigger_wrong.Goals as goal

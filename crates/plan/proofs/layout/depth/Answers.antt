@@ -1,7 +1,7 @@
 use mathlib.Core.Path.{◌∙◌}
 use native.Mathlib.Omega.{arith}
 use Rattle.std.specs.Prelude.{None}
-use Rattle.spec.specs.Region.{listed_room, listed_stands}
+use Rattle.spec.proofs.RegionLaws.{listed_room, listed_stands}
 use Rattle.plan.proofs.Asking.{depth_lacks, depth_is}
 use Rattle.plan.proofs.layout.depth.Goals as goal
 

@@ -1,4 +1,4 @@
-use Rattle.spec.specs.Region.{listed_room}
+use Rattle.spec.proofs.RegionLaws.{listed_room}
 use borrow.Author.Tests.{le-ltb}
 use mathlib.Core.Path.{refl, ◌∙◌}
 use native.Mathlib.Omega.{arith}

@@ -1,6 +1,6 @@
 use mathlib.Core.List.{[]}
 use native.Mathlib.Omega.{arith}
-use Rattle.spec.specs.Region.{listed_room, listed_stands}
+use Rattle.spec.proofs.RegionLaws.{listed_room, listed_stands}
 use Rattle.plan.proofs.Asking.{column_lacks, column_is}
 use Rattle.plan.proofs.layout.group_column.Goals as goal
 

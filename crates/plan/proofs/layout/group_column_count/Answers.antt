@@ -1,5 +1,5 @@
 use native.Mathlib.Omega.{arith}
-use Rattle.spec.specs.Region.{listed_room}
+use Rattle.spec.proofs.RegionLaws.{listed_room}
 use mathlib.Core.Path.{refl}
 use Rattle.plan.proofs.Asking.{inner_none, inner_some, column_room, column_count}
 use Rattle.plan.proofs.layout.group_column_count.Goals as goal

@@ -1,4 +1,4 @@
-use Rattle.plan.specs.Planned.{order_stands}
+use Rattle.plan.proofs.PlannedLaws.{order_stands}
 use Rattle.plan.proofs.Asking.{order_lacks}
 use Rattle.plan.proofs.layout.item.Goals as goal
 

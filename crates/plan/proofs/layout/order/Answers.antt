@@ -1,4 +1,4 @@
-use Rattle.spec.specs.Region.{listed_room}
+use Rattle.spec.proofs.RegionLaws.{listed_room}
 use mathlib.Core.Path.{refl}
 use native.Mathlib.Omega.{arith}
 use Rattle.plan.proofs.Asking.{inner_none, inner_some, order_room, order_count, order_at}

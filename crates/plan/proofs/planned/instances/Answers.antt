@@ -1,9 +1,9 @@
 use native.Mathlib.Omega.{arith}
-use Rattle.codec.specs.Field.{stands_at}
+use Rattle.codec.proofs.Field.{stands_at}
 use Rattle.format.specs.Plan.{LoopPlan, instances_c}
 use Rattle.plan.proofs.Asking.{plan_lacks, plan_is}
 use mathlib.Core.Path.{ap, refl}
-use Rattle.spec.specs.Region.{listed_room}
+use Rattle.spec.proofs.RegionLaws.{listed_room}
 use Rattle.plan.proofs.planned.instances.Goals as goal
 
 pub item_place-requires : goal.item_place-requires

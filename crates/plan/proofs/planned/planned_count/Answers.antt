@@ -1,5 +1,5 @@
 use native.Mathlib.Omega.{arith}
-use Rattle.spec.specs.Region.{listed_room}
+use Rattle.spec.proofs.RegionLaws.{listed_room}
 use mathlib.Core.Path.{ap, refl}
 use lib.ListN.{length}
 use Rattle.format.specs.Plan.{LoopPlan}

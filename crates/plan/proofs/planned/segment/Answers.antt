@@ -1,5 +1,5 @@
 use mathlib.Core.Path.{refl}
-use Rattle.codec.specs.Field.{stands_at}
+use Rattle.codec.proofs.Field.{stands_at}
 use Rattle.format.specs.Plan.{segment_plan_c}
 use Rattle.plan.proofs.Asking.{unplanned_is, planned_is, planned_read}
 use Rattle.plan.proofs.planned.segment.Goals as goal

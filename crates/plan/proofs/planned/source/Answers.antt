@@ -1,5 +1,5 @@
 use mathlib.Core.Path.{refl}
-use Rattle.codec.specs.Field.{stands_at}
+use Rattle.codec.proofs.Field.{stands_at}
 use Rattle.format.specs.Plan.{SegmentPlan, source_c}
 use Rattle.plan.proofs.Asking.{planned_lacks, source_is}
 use mathlib.Core.Path.{ap}

@@ -1,7 +1,7 @@
 use Rattle.lent.proofs.Laws.{stored_length}
 use Rattle.repeat_segment.proofs.FillLaws.{fill_start, fill_next, fill_passed, fill_end}
 use Rattle.repeat_segment.proofs.Steps.{stands_here, read_step}
-use Rattle.lent.specs.Fit.{wide}
+use Rattle.lent.proofs.Fit.{wide}
 use lib.ListN.{length}
 use mathlib.Core.Path.{sym}
 use Prim.Native.Nat.{◌≤◌}

@@ -1,6 +1,6 @@
 use Prim.Native.Nat.{◌+◌}
 use mathlib.Core.Path.{ap}
-use Rattle.lent.specs.Fit.{stretch}
+use Rattle.lent.specs.Window.{stretch}
 use Rattle.emit.specs.Written.{tried}
 use Rattle.row_segment.proofs.NoteLaws.{cell_entry}
 use Rattle.row_segment.proofs.FeedLaws.{stood_silent, held_part, held_silent}

@@ -1,7 +1,8 @@
 use Prim.Native.Nat.{◌≤◌}
 use native.Mathlib.Omega.{arith}
 use lib.ListN.{length}
-use Rattle.lent.specs.Fit.{cap, wide}
+use Rattle.lent.specs.Fit.{cap}
+use Rattle.lent.proofs.Fit.{wide}
 use Rattle.row_segment.proofs.NoteLaws.{room_first, small_first, between_room}
 use Rattle.row_segment.proofs.RowLaws.{line_joined}
 use Rattle.row_segment.proofs.join.join_any.Goals as goal

@@ -1,7 +1,7 @@
 use Prim.Native.Nat.{◌≤◌}
 use native.Mathlib.Omega.{arith}
 use lib.ListN.{length}
-use Rattle.lent.specs.Fit.{wide}
+use Rattle.lent.proofs.Fit.{wide}
 use Rattle.row_segment.proofs.StreamLaws.{left_less}
 use Rattle.row_segment.proofs.NoteLaws.{between_none, between_next, between_room}
 use Rattle.row_segment.proofs.GroupLaws.{scanning_start, scanning_next, scanned_else, scanned_none}

@@ -1,6 +1,6 @@
 use Rattle.std.proofs.Common.{rules}
 use mathlib.Core.Path.{ap, ◌∙◌}
-use Rattle.texts.specs.Reason.{why_in}
+use Rattle.texts.specs.Said.{why_in}
 use Rattle.texts.proofs.Answers.{no_reason}
 use Rattle.nest.specs.Finding.{cell, number_from}
 use Rattle.emit.specs.Puts.{place_of}

@@ -1,7 +1,8 @@
 use Prim.Native.Nat.{◌≤◌}
 use native.Mathlib.Omega.{arith}
 use lib.ListN.{length}
-use Rattle.lent.specs.Fit.{cap, wide}
+use Rattle.lent.specs.Fit.{cap}
+use Rattle.lent.proofs.Fit.{wide}
 use Rattle.row_segment.proofs.OrderLaws.{line_ordered}
 use Rattle.row_segment.proofs.order.join_ordered.Goals as goal
 use Rattle.row_segment.proofs.order.join_ordered.Goals.{Start}

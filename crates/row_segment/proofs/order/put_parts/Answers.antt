@@ -1,7 +1,7 @@
 use Prim.Native.Nat.{◌≤◌}
 use native.Mathlib.Omega.{arith}
 use lib.ListN.{length}
-use Rattle.lent.specs.Fit.{wide}
+use Rattle.lent.proofs.Fit.{wide}
 use Rattle.row_segment.proofs.OrderLaws.{feeding_start, feeding_few, feeding_part, feeding_none, feeding_end, stands_here, stands_next, puts_some, puts_none}
 use Rattle.row_segment.proofs.order.put_parts.Goals as goal
 use Rattle.row_segment.proofs.order.put_parts.Goals.{in-Some, in_default}

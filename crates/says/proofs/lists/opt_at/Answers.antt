@@ -1,5 +1,5 @@
 use mathlib.Core.Path.{refl, sym}
-use Rattle.codec.specs.Ways.{case_is, case_not}
+use Rattle.codec.proofs.Ways.{case_is, case_not}
 use native.Mathlib.Omega.{arith}
 use Rattle.says.proofs.Walk.{opt_there, opt_none}
 use Rattle.says.proofs.lists.opt_at.Goals as goal

@@ -1,7 +1,7 @@
 use Prim.Native.Nat.{◌+◌, ◌≤◌, max}
 use mathlib.Core.Path.{◌≡◌}
 use lib.ListN.{length, drop}
-use Rattle.segment.specs.Reading.{run}
+use Rattle.segment.specs.Reader.{run}
 use Rattle.segment.proofs.read.find.Given as goal
 
 abbrev pub invariant-loop-i : goal.invariant-loop-i

@@ -1,8 +1,8 @@
 use mathlib.Core.Path.{refl}
-use Rattle.format.specs.Fields.{is_element}
-use Rattle.codec.specs.Field.{stands_at}
-use Rattle.spec.specs.Found.{element_sized}
-use Rattle.spec.specs.Cursor.{first_room, first_number, first_element}
+use Rattle.format.proofs.Fields.{is_element}
+use Rattle.codec.proofs.Field.{stands_at}
+use Rattle.spec.proofs.Found.{element_sized}
+use Rattle.spec.proofs.Cursor.{first_room, first_number, first_element}
 use native.Mathlib.Omega.{arith}
 use Rattle.spec.proofs.elements.element.Goals as goal
 

@@ -1,4 +1,4 @@
-use Rattle.spec.specs.Cursor.{entries_of, segment_room}
+use Rattle.spec.proofs.Cursor.{entries_of, segment_room}
 use mathlib.Core.Path.{refl}
 use Rattle.spec.proofs.elements.elements.Goals as goal
 

@@ -1,6 +1,6 @@
 use mathlib.Core.Path.{refl}
-use Rattle.codec.specs.Field.{stands_at, stands_list}
-use Rattle.spec.specs.Cursor.{codes_at, code_none, code_is, code_stands}
+use Rattle.codec.proofs.Field.{stands_at, stands_list}
+use Rattle.spec.proofs.Cursor.{codes_at, code_none, code_is, code_stands}
 use native.Mathlib.Omega.{arith}
 use Rattle.spec.proofs.elements.first_code.Goals as goal
 

@@ -1,7 +1,7 @@
 use Rattle.format.specs.Spec.{element_c}
 use Rattle.codec.specs.Forms.{num_c}
-use Rattle.codec.specs.Skip.{skip_pair}
-use Rattle.spec.specs.Cursor.{entries_next}
+use Rattle.codec.proofs.Skip.{skip_pair}
+use Rattle.spec.proofs.Cursor.{entries_next}
 use mathlib.Core.Path.{refl}
 use Rattle.spec.proofs.elements.next_element.Goals as goal
 

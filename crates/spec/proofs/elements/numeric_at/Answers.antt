@@ -3,8 +3,9 @@ use Rattle.std.proofs.lemmas.Bool.{eqb-false}
 use Rattle.std.specs.Prelude.{eqb, ltb, get_or}
 use Rattle.codec.specs.Skip.{Is}
 use Rattle.format.specs.Spec.{Kind, kind_c}
-use Rattle.spec.specs.Standing.{stands_kind}
-use Rattle.spec.specs.Cursor.{is_numeric, numeric_low, numeric_is, numeric_high}
+use Rattle.spec.proofs.Standing.{stands_kind}
+use Rattle.spec.specs.Cursor.{is_numeric}
+use Rattle.spec.proofs.Cursor.{numeric_low, numeric_is, numeric_high}
 use Rattle.spec.proofs.elements.numeric_at.Goals as goal
 
 numeric : (b : List ℕ) (at t : ℕ) → t ≡ get_or b at 0 → (e : ℕ) (v : Kind) → Is kind_c b e at v → (u : Bool) → eqb t 2 ≡ u → u ≡ is_numeric v

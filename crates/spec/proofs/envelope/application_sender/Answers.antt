@@ -1,4 +1,4 @@
-use Rattle.codec.specs.Field.{is_at, stands_at}
+use Rattle.codec.proofs.Field.{is_at, stands_at}
 use Rattle.spec.proofs.envelope.application_sender.Goals as goal
 
 pub text_at-requires : goal.text_at-requires

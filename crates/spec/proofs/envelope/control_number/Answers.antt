@@ -1,4 +1,4 @@
-use Rattle.codec.specs.Field.{is_at, is_le, stands_le, stands_at}
+use Rattle.codec.proofs.Field.{is_at, is_le, stands_le, stands_at}
 use mathlib.Core.Path.{sym, ◌∙◌}
 use Rattle.spec.proofs.envelope.control_number.Goals as goal
 

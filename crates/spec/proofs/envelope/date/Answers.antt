@@ -1,5 +1,5 @@
-use Rattle.codec.specs.Field.{is_at, stands_le, stands_at}
-use Rattle.spec.specs.Reads.{num_reads}
+use Rattle.codec.proofs.Field.{is_at, stands_le, stands_at}
+use Rattle.spec.proofs.ReadsLaws.{num_reads}
 use Rattle.spec.proofs.envelope.date.Goals as goal
 
 pub num_in-requires : goal.num_in-requires

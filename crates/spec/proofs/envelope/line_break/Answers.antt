@@ -1,6 +1,6 @@
-use Rattle.codec.specs.Field.{is_at, stands_at}
-use Rattle.spec.specs.Standing.{stands_flag}
-use Rattle.spec.specs.Reads.{flag_reads}
+use Rattle.codec.proofs.Field.{is_at, stands_at}
+use Rattle.spec.proofs.Standing.{stands_flag}
+use Rattle.spec.proofs.ReadsLaws.{flag_reads}
 use Rattle.spec.proofs.envelope.line_break.Goals as goal
 
 pub flag_at-requires : goal.flag_at-requires

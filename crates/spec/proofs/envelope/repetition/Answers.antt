@@ -1,4 +1,4 @@
-use Rattle.codec.specs.Field.{is_at, stands_at}
+use Rattle.codec.proofs.Field.{is_at, stands_at}
 use Rattle.spec.proofs.envelope.repetition.Goals as goal
 
 pub byte_number_at-requires : goal.byte_number_at-requires

@@ -1,6 +1,6 @@
 use mathlib.Core.Path.{refl}
-use Rattle.codec.specs.Field.{is_at, stands_le, stands_at}
-use Rattle.spec.specs.Reads.{byte_reads}
+use Rattle.codec.proofs.Field.{is_at, stands_le, stands_at}
+use Rattle.spec.proofs.ReadsLaws.{byte_reads}
 use native.Mathlib.Omega.{arith}
 use Rattle.spec.proofs.envelope.segment_terminator.Goals as goal
 

@@ -1,4 +1,4 @@
-use Rattle.codec.specs.Field.{is_at, stands_at}
+use Rattle.codec.proofs.Field.{is_at, stands_at}
 use Rattle.spec.proofs.envelope.sender_qualifier.Goals as goal
 
 pub stretch_at-requires : goal.stretch_at-requires

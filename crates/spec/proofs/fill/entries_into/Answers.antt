@@ -1,10 +1,10 @@
 use Rattle.std.specs.Prelude.{◌≡◌, ◌+◌, ◌-◌}
-use Rattle.spec.specs.Kept.{stored_one}
-use Rattle.codec.specs.Skip.{skip_pair, list_start, list_again, list_done}
+use Rattle.spec.proofs.Kept.{stored_one}
+use Rattle.codec.proofs.Skip.{skip_pair, list_start, list_again, list_done}
 use Rattle.codec.specs.Forms.{bytes_c}
 use Rattle.spec.specs.Rows.{entry_rows}
 use Rattle.format.specs.Spec.{segment_c}
-use Rattle.codec.specs.Rows.{rows_next, rows_done}
+use Rattle.codec.proofs.Rows.{rows_next, rows_done}
 use native.Mathlib.Omega.{arith}
 use mathlib.Core.Path.{refl}
 use Rattle.spec.proofs.fill.entries_into.Goals as goal

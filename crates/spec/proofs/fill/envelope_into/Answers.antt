@@ -1,4 +1,4 @@
-use Rattle.spec.specs.EnvelopeIndex.{envelope_stored}
+use Rattle.spec.proofs.EnvelopeIndex.{envelope_stored}
 use Rattle.spec.proofs.fill.envelope_into.Goals as goal
 
 pub returns : goal.returns

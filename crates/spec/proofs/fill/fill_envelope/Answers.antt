@@ -1,4 +1,4 @@
-use Rattle.spec.specs.EnvelopeIndex.{envelope_filled}
+use Rattle.spec.proofs.EnvelopeIndex.{envelope_filled}
 use Rattle.spec.proofs.fill.fill_envelope.Goals as goal
 
 pub returns : goal.returns

@@ -1,5 +1,5 @@
-use Rattle.spec.specs.Kept.{stored_one}
-use Rattle.spec.specs.Segments.{few_entries, entries_end, segments_filled}
+use Rattle.spec.proofs.Kept.{stored_one}
+use Rattle.spec.proofs.SegmentsLaws.{few_entries, entries_end, segments_filled}
 use native.Mathlib.Omega.{arith}
 use Rattle.spec.proofs.fill.fill_segments.Goals as goal
 

@@ -1,5 +1,5 @@
-use Rattle.spec.specs.Filling.{few_loops, few_at, fill_done}
-use Rattle.spec.specs.Filled.{spec_filled}
+use Rattle.spec.proofs.Filling.{few_loops, few_at, fill_done}
+use Rattle.spec.proofs.Filled.{spec_filled}
 use Rattle.spec.proofs.fill.fill_spec.Goals as goal
 
 pub loops_into-roots-requires : goal.loops_into-roots-requires

@@ -1,6 +1,6 @@
 use Rattle.format.specs.Spec.{loop_c}
-use Rattle.format.specs.Ends.{skip_usage}
-use Rattle.codec.specs.Skip.{skip_map, skip_pair}
+use Rattle.format.proofs.Ends.{skip_usage}
+use Rattle.codec.proofs.Skip.{skip_map, skip_pair}
 use mathlib.Core.Path.{sym, ◌∙◌}
 use Rattle.spec.proofs.fill.loop_into.Goals as goal
 

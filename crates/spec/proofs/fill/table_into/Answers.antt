@@ -1,6 +1,6 @@
 use Rattle.format.specs.Spec.{table_c}
-use Rattle.codec.specs.Ways.{skip_flag}
-use Rattle.codec.specs.Skip.{skip_map, skip_pair}
+use Rattle.codec.proofs.Ways.{skip_flag}
+use Rattle.codec.proofs.Skip.{skip_map, skip_pair}
 use Rattle.spec.proofs.fill.table_into.Goals as goal
 
 pub returns : goal.returns

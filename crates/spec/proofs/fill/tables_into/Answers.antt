@@ -1,7 +1,7 @@
 use Rattle.std.specs.Prelude.{◌≡◌, ◌+◌, ◌-◌, ◌*◌}
 use Rattle.spec.specs.Rows.{table_rows}
-use Rattle.codec.specs.Skip.{list_start, list_again, list_done}
-use Rattle.codec.specs.Rows.{rows_next, rows_done}
+use Rattle.codec.proofs.Skip.{list_start, list_again, list_done}
+use Rattle.codec.proofs.Rows.{rows_next, rows_done}
 use native.Mathlib.Omega.{arith}
 use mathlib.Core.Path.{refl}
 use Rattle.spec.proofs.fill.tables_into.Goals as goal

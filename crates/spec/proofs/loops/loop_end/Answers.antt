@@ -1,5 +1,5 @@
 use Rattle.format.specs.Spec.{Loop}
-use Rattle.spec.specs.Index.{loop_lacks, loop_is, loop_stands}
+use Rattle.spec.proofs.Index.{loop_lacks, loop_is, loop_stands}
 use mathlib.Core.Path.{refl}
 use native.Mathlib.Omega.{arith}
 use Rattle.spec.proofs.loops.loop_end.Goals as goal

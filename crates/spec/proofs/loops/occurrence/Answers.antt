@@ -1,8 +1,8 @@
 use mathlib.Core.Path.{refl}
 use Rattle.format.specs.Spec.{Loop}
-use Rattle.codec.specs.Field.{stands_at, stands_list}
-use Rattle.spec.specs.Reads.{nothing_held, string_none, string_is}
-use Rattle.spec.specs.Index.{loop_lacks, loop_is, loop_stands}
+use Rattle.codec.proofs.Field.{stands_at, stands_list}
+use Rattle.spec.proofs.ReadsLaws.{nothing_held, string_none, string_is}
+use Rattle.spec.proofs.Index.{loop_lacks, loop_is, loop_stands}
 use native.Mathlib.Omega.{arith}
 use Rattle.spec.proofs.loops.occurrence.Goals as goal
 

@@ -1,7 +1,7 @@
 use Rattle.format.specs.Spec.{Loop}
-use Rattle.spec.specs.Index.{loop_lacks, loop_is, loop_stands}
-use Rattle.codec.specs.Field.{stands_list}
-use Rattle.spec.specs.Reads.{count_reads}
+use Rattle.spec.proofs.Index.{loop_lacks, loop_is, loop_stands}
+use Rattle.codec.proofs.Field.{stands_list}
+use Rattle.spec.proofs.ReadsLaws.{count_reads}
 use Rattle.spec.proofs.loops.occurrence_count.Goals as goal
 
 pub returns-in_default : goal.returns-in_default

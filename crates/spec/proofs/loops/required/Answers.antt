@@ -1,7 +1,7 @@
 use Rattle.format.specs.Spec.{Loop}
-use Rattle.spec.specs.Index.{loop_lacks, loop_is, loop_stands}
-use Rattle.spec.specs.Standing.{stands_usage}
-use Rattle.spec.specs.Reads.{usage_reads}
+use Rattle.spec.proofs.Index.{loop_lacks, loop_is, loop_stands}
+use Rattle.spec.proofs.Standing.{stands_usage}
+use Rattle.spec.proofs.ReadsLaws.{usage_reads}
 use Rattle.spec.proofs.loops.required.Goals as goal
 
 pub returns-in_default : goal.returns-in_default

@@ -1,4 +1,4 @@
-use Rattle.codec.specs.Field.{is_at, stands_at}
+use Rattle.codec.proofs.Field.{is_at, stands_at}
 use Rattle.spec.proofs.loops.root.Goals as goal
 
 pub item_at-requires : goal.item_at-requires

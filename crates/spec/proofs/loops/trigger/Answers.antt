@@ -1,7 +1,7 @@
 use Rattle.format.specs.Spec.{Loop}
-use Rattle.spec.specs.Index.{loop_lacks, loop_is, loop_stands}
+use Rattle.spec.proofs.Index.{loop_lacks, loop_is, loop_stands}
 use mathlib.Core.Path.{refl}
-use Rattle.spec.specs.Reads.{nothing_held}
+use Rattle.spec.proofs.ReadsLaws.{nothing_held}
 use Rattle.spec.proofs.loops.trigger.Goals as goal
 
 pub returns-in_default : goal.returns-in_default

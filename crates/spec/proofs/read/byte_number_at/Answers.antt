@@ -1,6 +1,6 @@
-use Rattle.codec.specs.Field.{stands_le, stands_opt, stands_some}
+use Rattle.codec.proofs.Field.{stands_le, stands_opt, stands_some}
 use mathlib.Core.Path.{refl}
-use Rattle.spec.specs.Reads.{byte_none, byte_is}
+use Rattle.spec.proofs.ReadsLaws.{byte_none, byte_is}
 use Rattle.spec.proofs.Held.{is_unset, is_set}
 use native.Mathlib.Omega.{arith}
 use Rattle.spec.proofs.read.byte_number_at.Goals as goal

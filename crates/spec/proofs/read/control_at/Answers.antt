@@ -1,6 +1,6 @@
-use Rattle.codec.specs.Field.{stands_opt}
-use Rattle.spec.specs.Standing.{stands_control}
-use Rattle.spec.specs.Reads.{control_none, control_is}
+use Rattle.codec.proofs.Field.{stands_opt}
+use Rattle.spec.proofs.Standing.{stands_control}
+use Rattle.spec.proofs.ReadsLaws.{control_none, control_is}
 use Rattle.spec.proofs.Held.{is_unset, is_set}
 use native.Mathlib.Omega.{arith}
 use Rattle.spec.proofs.read.control_at.Goals as goal

@@ -1,6 +1,6 @@
-use Rattle.codec.specs.Field.{stands_list}
-use Rattle.spec.specs.Standing.{stands_item}
-use Rattle.spec.specs.Reads.{item_none, item_is}
+use Rattle.codec.proofs.Field.{stands_list}
+use Rattle.spec.proofs.Standing.{stands_item}
+use Rattle.spec.proofs.ReadsLaws.{item_none, item_is}
 use native.Mathlib.Omega.{arith}
 use Rattle.spec.proofs.read.item_at.Goals as goal
 

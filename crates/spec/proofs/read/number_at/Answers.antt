@@ -1,5 +1,5 @@
-use Rattle.codec.specs.Answers.{opt_nothing, opt_number}
-use Rattle.codec.specs.Field.{stands_le, stands_opt, stands_some}
+use Rattle.codec.proofs.Answers.{opt_nothing, opt_number}
+use Rattle.codec.proofs.Field.{stands_le, stands_opt, stands_some}
 use Rattle.spec.proofs.Held.{is_unset, is_set}
 use Rattle.spec.proofs.read.number_at.Goals as goal
 

@@ -1,4 +1,4 @@
-use Rattle.spec.specs.Index.{row_none, row_is}
+use Rattle.spec.proofs.Index.{row_none, row_is}
 use native.Mathlib.Omega.{arith}
 use Rattle.spec.proofs.read.row_place.Goals as goal
 

@@ -1,6 +1,6 @@
-use Rattle.codec.specs.Field.{stands_opt}
-use Rattle.spec.specs.Standing.{stands_step}
-use Rattle.spec.specs.Reads.{step_none, step_is}
+use Rattle.codec.proofs.Field.{stands_opt}
+use Rattle.spec.proofs.Standing.{stands_step}
+use Rattle.spec.proofs.ReadsLaws.{step_none, step_is}
 use Rattle.spec.proofs.Held.{is_unset, is_set}
 use native.Mathlib.Omega.{arith}
 use Rattle.spec.proofs.read.step_at.Goals as goal

@@ -1,6 +1,6 @@
 use mathlib.Core.Path.{refl}
-use Rattle.codec.specs.Field.{stands_list}
-use Rattle.spec.specs.Reads.{stretch_is}
+use Rattle.codec.proofs.Field.{stands_list}
+use Rattle.spec.proofs.ReadsLaws.{stretch_is}
 use Rattle.spec.proofs.read.stretch_at.Goals as goal
 
 pub num_in-requires : goal.num_in-requires

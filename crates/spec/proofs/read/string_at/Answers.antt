@@ -1,6 +1,6 @@
 use Rattle.std.specs.Prelude.{◌≡◌, ◌+◌, ◌-◌}
 use native.Mathlib.Omega.{arith}
-use Rattle.codec.specs.Skip.{list_again, list_done}
+use Rattle.codec.proofs.Skip.{list_again, list_done}
 use Rattle.spec.proofs.read.string_at.Goals as goal
 
 pub loop-i-preserved : goal.loop-i-preserved

@@ -1,5 +1,5 @@
-use Rattle.codec.specs.Field.{stands_opt, stands_some}
-use Rattle.spec.specs.Reads.{text_none, text_is}
+use Rattle.codec.proofs.Field.{stands_opt, stands_some}
+use Rattle.spec.proofs.ReadsLaws.{text_none, text_is}
 use Rattle.spec.proofs.Held.{is_unset, is_set}
 use Rattle.spec.proofs.read.text_at.Goals as goal
 

@@ -1,5 +1,5 @@
-use Rattle.format.specs.Fields.{is_element}
-use Rattle.codec.specs.Field.{is_at, stands_at}
+use Rattle.format.proofs.Fields.{is_element}
+use Rattle.codec.proofs.Field.{is_at, stands_at}
 use Rattle.spec.proofs.segments.element_min.Goals as goal
 
 pub number_at-requires : goal.number_at-requires

@@ -1,5 +1,5 @@
 use Rattle.spec.specs.Found.{PlaceOf}
-use Rattle.spec.specs.Found.{element_nowhere, element_there, stands_low, place_nowhere, place_at}
+use Rattle.spec.proofs.Found.{element_nowhere, element_there, stands_low, place_nowhere, place_at}
 use native.Mathlib.Omega.{arith}
 use Rattle.spec.proofs.segments.element_of.Goals as goal
 

@@ -1,5 +1,6 @@
-use Rattle.spec.specs.Found.{PlaceOf, names_counted, name_stands, names_more, name_found, name_missing}
-use Rattle.codec.specs.Field.{stands_at, stands_list}
+use Rattle.spec.specs.Found.{PlaceOf}
+use Rattle.spec.proofs.Found.{names_counted, name_stands, names_more, name_found, name_missing}
+use Rattle.codec.proofs.Field.{stands_at, stands_list}
 use Rattle.spec.specs.Answers.{stretch_of}
 use native.Mathlib.Omega.{arith}
 use Rattle.spec.proofs.segments.elements_of.Goals as goal

@@ -1,4 +1,4 @@
-use Rattle.spec.specs.Found.{OtherNames}
+use Rattle.spec.proofs.Found.{OtherNames}
 use Rattle.spec.specs.Answers.{stretch_of}
 use Rattle.spec.proofs.segments.elements_of.Given as goal
 

@@ -1,4 +1,4 @@
-use Rattle.spec.specs.Found.{key_same}
+use Rattle.spec.proofs.Found.{key_same}
 use Rattle.spec.proofs.segments.key_is.Goals as goal
 
 pub returns : goal.returns

@@ -1,8 +1,9 @@
 use Rattle.spec.specs.Found.{PlaceOf}
 use Rattle.codec.specs.Forms.{num_c}
 use Rattle.codec.specs.Codec.{◌⊗◌}
-use Rattle.codec.specs.Skip.{steps, skip_pair}
-use Rattle.spec.specs.Found.{others_more, number_found, number_missing, steps_last}
+use Rattle.codec.specs.Skip.{steps}
+use Rattle.codec.proofs.Skip.{skip_pair}
+use Rattle.spec.proofs.Found.{others_more, number_found, number_missing, steps_last}
 use native.Mathlib.Omega.{arith}
 use mathlib.Core.Path.{refl}
 use Rattle.spec.proofs.segments.map_place.Goals as goal

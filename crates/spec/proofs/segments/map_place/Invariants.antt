@@ -1,7 +1,7 @@
 use Rattle.codec.specs.Forms.{num_c}
 use Rattle.codec.specs.Codec.{◌⊗◌}
 use Rattle.codec.specs.Skip.{steps}
-use Rattle.spec.specs.Found.{Others}
+use Rattle.spec.proofs.Found.{Others}
 use Prim.Native.Nat.{◌+◌}
 use mathlib.Core.Path.{◌≡◌}
 use Rattle.spec.proofs.segments.map_place.Given as goal

@@ -1,6 +1,6 @@
 use mathlib.Core.Path.{refl}
-use Rattle.spec.specs.Found.{sized_max, element_max_at, component_max_at}
-use Rattle.codec.specs.Field.{stands_at}
+use Rattle.spec.proofs.Found.{sized_max, element_max_at, component_max_at}
+use Rattle.codec.proofs.Field.{stands_at}
 use Rattle.spec.proofs.segments.max_at.Goals as goal
 
 pub number_at-requires : goal.number_at-requires

@@ -1,4 +1,4 @@
-use Rattle.spec.specs.Found.{element_sized}
+use Rattle.spec.proofs.Found.{element_sized}
 use Rattle.spec.proofs.segments.max_in.Goals as goal
 
 pub max_at-requires : goal.max_at-requires

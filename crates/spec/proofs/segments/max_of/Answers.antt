@@ -1,4 +1,4 @@
-use Rattle.spec.specs.Found.{element_found, max_nowhere, max_there, place_nowhere, place_at}
+use Rattle.spec.proofs.Found.{element_found, max_nowhere, max_there, place_nowhere, place_at}
 use Rattle.spec.proofs.segments.max_of.Goals as goal
 
 pub returns-in_err-at : goal.returns-in_err-at

@@ -1,5 +1,5 @@
-use Rattle.spec.specs.Found.{components_at, component_sized, component_none, component_there, place_nowhere, place_at}
-use Rattle.codec.specs.Field.{is_in}
+use Rattle.spec.proofs.Found.{components_at, component_sized, component_none, component_there, place_nowhere, place_at}
+use Rattle.codec.proofs.Field.{is_in}
 use native.Mathlib.Omega.{arith}
 use Rattle.spec.proofs.segments.max_of_component.Goals as goal
 

@@ -1,4 +1,4 @@
-use Rattle.spec.specs.Found.{element_sized, element_found, min_nowhere, min_there, place_nowhere, place_at}
+use Rattle.spec.proofs.Found.{element_sized, element_found, min_nowhere, min_there, place_nowhere, place_at}
 use Rattle.spec.proofs.segments.min_of.Goals as goal
 
 pub returns-in_err-at : goal.returns-in_err-at

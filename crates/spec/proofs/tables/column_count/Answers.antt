@@ -1,7 +1,7 @@
 use Rattle.format.specs.Spec.{Table}
-use Rattle.spec.specs.Index.{table_lacks, table_is, table_stands}
-use Rattle.codec.specs.Field.{stands_le}
-use Rattle.spec.specs.Reads.{num_reads}
+use Rattle.spec.proofs.Index.{table_lacks, table_is, table_stands}
+use Rattle.codec.proofs.Field.{stands_le}
+use Rattle.spec.proofs.ReadsLaws.{num_reads}
 use Rattle.spec.proofs.tables.column_count.Goals as goal
 
 pub returns-in_default : goal.returns-in_default

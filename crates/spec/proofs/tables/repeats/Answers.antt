@@ -1,7 +1,7 @@
 use Rattle.format.specs.Spec.{Table}
-use Rattle.spec.specs.Index.{table_lacks, table_is, table_stands}
-use Rattle.spec.specs.Standing.{stands_flag}
-use Rattle.spec.specs.Reads.{flag_reads}
+use Rattle.spec.proofs.Index.{table_lacks, table_is, table_stands}
+use Rattle.spec.proofs.Standing.{stands_flag}
+use Rattle.spec.proofs.ReadsLaws.{flag_reads}
 use Rattle.spec.proofs.tables.repeats.Goals as goal
 
 pub returns-in_default : goal.returns-in_default

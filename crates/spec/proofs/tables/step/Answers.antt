@@ -1,5 +1,5 @@
 use Rattle.format.specs.Spec.{Table}
-use Rattle.spec.specs.Index.{table_lacks, table_is, table_stands}
+use Rattle.spec.proofs.Index.{table_lacks, table_is, table_stands}
 use Rattle.format.specs.Ask.{step_of}
 use Rattle.spec.proofs.tables.step.Goals as goal
 

@@ -1,4 +1,4 @@
-use Rattle.codec.specs.Field.{count_of, stands_at, stands_list}
+use Rattle.codec.proofs.Field.{count_of, stands_at, stands_list}
 use Rattle.spec.proofs.tables.table_count.Goals as goal
 
 pub num_in-requires : goal.num_in-requires

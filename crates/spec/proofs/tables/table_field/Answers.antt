@@ -1,5 +1,5 @@
 use mathlib.Core.Path.{refl}
-use Rattle.codec.specs.Field.{stands_at, stands_list}
+use Rattle.codec.proofs.Field.{stands_at, stands_list}
 use Rattle.spec.proofs.tables.table_field.Goals as goal
 
 pub row_place-requires : goal.row_place-requires

@@ -1,7 +1,7 @@
 use Rattle.format.specs.Spec.{Table}
-use Rattle.spec.specs.Index.{table_lacks, table_is, table_stands}
-use Rattle.codec.specs.Field.{stands_list}
-use Rattle.spec.specs.Reads.{count_reads}
+use Rattle.spec.proofs.Index.{table_lacks, table_is, table_stands}
+use Rattle.codec.proofs.Field.{stands_list}
+use Rattle.spec.proofs.ReadsLaws.{count_reads}
 use Rattle.spec.proofs.tables.table_loop_count.Goals as goal
 
 pub returns-in_default : goal.returns-in_default

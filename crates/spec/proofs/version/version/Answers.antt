@@ -1,4 +1,4 @@
-use Rattle.codec.specs.Field.{is_at, stands_at}
+use Rattle.codec.proofs.Field.{is_at, stands_at}
 use Rattle.spec.proofs.version.version.Goals as goal
 
 pub version_at-requires : goal.version_at-requires

@@ -1,6 +1,6 @@
 use mathlib.Core.Path.{refl}
-use Rattle.codec.specs.Field.{stands_le, stands_opt, stands_list}
-use Rattle.spec.specs.VersionIs.{version_none, version_is, version_stands}
+use Rattle.codec.proofs.Field.{stands_le, stands_opt, stands_list}
+use Rattle.spec.proofs.VersionIs.{version_none, version_is, version_stands}
 use Rattle.spec.proofs.Held.{is_unset, is_set}
 use Rattle.spec.proofs.version.version_at.Goals as goal
 

@@ -1,5 +1,5 @@
 use native.Mathlib.Omega.{arith}
-use Rattle.spec.specs.Region.{listed_room}
+use Rattle.spec.proofs.RegionLaws.{listed_room}
 use Rattle.tables.proofs.Asking.{past_table, column_there, column_past, none_cell, stands_before}
 use Rattle.tables.proofs.data.cell.Goals as goal
 

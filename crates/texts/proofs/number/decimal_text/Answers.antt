@@ -1,7 +1,8 @@
 use Rattle.std.proofs.Common.{ℕ, ap, ◌∙◌, rules}
 use Rattle.std.proofs.Common.{false, true, ◌++◌}
 use Rattle.texts.specs.Number.{decimal_text, fixed_text, minus}
-use Rattle.texts.specs.Wide.{value, signed128}
+use Rattle.texts.specs.Valued.{value}
+use Rattle.texts.specs.Wide.{signed128}
 use Rattle.texts.specs.Held.{held}
 use Rattle.texts.proofs.Signs.{decimal_plus, decimal_minus}
 use Rattle.texts.proofs.number.decimal_text.Goals as goal

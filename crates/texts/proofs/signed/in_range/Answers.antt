@@ -1,5 +1,5 @@
 use Rattle.std.proofs.Common.{◌∙◌, ap}
-use Rattle.texts.specs.Floor.{ranged_of}
+use Rattle.texts.specs.Ranged.{ranged_of}
 use Rattle.texts.proofs.Ranges.{no_u32, u32_is, contained}
 use Rattle.texts.proofs.signed.in_range.Goals as goal
 

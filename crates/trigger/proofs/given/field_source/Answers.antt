@@ -1,7 +1,7 @@
 use Rattle.trigger.proofs.Givens.{tells_as, field_0, field_1, field_2, field_3, field_4, field_5, field_6, field_7, field_8, field_11, field_none}
 use mathlib.Core.Path.{refl, sym, subst}
 use lib.IntN.{ℤ}
-use Rattle.texts.specs.Reason.{Says}
+use Rattle.texts.specs.Said.{Says}
 use Rattle.texts.specs.DateText.{envelope_date}
 use Rattle.texts.specs.Clock.{envelope_time}
 use Rattle.std.proofs.Common.{w32}

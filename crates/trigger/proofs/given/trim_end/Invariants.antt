@@ -1,7 +1,7 @@
 use Prim.Native.Nat.{◌+◌, ◌≤◌}
 use mathlib.Core.Path.{◌≡◌}
 use lib.ListN.{length}
-use Rattle.lent.specs.Fit.{stretch}
+use Rattle.lent.specs.Window.{stretch}
 use Rattle.emit.specs.Envelope.{trim_end}
 use Rattle.trigger.proofs.given.trim_end.Given as goal
 

@@ -1,5 +1,5 @@
 use Rattle.trigger.proofs.Draws.{draw_left, draw_sticks, draw_one}
-use Rattle.segment.specs.Pen.{value_text}
+use Rattle.segment.specs.Values.{value_text}
 use Rattle.trigger.proofs.opener.draw.Goals as goal
 
 pub returns-then-stuck : goal.returns-then-stuck

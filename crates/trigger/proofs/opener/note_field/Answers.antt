@@ -1,11 +1,11 @@
 use Rattle.std.specs.Prelude.{None}
-use Rattle.texts.specs.Reason.{why_in}
+use Rattle.texts.specs.Said.{why_in}
 use Rattle.trigger.proofs.Draws.{spot_is, field_stored}
-use Rattle.segment.specs.Pen.{value_text}
+use Rattle.segment.specs.Values.{value_text}
 use native.Mathlib.Omega.{arith}
 use lib.ListN.{length}
 use Prim.Native.Nat.{◌≤◌}
-use Rattle.lent.specs.Fit.{wide}
+use Rattle.lent.proofs.Fit.{wide}
 use Rattle.nest.specs.Finding.{field}
 use Rattle.nest.specs.Job.{job_by}
 use Rattle.trigger.specs.Drawn.{trigger_of}

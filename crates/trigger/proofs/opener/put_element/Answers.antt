@@ -1,7 +1,7 @@
 use Rattle.trigger.proofs.Draws.{adds_as, control_put, other_put}
 use mathlib.Core.Path.{◌≡◌, ◌∙◌}
 use Rattle.texts.specs.Pad.{control_text}
-use Rattle.segment.specs.Pen.{value_text}
+use Rattle.segment.specs.Values.{value_text}
 use Rattle.format.specs.Ask.{depth_of}
 use Rattle.spec.specs.Answers.{rule_of}
 use Rattle.nest.specs.Job.{job_by}

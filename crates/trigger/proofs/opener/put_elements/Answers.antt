@@ -3,7 +3,7 @@ use native.Mathlib.Omega.{arith}
 use lib.ListN.{length}
 use Prim.Native.Nat.{◌≤◌}
 use mathlib.Core.Path.{refl, ◌∙◌}
-use Rattle.lent.specs.Fit.{wide}
+use Rattle.lent.proofs.Fit.{wide}
 use Rattle.trigger.proofs.opener.put_elements.Goals as goal
 
 pub loop-rest-init : goal.loop-rest-init

@@ -1,4 +1,4 @@
-use Rattle.segment.specs.Pen.{value_text}
+use Rattle.segment.specs.Values.{value_text}
 use Rattle.trigger.proofs.Draws.{reach_one}
 use Rattle.trigger.proofs.opener.put_text.Goals as goal
 

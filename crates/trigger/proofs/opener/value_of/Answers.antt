@@ -1,4 +1,4 @@
-use Rattle.texts.specs.Reason.{why_in}
+use Rattle.texts.specs.Said.{why_in}
 use Rattle.texts.proofs.Answers.{some_there, no_reason}
 use Rattle.trigger.specs.Source.{text_in}
 use Rattle.trigger.proofs.Draws.{raw_text, plain_text, padded_is}

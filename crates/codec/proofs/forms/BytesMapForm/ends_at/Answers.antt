@@ -1,8 +1,8 @@
 use Rattle.std.specs.Prelude.{◌≡◌, ◌+◌, ◌-◌}
 use Rattle.std.proofs.Common.{sym, ◌∙◌, rules}
 use native.Mathlib.Omega.{arith}
-use Rattle.codec.specs.Strings.{sorted_start, sorted_again, sorted_fallen, sorted_broken, sorted_done}
-use Rattle.codec.specs.Skip.{skip_pair}
+use Rattle.codec.proofs.Strings.{sorted_start, sorted_again, sorted_fallen, sorted_broken, sorted_done}
+use Rattle.codec.proofs.Skip.{skip_pair}
 use Rattle.codec.proofs.forms.BytesMapForm.ends_at.Goals as goal
 
 pub loop-i-init : goal.loop-i-init

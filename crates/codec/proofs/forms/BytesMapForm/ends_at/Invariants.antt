@@ -1,5 +1,5 @@
 use Rattle.std.specs.Prelude.{◌≡◌, ◌-◌, ◌≤◌, IfSome}
-use Rattle.codec.specs.Strings.{sorted}
+use Rattle.codec.proofs.Strings.{sorted}
 use Rattle.codec.specs.Maps.{bytes_map_c}
 use Rattle.codec.specs.Skip.{skip}
 use Rattle.codec.proofs.forms.BytesMapForm.ends_at.Given as goal

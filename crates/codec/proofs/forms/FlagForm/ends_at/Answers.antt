@@ -1,4 +1,4 @@
-use Rattle.codec.specs.Ways.{skip_flag}
+use Rattle.codec.proofs.Ways.{skip_flag}
 use Rattle.codec.proofs.forms.FlagForm.ends_at.Goals as goal
 
 pub returns : goal.returns

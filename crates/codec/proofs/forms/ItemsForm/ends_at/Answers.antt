@@ -1,6 +1,6 @@
 use Rattle.std.specs.Prelude.{◌≡◌, ◌+◌, ◌-◌}
 use native.Mathlib.Omega.{arith}
-use Rattle.codec.specs.Skip.{list_start, list_again, list_broken, list_done}
+use Rattle.codec.proofs.Skip.{list_start, list_again, list_broken, list_done}
 use Rattle.codec.proofs.forms.ItemsForm.ends_at.Goals as goal
 
 pub loop-i-init : goal.loop-i-init

@@ -1,7 +1,7 @@
 use Rattle.std.specs.Prelude.{◌≡◌, ◌+◌, ◌-◌}
 use native.Mathlib.Omega.{arith}
-use Rattle.codec.specs.Maps.{map_start, map_again, map_fallen, map_broken, map_done}
-use Rattle.codec.specs.Skip.{skip_pair}
+use Rattle.codec.proofs.Maps.{map_start, map_again, map_fallen, map_broken, map_done}
+use Rattle.codec.proofs.Skip.{skip_pair}
 use Rattle.codec.proofs.forms.NumMapForm.ends_at.Goals as goal
 
 pub loop-i-init : goal.loop-i-init

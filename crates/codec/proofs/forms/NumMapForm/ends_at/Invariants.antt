@@ -1,5 +1,6 @@
 use Rattle.std.specs.Prelude.{◌≡◌, ◌-◌}
-use Rattle.codec.specs.Maps.{num_map_c, risen}
+use Rattle.codec.specs.Maps.{num_map_c}
+use Rattle.codec.proofs.Maps.{risen}
 use Rattle.codec.specs.Skip.{skip}
 use Rattle.codec.proofs.forms.NumMapForm.ends_at.Given as goal
 

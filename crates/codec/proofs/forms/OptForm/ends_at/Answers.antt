@@ -1,6 +1,7 @@
 use Rattle.std.proofs.Common.{arith, refl, sym, ap, ◌∙◌}
-use Rattle.codec.specs.Skip.{skip, skip_le}
-use Rattle.codec.specs.Ways.{skip_opt, tag_case, opt_none, opt_some, opt_bad, case_some, case_none}
+use Rattle.codec.specs.Skip.{skip}
+use Rattle.codec.proofs.Skip.{skip_le}
+use Rattle.codec.proofs.Ways.{skip_opt, tag_case, opt_none, opt_some, opt_bad, case_some, case_none}
 use Rattle.codec.proofs.forms.OptForm.ends_at.Goals as goal
 use Rattle.codec.proofs.forms.OptForm.ends_at.Goals.{in_default-via-in-Some+in_default, in_default-via-in_default}
 

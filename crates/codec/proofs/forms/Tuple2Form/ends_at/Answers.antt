@@ -1,4 +1,4 @@
-use Rattle.codec.specs.Skip.{skip_pair}
+use Rattle.codec.proofs.Skip.{skip_pair}
 use Rattle.codec.proofs.forms.Tuple2Form.ends_at.Goals as goal
 
 pub returns : goal.returns

@@ -1,4 +1,4 @@
-use Rattle.codec.specs.Ways.{case_here, case_gone}
+use Rattle.codec.proofs.Ways.{case_here, case_gone}
 use Rattle.std.proofs.Common.{sym}
 use Rattle.codec.proofs.section.Section.case.Goals as goal
 

@@ -1,6 +1,6 @@
 use Prim.Native.Nat.{◌≤◌}
 use Rattle.std.proofs.Common.{arith, sym, ◌∙◌}
-use Rattle.codec.specs.Ways.{tag_case, case_in, case_out, case_some, case_none}
+use Rattle.codec.proofs.Ways.{tag_case, case_in, case_out, case_some, case_none}
 use Rattle.codec.proofs.section.Section.case_at.Goals as goal
 use Rattle.codec.proofs.section.Section.case_at.Goals.{in_default-via-in-Some+else-t-n, in_default-via-in_default}
 

@@ -1,5 +1,5 @@
 use Prim.Native.Nat.{◌+◌, ◌<◌}
-use Rattle.codec.specs.Ways.{count_short, count_is}
+use Rattle.codec.proofs.Ways.{count_short, count_is}
 use mathlib.Core.Path.{sym, ◌∙◌}
 use native.Mathlib.Omega.{arith}
 use Rattle.codec.proofs.section.Section.count_at.Goals as goal

@@ -1,7 +1,7 @@
 use Prim.Native.Nat.{◌+◌, ◌<◌}
 use Rattle.codec.specs.Codec.{le_c}
-use Rattle.codec.specs.Skip.{skip_le, skip_short}
-use Rattle.codec.specs.Ways.{count_is, list_past, les_short, les_fit}
+use Rattle.codec.proofs.Skip.{skip_le, skip_short}
+use Rattle.codec.proofs.Ways.{count_is, list_past, les_short, les_fit}
 use mathlib.Core.Path.{sym, ◌∙◌}
 use native.Mathlib.Omega.{arith}
 use Rattle.codec.proofs.section.Section.les_at.Goals as goal

@@ -1,6 +1,6 @@
 use Rattle.std.proofs.Common.{arith, refl, ◌∙◌}
-use Rattle.codec.specs.Ways.{case_some, case_none, case_before, case_behind}
-use Rattle.format.specs.Ends.{item_is, item_bad}
+use Rattle.codec.proofs.Ways.{case_some, case_none, case_before, case_behind}
+use Rattle.format.proofs.Ends.{item_is, item_bad}
 use Rattle.format.proofs.layout.ItemForm.ends_at.Goals as goal
 use Rattle.format.proofs.layout.ItemForm.ends_at.Goals.{in_default-via-in-Some+else-t-lt2, in_default-via-in_default}
 

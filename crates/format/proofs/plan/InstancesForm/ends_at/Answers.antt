@@ -1,6 +1,6 @@
 use Rattle.std.proofs.Common.{arith, refl, ◌∙◌}
-use Rattle.codec.specs.Ways.{case_some, case_none, case_before, case_behind}
-use Rattle.format.specs.Ends.{instances_low, instances_table, instances_high, instances_bad}
+use Rattle.codec.proofs.Ways.{case_some, case_none, case_before, case_behind}
+use Rattle.format.proofs.Ends.{instances_low, instances_table, instances_high, instances_bad}
 use Rattle.format.proofs.plan.InstancesForm.ends_at.Goals as goal
 use Rattle.format.proofs.plan.InstancesForm.ends_at.Goals.{in_default-via-in-Some-3+else-t-lt6, in_default-via-in_default}
 

@@ -1,5 +1,5 @@
 use Rattle.format.specs.Plan.{loop_plan_c}
-use Rattle.codec.specs.Skip.{skip_map, skip_pair}
+use Rattle.codec.proofs.Skip.{skip_map, skip_pair}
 use Rattle.format.proofs.plan.LoopPlanForm.ends_at.Goals as goal
 
 pub returns : goal.returns

@@ -1,6 +1,6 @@
 use Rattle.std.proofs.Common.{arith, refl, ◌∙◌}
-use Rattle.codec.specs.Ways.{case_some, case_none, case_before, case_behind}
-use Rattle.format.specs.Ends.{source_low, source_table_lem, source_bad}
+use Rattle.codec.proofs.Ways.{case_some, case_none, case_before, case_behind}
+use Rattle.format.proofs.Ends.{source_low, source_table_lem, source_bad}
 use Rattle.format.proofs.plan.SourceForm.ends_at.Goals as goal
 use Rattle.format.proofs.plan.SourceForm.ends_at.Goals.{in_default-via-in-Some-2+else-t-lt3, in_default-via-in_default}
 

@@ -1,6 +1,6 @@
 use Rattle.format.specs.Spec.{control_c}
-use Rattle.codec.specs.Skip.{skip_map, skip_pair}
-use Rattle.format.specs.Ends.{skip_counted}
+use Rattle.codec.proofs.Skip.{skip_map, skip_pair}
+use Rattle.format.proofs.Ends.{skip_counted}
 use Rattle.format.proofs.spec.ControlForm.ends_at.Goals as goal
 
 pub returns : goal.returns

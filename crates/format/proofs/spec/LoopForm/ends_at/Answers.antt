@@ -1,6 +1,6 @@
 use Rattle.format.specs.Spec.{loop_c}
-use Rattle.codec.specs.Skip.{skip_map, skip_pair}
-use Rattle.format.specs.Ends.{skip_usage}
+use Rattle.codec.proofs.Skip.{skip_map, skip_pair}
+use Rattle.format.proofs.Ends.{skip_usage}
 use Rattle.format.proofs.spec.LoopForm.ends_at.Goals as goal
 
 pub returns : goal.returns

@@ -1,7 +1,7 @@
 use native.Mathlib.Omega.{arith}
-use Rattle.codec.specs.Ways.{case_is, case_not}
+use Rattle.codec.proofs.Ways.{case_is, case_not}
 use mathlib.Core.Path.{refl}
-use Rattle.format.specs.Fields.{is_loop}
+use Rattle.format.proofs.Fields.{is_loop}
 use Rattle.format.specs.Spec.{Loop}
 use Rattle.tree.specs.Parts.{held}
 use Rattle.tree.proofs.Tree.{held_not, held_there, loop_says, past_says}

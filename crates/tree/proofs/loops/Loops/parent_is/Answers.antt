@@ -1,5 +1,5 @@
 use mathlib.Core.Path.{refl}
-use Rattle.format.specs.Fields.{is_loop}
+use Rattle.format.proofs.Fields.{is_loop}
 use Rattle.format.specs.Words.{if_some}
 use Rattle.format.specs.Spec.{Loop}
 use Rattle.tree.proofs.Tree.{loop_says, past_says}

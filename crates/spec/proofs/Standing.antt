@@ -2,11 +2,13 @@
 use Rattle.std.specs.Prelude.{ℕ, zero, suc, ◌+◌, ◌*◌, ◌≤◌, ◌<◌, ◌≡◌, refl, List, length, get_or}
 use Rattle.std.proofs.Common.{sym, ◌∙◌, arith, zero-mul, suc-mul}
 use Rattle.codec.specs.Codec.{le, le_c, list_c}
-use Rattle.codec.specs.Skip.{Is, skip, skip_le}
+use Rattle.codec.specs.Skip.{Is, skip}
+use Rattle.codec.proofs.Skip.{skip_le}
 use Rattle.codec.specs.Forms.{num_c, opt_c, flag_c}
-use Rattle.codec.specs.Field.{Stands, is_list, is_le, room_of, stands_at, stands_case, stands_some}
+use Rattle.codec.specs.Field.{Stands}
+use Rattle.codec.proofs.Field.{is_list, is_le, room_of, stands_at, stands_case, stands_some}
 use Rattle.format.specs.Spec.{usage_c, kind_c, counted_c, Control, control_c, Repeat, repeat_c}
-use Rattle.format.specs.Fields.{is_control, is_repeat}
+use Rattle.format.proofs.Fields.{is_control, is_repeat}
 
 module _ (b : List ℕ) (at : ℕ) where
   pub stands_item : (w k : ℕ) → Stands (list_c (le_c w)) b at → k < le 4 b at → at + 4 + k * w + w ≤ length b

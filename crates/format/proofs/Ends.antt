@@ -4,9 +4,10 @@ use Rattle.std.specs.Prelude.{◌≡◌, List}
 use Rattle.std.proofs.Math.Path.{refl, sym}
 use Rattle.std.proofs.Common.{◌∙◌, arith}
 use Rattle.codec.specs.Codec.{Cases, le_c, unit_c, enum_c, ◌⊕◌, end_c, list_c}
-use Rattle.codec.specs.Skip.{skip, skip_case, tag_at, case_end, skip_map, skip_pair, skip_le, skip_unit, skip_case_0, skip_case_suc}
+use Rattle.codec.specs.Skip.{skip, tag_at, case_end}
+use Rattle.codec.proofs.Skip.{skip_case, skip_map, skip_pair, skip_le, skip_unit, skip_case_0, skip_case_suc}
 use Rattle.codec.specs.Forms.{num_c, byte_c, long_c, wide_c, bytes_c}
-use Rattle.codec.specs.Ways.{skip_tag, skip_above, skip_plain, tag_case}
+use Rattle.codec.proofs.Ways.{skip_tag, skip_above, skip_plain, tag_case}
 use Rattle.format.specs.Spec.{usage_c, counted_c, kind_c}
 use Rattle.format.specs.Plan.{instances_c, source_c, value_c}
 use Rattle.format.specs.Layout.{item_c}

@@ -3,19 +3,25 @@ use Rattle.std.specs.Prelude.{ℕ, ◌+◌, ◌*◌, ◌≤◌, ◌<◌, ◌≡�
 use Rattle.std.proofs.Math.Path.{refl}
 use Rattle.std.proofs.Common.{◌∙◌, arith, zero-add}
 use Rattle.codec.specs.Codec.{le_c, list_c}
-use Rattle.codec.specs.Skip.{skip, steps, count_at, skip_le}
+use Rattle.codec.specs.Skip.{skip, steps, count_at}
+use Rattle.codec.proofs.Skip.{skip_le}
 use Rattle.codec.specs.Forms.{num_c, bytes_c, opt_c, flag_c}
-use Rattle.codec.specs.Field.{is_list, count_list}
-use Rattle.codec.specs.Rows.{stored, small, is_small, rows_length}
+use Rattle.codec.proofs.Field.{is_list, count_list}
+use Rattle.codec.specs.Rows.{stored, small}
+use Rattle.codec.proofs.Rows.{is_small, rows_length}
 use Rattle.format.specs.Spec.{no_loop, loop_c, no_table, table_c, usage_c, control_c, repeat_c, version_c, spec_c}
 use Rattle.format.specs.Sections.{plan_start, job_of}
-use Rattle.format.specs.Fields.{LoopIs, is_loop, TableIs, is_table, SpecIs, is_spec, spec_tables}
-use Rattle.format.specs.Decoding.{is_read}
-use Rattle.format.specs.Passed.{Passed, few}
+use Rattle.format.proofs.Fields.{LoopIs, is_loop, TableIs, is_table, SpecIs, is_spec}
+use Rattle.format.specs.Fields.{spec_tables}
+use Rattle.format.proofs.Decoding.{is_read}
+use Rattle.format.specs.Passed.{Passed}
+use Rattle.format.proofs.Passed.{few}
 use Rattle.format.specs.Ask.{loop_of, table_of}
 use Rattle.spec.specs.Index.{SpecIndexed}
-use Rattle.spec.specs.Rows.{loop_row, table_row, head_row, loop_rows, table_rows}
-use Rattle.spec.specs.Kept.{Kept, Has, kept_stored, kept_then, kept_wide, has_stored, has_below, has_above, row_has}
+use Rattle.spec.specs.Rows.{loop_row, table_row, loop_rows, table_rows}
+use Rattle.spec.proofs.Rows.{head_row}
+use Rattle.spec.specs.Kept.{Kept}
+use Rattle.spec.proofs.Kept.{Has, kept_stored, kept_then, kept_wide, has_stored, has_below, has_above, row_has}
 
 module _ (b : List ℕ) (w : Passed b) where
   pub spec_is : SpecIs b (plan_start b) 0 (job_of b).spec

@@ -2,9 +2,10 @@
 use Rattle.std.specs.Prelude.{ℕ, zero, suc, ◌+◌, ◌*◌, ◌≤◌, ◌<◌, ◌≡◌, refl, List, length, get_or, Option, None, Some}
 use Rattle.std.proofs.Common.{sym, ap, ◌∙◌, arith, add-zero, zero-mul, suc-mul}
 use Rattle.codec.specs.Codec.{le, le_c, list_c}
-use Rattle.codec.specs.Skip.{skip, Is, skip_le}
-use Rattle.codec.specs.Ways.{les_fit, count_is}
-use Rattle.codec.specs.Field.{room_of, le_item, is_list, is_le, is_some, is_none, ListIs}
+use Rattle.codec.specs.Skip.{skip, Is}
+use Rattle.codec.proofs.Skip.{skip_le}
+use Rattle.codec.proofs.Ways.{les_fit, count_is}
+use Rattle.codec.proofs.Field.{room_of, le_item, is_list, is_le, is_some, is_none, ListIs}
 use Rattle.codec.specs.Forms.{num_c, bytes_c, opt_c}
 
 pub opt_nothing : (b : List ℕ) (at : ℕ) → get_or b at 0 ≡ 0 → (e : ℕ) (v : Option ℕ) → Is (opt_c num_c) b e at v → None ≡ v

@@ -10,7 +10,8 @@ use Rattle.std.proofs.Math.ListN.{get_or}
 use Rattle.std.proofs.Math.Dec.{leb, leb-suc-suc}
 use borrow.Author.Tests.{le-leb, lt-leb, leb-true, leb-false, eq-eqb, ne_eqb, lt-ltb, le-ltb}
 use Rattle.codec.specs.Codec.{Codec, Cases, units_c, pick, le_c, le, unit_c, enum_c, ◌⊕◌, end_c, list_c}
-use Rattle.codec.specs.Skip.{skip, steps, skip_le, skip_short, steps_end, skip_list, skip_map, skip_enum, skip_no_case, skip_unit, skip_case_0, skip_case_suc, skip_case_end, skip_case, count_at, tag_at, case_of, case_end, value_le, value_short}
+use Rattle.codec.specs.Skip.{skip, steps, count_at, tag_at, case_of, case_end}
+use Rattle.codec.proofs.Skip.{skip_le, skip_short, steps_end, skip_list, skip_map, skip_enum, skip_no_case, skip_unit, skip_case_0, skip_case_suc, skip_case_end, skip_case, value_le, value_short}
 use Rattle.codec.specs.Forms.{flag_c, opt_c}
 
 -- the end of an option, where its value ends at p if it has one
