@@ -44,7 +44,7 @@ fn word_at(words: &[u64], i: usize, j: u8) -> u64
 }
 
 /// Record i of a list of numbers, ten a record; numbers past the list's end are 0.
-#[tactic(auto, unfolding(crate::specs::Findings::finding_at))]
+#[tactic(auto, unfolding(crate::specs::Records::finding_at))]
 pub fn finding_at(words: &[u64], i: usize) -> Finding
     ensures { result ≡ finding_at words.now i }
 {
