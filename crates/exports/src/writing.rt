@@ -53,8 +53,8 @@ fn number(a: Answer) -> u32
 /// its count: `counts` has what is needed, and each other list holds as many first items as fit, whole ones only. `counts` may be of any length itself.
 ///
 /// C: `uint32_t baktuven_write(const uint8_t *job, size_t job_length, uint8_t *document, size_t document_length, uint64_t *segments,
-/// size_t segments_length, struct finding *findings, size_t findings_length, uint64_t *stops, size_t stops_length, uint64_t *counts,
-/// size_t counts_length);` where `struct finding` is `{ uint64_t kind; uint64_t values[9]; }`. The lengths of `segments` and `stops` count numbers,
+/// size_t segments_length, struct baktuven_finding *findings, size_t findings_length, uint64_t *stops, size_t stops_length, uint64_t *counts,
+/// size_t counts_length);` where `struct baktuven_finding` is `{ uint64_t kind; uint64_t values[9]; }`. The lengths of `segments` and `stops` count numbers,
 /// three an item, that of `findings` counts findings.
 #[unsafe(no_mangle)]
 pub extern "C" fn baktuven_write(

@@ -240,13 +240,13 @@ mod writing {
     }
 
     #[test]
-    fn the_rust_keeps_demand_3() {
+    fn the_rust_loses_nothing() {
         assert_eq!(kept(|_| {}), (0, String::new()));
     }
 
     /// Each spoiled list is found, in the words that belong to it.
     #[test]
-    fn demand_3_broken() {
+    fn each_loss_is_found() {
         let spoils: [(&str, fn(&mut Lists)); 9] = [
             ("grammar", |lists| lists.counts[0] = lists.counts[0].saturating_sub(1)),
             ("read as", |lists| lists.document.iter_mut().take(1).for_each(|byte| *byte = b'Q')),
