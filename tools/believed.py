@@ -282,6 +282,22 @@ def theorem_functions(tree):
             if f.public and "laws" in f.modules and not f.parameters]
 
 
+OUTPUT = re.compile(r"\bghost output\s*=\s*\{")
+
+
+def printed_of(tree):
+    """What the texts that `Display` is proved to write rest on."""
+    printed = Believed(tree)
+    for sources in tree.sources.values():
+        for source in sources:
+            for m in OUTPUT.finditer(source.code):
+                text = source.code[m.end():rattle.closing(source.code, m.end() - 1)]
+                uses, unknown = tree.uses_of_term(source, text, source.line(m.end()), set())
+                # (a type parameter's own `output` is whatever the type at hand prints)
+                printed._add(source.path, uses, set(), {name for name in unknown if not name.endswith(".output")})
+    return printed
+
+
 def lines_of(tree, thing):
     """The numbers of an item's or type's lines that aren't blank."""
     if isinstance(thing, antt.Item):
@@ -357,7 +373,8 @@ def rest_of_specs(spec_files):
     if not marked:
         return "What else stands in `specs/` is vocabulary of inner contracts, laws, and statements of theorems."
     return (f"Of the rest of `specs/`, {count(marked, 'file')} hold vocabulary of inner contracts alone, and begin with the "
-            "words “Not to be believed”; what else there is are laws that definitions hold, and the theorems' statements.")
+            "words “Not to be believed”; what else there is are laws that definitions hold, what is printed, and the theorems' "
+            "statements.")
 
 
 HEAD = """
@@ -426,6 +443,19 @@ def page_definitions(tree, believed):
         yield ""
 
 
+def page_printed(tree, believed):
+    own = printed_of(tree).definitions - believed.definitions
+    if not own:
+        return
+    yield "## What is printed\n"
+    yield wrapped("No contract above rests on these. They say what each line of a listing holds (docs/RULES.md, "
+                  "\"The listing\"), and are read with it.", "") + "\n"
+    for _, parts in in_order(tree, own):
+        for file, items in parts:
+            yield wrapped(f"- {file.path}: {listed(items)}")
+    yield ""
+
+
 def page_laws(tree, believed):
     yield "## Laws that definitions hold\n"
     yield wrapped("These are proved, and need no belief: a definition takes each as a value, as a codec takes the laws of "
@@ -478,7 +508,8 @@ def believed_of(tree):
 
 def page(tree, believed):
     parts = [page_head(tree, believed), page_functions(tree), page_types(tree, believed.types), page_definitions(tree, believed),
-             page_laws(tree, believed), page_theorems(tree, believed), page_words(believed.words)]
+             page_printed(tree, believed), page_laws(tree, believed), page_theorems(tree, believed),
+             page_words(believed.words)]
     return "\n".join(line for part in parts for line in part) + "\n"
 
 
@@ -551,7 +582,7 @@ def wrong_marks(tree, believed):
     spec_files = [f for f in tree.files.values() if ".specs." in f.module and f.items]
     if not any(map(is_marked, spec_files)):
         return
-    resting = [believed, *(rests_on(tree, f) for f in theorem_functions(tree))]
+    resting = [believed, printed_of(tree), *(rests_on(tree, f) for f in theorem_functions(tree))]
     needed = {i.module for b in resting for i in b.definitions}
     for file in spec_files:
         if is_marked(file) and file.module in needed:
@@ -575,7 +606,7 @@ def main():
     tree = Tree()
     believed = believed_of(tree)
     theorems = [rests_on(tree, f) for f in theorem_functions(tree)]
-    unknown = [u for b in [believed, *theorems] for u in b.unknown]
+    unknown = [u for b in [believed, printed_of(tree), *theorems] for u in b.unknown]
     failures = [f"{where} names {name}, which means nothing here" for where, name in unknown]
     text = page(tree, believed)
     if "--check" in sys.argv[1:]:

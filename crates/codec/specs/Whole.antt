@@ -1,4 +1,4 @@
--- The two laws of a codec, for a value that stands in the middle of other bytes.
+-- A section is read and used up exactly (docs/RULES.md, "Trailer").
 use Rattle.std.specs.Prelude.{ℕ, Bool, false, eqb}
 use Rattle.codec.specs.Codec.{Got, got, bad}
 

@@ -79,7 +79,8 @@ pub record AboveRowLoop (o : Outline) : Type 0 where
 -- ---- 4: repeat loops
 
 -- docs/RULES.md, "Repeat loops": a `Rows` loop in a repeat table's list anchors it, so that its rows may hang on that loop's; each such loop
--- plans exactly one repeat segment of the table, and no other repeat segment is planned
+-- plans exactly one repeat segment of the table, and no other repeat segment is planned (the anchors that nest tries are these loops, by the
+-- definition `anchors` of nest/specs/Nest)
 pub record RepeatLoops (o : Outline) : Type 0 where
   pub planned : (l t : ℕ) → Anchors o l t → ExactlyOne (PlansRepeat o l t)
   pub no_other : (l t i : ℕ) → PlansRepeat o l t i → Anchors o l t
@@ -189,8 +190,8 @@ pub record CodesClear (j : Job) : Type 0 where
 
 -- docs/RULES.md, "Places": places start at 1, also in the spec's maps and in control rules; those of a row segment rise, those of a repeat
 -- segment don't collide in a full chunk; no element has both plain and component parts; an envelope field that gives a separator is planned
--- at no component; closer and count elements differ; and codes and the version's first value hold no separator
--- rising is strict; every planned element is a place, a `Group` value in a row segment and the lists of `Envelope` segments, which nothing
+-- at no component; closer and count elements differ; and codes and the version's first value hold no element separator, component separator
+-- or terminator. Rising is strict; every planned element is a place, a `Group` value in a row segment and the lists of `Envelope` segments, which nothing
 -- reads, included; a control rule counts also where its loop has no `end`; the version's element is no place
 pub record Places (j : Job) : Type 0 where
   pub segments : Segments (SegmentFits j) j

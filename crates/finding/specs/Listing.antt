@@ -1,4 +1,3 @@
--- Not to be believed: words of inner contracts, on which no contract of what users call rests.
 -- The listing's line of a finding: docs/RULES.md, "The listing". A finding is a kind and nine values, in the order in which the line has them.
 use Rattle.std.specs.Prelude.{ℕ, ◌-◌, ◌/◌, ◌%◌, ◌==◌, List, [], ◌∷◌, ◌++◌, if◌then◌else◌, codes, decimal, encode_utf8, slice_index}
 use Rattle.std.specs.Fmt.{signed_decimal}
@@ -45,7 +44,7 @@ abbrev pub missing_line : List ℕ → List ℕ
 missing_line vs = let v = slice_index vs in
     spaced (codes "MP" ∷ decimal (v 0) ∷ decimal (v 1) ∷ decimal (v 2) ∷ value_text (v 3) (v 4) ∷ [])
 
--- a reference that the parent's row doesn't have: table, row, ancestor, value, parent, parent row, expected
+-- two references to one ancestor that differ: table, row, ancestor, value, parent, parent row, expected
 abbrev pub mismatch_line : List ℕ → List ℕ
 mismatch_line vs = let v = slice_index vs in
     spaced (codes "MR" ∷ decimal (v 0) ∷ decimal (v 1) ∷ decimal (v 2) ∷ signed_text (v 3) ∷ decimal (v 4) ∷ decimal (v 5) ∷ signed_text (v 6) ∷ [])

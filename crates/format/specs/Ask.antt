@@ -1,4 +1,4 @@
--- What the layers above ask of a job. A number that a list lacks is answered as the Rust's `get` chains answer it: with nothing.
+-- What the layers above ask of a job. A number that a list lacks is answered as the Rust's `get` chains answer it: with nothing (docs/RULES.md, "A job").
 use Rattle.std.specs.Prelude.{ℕ, Bool, true, false, cond, List, [], ◌∷◌, eqb, get_or, Option, None, Some}
 use Rattle.format.specs.Spec.{Loop, no_loop, ElementDef, SegmentDef, ComponentDef, Table, no_table, Repeat}
 use Rattle.format.specs.Plan.{LoopPlan, no_loop_plan, SegmentPlan, no_segment_plan}

@@ -170,7 +170,7 @@ wrong_trailer = [] ∷ (listing_bytes ++ (0 ∷ [])) ∷ set listing_bytes 601 1
 abbrev pub wrong_structure : List (List ℕ)
 wrong_structure = set listing_bytes 4 2 ∷ set listing_bytes 0 3 ∷ set listing_bytes 605 217 ∷ encode (with_segment CLP 1 (element_of None ((2, component_of None []) ∷ (2, component_of None []) ∷ []) [])) ∷ []
 
--- one past each limit
+-- one past a limit: elements, components, min, step, capacity, the spec's columns, rows
 abbrev pub past_limits : List Job
 past_limits =
     with_loop (loop_of (Some 0) SVC None (Some (record { opener = 1; closer = 256; count = 1; counted = count_segments })) [])

@@ -1,4 +1,3 @@
--- Not to be believed: words of inner contracts, on which no contract of what users call rests.
 -- The listing's other lines: docs/RULES.md, "The listing". Those of findings are finding's.
 use Rattle.std.specs.Prelude.{ℕ, ◌-◌, ◌==◌, List, [], ◌∷◌, if◌then◌else◌, codes, decimal}
 use Rattle.finding.specs.Listing.{spaced}

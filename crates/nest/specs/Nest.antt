@@ -93,7 +93,7 @@ hangs j t r = cond (repeated j t) (option_map (λ k. row_of k.table k.row) (hook
 unfoldable pub needs_parent : Outline → ℕ → Bool
 needs_parent j t = repeated j t || on (table_parent j t) (λ u. true) false
 
--- "lacks its parent exactly when it hangs on none; no other row lacks one"
+-- a row that needs to hang on one hangs on none: it lacks its parent (docs/RULES.md, "Nesting")
 pub record Lacks (j : Outline) (t r : ℕ) : Type 0 where
   pub needs : needs_parent j t ≡ true
   pub none_there : hangs j t r ≡ None

@@ -1,4 +1,4 @@
--- Signed numbers: two's complement, division towards minus infinity, bounds.
+-- A number of 32 bits as a signed one: two's complement.
 use Rattle.std.specs.Prelude.{ℕ, ◌^◌, ℤ}
 use Rattle.texts.specs.Wide.{signed}
 

@@ -1,4 +1,4 @@
--- The text of a cell, or why it has none: the reasons 1 to 4 (docs/RULES.md, "Reasons"), and what an answer of the code stands for.
+-- The text of a cell, or why it has none: the reasons 1 to 4 (docs/RULES.md, "Reasons").
 use Rattle.std.specs.Prelude.{ℕ, Bool, true, false, List, [], nat_lt, Option, Some, None}
 
 -- a text with the reason 0, or no text with its reason

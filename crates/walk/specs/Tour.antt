@@ -75,7 +75,7 @@ stop_of (closer l opened children count) = []
 unfoldable pub stop_list : List Step → List Stop
 stop_list = each stop_of
 
--- the steps that write a segment: over the whole walk, "a job's due segments .. in order"
+-- the steps that write a segment: over the whole walk, those of the due segments, in order (docs/RULES.md, "Due segments")
 unfoldable pub due_list : List Step → List Step
 due_list = each (λ s. cond (ltb 0 (writes s)) (s ∷ []) [])
 
