@@ -6,7 +6,10 @@ use mathlib.Core.Bool.{true}
 use mathlib.Core.List.{[]}
 use native.Mathlib.Omega.{arith}
 use Rattle.std.proofs.lemmas.Option.{none-some}
+use Rattle.codec.specs.Limits.{any, any_of}
 use Rattle.format.specs.Plan.{from_envelope, from_column, from_group, Value}
+use Rattle.format.specs.Words.{any_from, all_of, if_some, present, times_in, member_of, repeats, times}
+use Rattle.format.specs.Refusal.{large, over_control, over_loop, over_component, over_element, over_segment, over_step, over_table, over_version, over_element_plan, over_segment_plan, over_loop_plan, over_table_data, rows_of_all, over_spec, over_data, over, loops_in, outside, outside_loop, outside_table, outside_order, not_parent, not_child, disagrees, up, ringed, misrooted, misordered, tangled_loops, tangled, upper, digit, textual, separators, identifier, unnamed, foreign, unfit_loop, unfit_component, unfit_element, unfit_segment, unfit_version, unfit_spec, unfit_envelope, scale, unfit_column, unfit_reference, unfit_table_data, unfit, refusal_in}
 use Rattle.format.specs.Ask as A
 use Rattle.nest.specs.Outline.{loop_of, plan_of, table_of, parent_of, kind_of, order_of, segment_of, table_parent, plain, repeated}
 use Rattle.nest.specs.OfJob.{outline_of}
@@ -16,6 +19,10 @@ use Rattle.walk.proofs.CheckRight.{check_right}
 use Rattle.complete.specs.Complete.{PlanStarts, MapStarts, SegmentFits, StandsAlone, SeparatorsAlone, Entries, CompletePlan}
 use Rattle.lossless.proofs.Conditions.{plan_complete}
 use Rattle.lossless.specs.Sample.{element, placed, claim, adjustments, job}
+
+pub passes : refusal_in job ≡ 0
+unfolding refusal_in over over_spec over_data any any_of if_some large over_control over_loop over_component over_element over_segment over_step over_table over_version over_element_plan over_segment_plan over_loop_plan over_table_data rows_of_all tangled tangled_loops outside_loop outside_table outside_order outside loops_in disagrees not_parent not_child ringed misrooted misordered up any_from present times_in member_of repeats times unfit unfit_spec unfit_envelope unfit_table_data unfit_reference unfit_column scale unfit_version unfit_segment unfit_element unfit_component unfit_loop foreign unnamed identifier separators textual digit upper all_of
+passes = refl
 
 tests : complete_ok (outline_of job) ≡ true
 unfolding outline_of complete_ok tree_tests plan_tests fits climbs is_root loop_of plan_of table_of parent_of kind_of order_of segment_of table_parent plain repeated

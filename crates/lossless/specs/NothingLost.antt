@@ -1,5 +1,6 @@
--- Of a job that is not refused and has a complete plan nothing is lost (docs/RULES.md, "Nothing is lost"): said of four lists, of what a job
--- comes to as of what a caller of the writer holds.
+-- Of a job that is not refused nothing is lost (docs/RULES.md, "Nothing is lost"): said of four lists, of what a job comes to as of what a caller of
+-- the writer holds. Two of the five fields of `NothingLost`, `reads_back` and `stops_once`, are said of complete plans alone; the other three hold
+-- for every job that is not refused.
 use Rattle.std.specs.Prelude.{ℕ, ◌<◌, ◌≡◌, ◌⊎◌, false, ◌&&◌, List, ◌++◌, map, length, eqb, Option, None, Some}
 use Rattle.format.specs.Job.{Job}
 use Rattle.segment.specs.declared.Separators.{Separators}
@@ -75,6 +76,7 @@ pub record NothingLost (j : Job) (document : List ℕ) (segments : List Traced) 
   -- a delimiter is found exactly where a cell or envelope text of a due segment holds a separator
   pub found : delimiter_kind kinds ≡ separator_held j
 
--- of what the walk of a job comes to, with the findings of nest before those of the walk
+-- of the document, the findings and the stops that the walk comes to, nest's findings before the walk's, and of the trace list, which is made of
+-- the due segments, so that `sources` is plain here and tells something of a caller's list
 abbrev pub WalkKept : Job → Type 0
 WalkKept j = NothingLost j (walked_out j).bytes (trace_list j) (kinds_of (nest_findings (outline_of j) ++ (walked_out j).findings)) (walked_out j).stops

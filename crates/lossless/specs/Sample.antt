@@ -1,5 +1,5 @@
--- A job whose plan is complete, with all that the places of a complete plan speak of: a trigger that gives separators, a closer, a row segment, and a
--- repeat segment of two rows a chunk (docs/RULES.md, "A complete plan").
+-- A job that is not refused and whose plan is complete, with all that the places of a complete plan speak of: a trigger that gives separators, a
+-- closer, a row segment, and a repeat segment of two rows a chunk (docs/RULES.md, "A complete plan").
 use Rattle.std.specs.Prelude.{ℕ, true, false, List, [], ◌∷◌, codes, None, Some}
 use Rattle.format.specs.Spec.{required, situational, count_children, kind_an, ElementDef, Spec}
 use Rattle.format.specs.Plan.{enveloped, rows_of, from_envelope, from_row, from_repeat, from_column, from_group, Value, ElementPlan, SegmentPlan, Plan}

@@ -1,4 +1,4 @@
--- When a job has a delimiter finding: exactly when a cell or envelope text of a due segment holds a separator (docs/RULES.md, "Finished"). The
+-- When a job has a delimiter finding: exactly when a cell or envelope text of a due segment holds a separator (docs/RULES.md, "One reading"). The
 -- repetition separator counts where there is one.
 use Rattle.std.specs.Prelude.{ℕ, Bool, eqb, List, map, get_or}
 use Rattle.format.specs.Words.{member_of}

@@ -1,11 +1,12 @@
 -- The texts of numbers read back as the numbers, without needless zeros.
-use Rattle.std.specs.Prelude.{◌≢◌, Some, slice_get}
+use Rattle.std.specs.Prelude.{◌≢◌, Some, slice_get, All}
+use Rattle.std.proofs.lemmas.List.Elements.{All-append, All-nil, All-cons, All-head, All-tail}
 use Rattle.std.proofs.lemmas.Option.{none-some, same_Some}
 use Rattle.std.proofs.Common.{◌≡◌, ℕ, zero, suc, ◌+◌, ◌-◌, ◌*◌, ◌/◌, ◌%◌, ◌^◌, ◌<◌, ◌≤◌, Bool, true, false, cond, eqb, List, [], ◌∷◌, ◌++◌, length, get_or, replicate, ℤ, pos, negsuc, nat_abs, sym, refl, ap, ◌∙◌, subst, append-nil, suc-le-suc, le_trans, add-zero, mod-eq_of_lt, mul_assoc, add-mul, div-add-mod', zero-mul, mul-one, add-one, arith, lit<, ne_eqb, eqb-true}
-use native.Mathlib.Nat.{pow-succ', mod-one}
+use native.Mathlib.Nat.{pow-succ', mod-one, mod-lt}
 use lib.Arith.{mod-mul}
 use Rattle.texts.specs.Number.{digit, figures, size, count_text, int_text, before, trimmed, pointed, fixed_text, decimal_text, negative}
-use Rattle.texts.specs.Spelling.{worth, before_point, after_point, is_minus, unsigned, places, number, SpellsBack}
+use Rattle.texts.specs.Spelling.{worth, before_point, after_point, is_minus, unsigned, places, number, IsDigit, SpellsBack}
 use Rattle.texts.proofs.Numbers.{ten_pos, below_power, below_power_back, size_pos, size_above, size_least, figures_length}
 use Rattle.texts.proofs.Signs.{fixed_whole}
 
@@ -145,6 +146,41 @@ fixed_worth n scale =
     ∙ worth_figures q scale n
     ∙ div-add-mod' n (10 ^ scale)
 
+-- digits are digits, also without trailing zeros, and each number has one
+figures_digits : (k n : ℕ) → All IsDigit (figures k n)
+unfolding figures
+figures_digits zero n = All-nil IsDigit
+figures_digits (suc k) n =
+    let l : digit n k < 10 = mod-lt (n / 10 ^ k) (lit< tt) in
+    All-cons IsDigit (48 + digit n k) (figures k n) (omega arith, omega arith) (figures_digits k n)
+
+before_digits : (d : ℕ) (ds : List ℕ) → IsDigit d → All IsDigit ds → All IsDigit (before d ds)
+before_digits d [] h hs = go (eqb d 48)
+  where
+    go : (t : Bool) → All IsDigit (cond t [] (d ∷ []))
+    go true = All-nil IsDigit
+    go false = All-cons IsDigit d [] h hs
+before_digits d (e ∷ es) h hs = All-cons IsDigit d (e ∷ es) h hs
+
+trimmed_digits : (ds : List ℕ) → All IsDigit ds → All IsDigit (trimmed ds)
+unfolding trimmed
+trimmed_digits [] h = All-nil IsDigit
+trimmed_digits (d ∷ ds) h = before_digits d (trimmed ds) (All-head IsDigit d ds h) (trimmed_digits ds (All-tail IsDigit d ds h))
+
+fixed_digits : (n scale : ℕ) → All IsDigit (count_text (n / 10 ^ scale) ++ trimmed (figures scale n))
+unfolding count_text
+fixed_digits n scale =
+    let q : ℕ = n / 10 ^ scale in
+    All-append IsDigit (figures (size q) q) (trimmed (figures scale n)) (figures_digits (size q) q) (trimmed_digits (figures scale n) (figures_digits scale n))
+
+count_some : (n : ℕ) → count_text n ≢ []
+unfolding count_text figures
+count_some n = go (size n) (size_pos n)
+  where
+    go : (k : ℕ) → 1 ≤ k → figures k n ≢ []
+    go zero h = absurd (omega arith)
+    go (suc k) h = λ e. cc
+
 spells : (z : ℤ) (n scale : ℕ) (t : List ℕ) → n ≡ nat_abs z → is_minus t ≡ negative z → unsigned t ≡ fixed_text n scale → SpellsBack z scale t
 unfolding places number
 spells z n scale t e m u =
@@ -152,6 +188,8 @@ spells z n scale t e m u =
     let a : after_point (unsigned t) ≡ trimmed (figures scale n) = ap after_point u ∙ after_fixed n scale in
     record {
       sign = m;
+      digits = rw (a, b) (fixed_digits n scale);
+      whole = rw b (count_some (n / 10 ^ scale));
       few = rw a (subst (λ (k : ℕ). length (trimmed (figures scale n)) ≤ k) (figures_length scale n) (trim_length (figures scale n)));
       value = rw (a, b) (fixed_worth n scale ∙ e);
     }

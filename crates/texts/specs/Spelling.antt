@@ -1,6 +1,6 @@
 -- How a decimal is read (X12.6, decimal data elements): a minus sign, digits, and digits behind a point; and that each text of Number reads back as
 -- its number (docs/RULES.md, "Numbers").
-use Rattle.std.specs.Prelude.{◌≡◌, ◌≢◌, ℕ, ◌+◌, ◌-◌, ◌*◌, ◌^◌, ◌<◌, ◌≤◌, ℤ, nat_abs, Bool, false, cond, List, [], ◌∷◌, ◌++◌, length, ◌==◌, Some, slice_get}
+use Rattle.std.specs.Prelude.{◌≡◌, ◌≢◌, ℕ, ◌+◌, ◌-◌, ◌*◌, ◌^◌, ◌<◌, ◌≤◌, ℤ, nat_abs, Bool, false, cond, List, [], ◌∷◌, ◌++◌, All, length, ◌==◌, Some, slice_get}
 use Rattle.texts.specs.Number.{size, count_text, int_text, decimal_text, negative}
 
 -- the number of digits that follow a number n
@@ -31,10 +31,18 @@ places t = length (after_point (unsigned t))
 unfoldable pub number : List ℕ → ℕ
 number t = worth 0 (before_point (unsigned t) ++ after_point (unsigned t))
 
+-- the digits 0 to 9
+abbrev pub IsDigit : ℕ → Type 0
+IsDigit d = (48 ≤ d) × (d ≤ 57)
+
 -- text t reads back as the number z of that scale
 pub record SpellsBack (z : ℤ) (scale : ℕ) (t : List ℕ) : Type 0 where
   -- a minus sign for numbers below zero alone
   pub sign : is_minus t ≡ negative z
+  -- behind the minus there are digits alone, with one point at most
+  pub digits : All IsDigit (before_point (unsigned t) ++ after_point (unsigned t))
+  -- at least one digit in front of the point
+  pub whole : before_point (unsigned t) ≢ []
   -- no more places than the scale has
   pub few : places t ≤ scale
   -- the digits are the number, once the places that are left out are added as zeros

@@ -1,10 +1,11 @@
 -- How many segments, instances and stops: of lists put together, of an instance, of the whole walk.
 use Prim.Native.Nat.{ℕ, suc, ◌+◌, max}
-use mathlib.Core.Path.{◌≡◌, refl, ap, ◌∙◌}
+use mathlib.Core.Path.{◌≡◌, refl, sym, ap, ◌∙◌}
 use mathlib.Core.Bool.{Bool, true, false, cond, ◌&&◌}
 use mathlib.Core.List.{List, [], ◌∷◌, ◌++◌}
 use native.Mathlib.Omega.{arith}
 use Rattle.std.specs.Prelude.{Option, None, Some}
+use Rattle.std.proofs.Common.{append-nil}
 use lib.ListN.{length}
 use lib.Dec.{ltb}
 use Rattle.nest.specs.Lists.{each, on, sum}
@@ -181,3 +182,21 @@ unfolding instance_steps segments_in
 closer_counts j l c inner below e q =
     let body : List Step = body_steps below j l c in
     omega (arith, sum_append writes body (close_steps j l (children inner j l c) body), ap (sum writes) (close_both j l (children inner j l c) body e q))
+
+-- an instance with its closer
+closed : (j : Outline) (l : ℕ) (c : Context) (inner : ℕ → Context → List Context) (below : ℕ → Context → List Step) → (loop_of j l).ends ≡ true → (loop_of j l).controlled ≡ true
+    → instance_steps inner below j l c ≡ enters l ∷ body_steps below j l c ++ (closer l (opened j l) (children inner j l c) (suc (segments_in (body_steps below j l c))) ∷ [])
+unfolding instance_steps
+closed j l c inner below e q = ap (λ (xs : List Step). enters l ∷ body_steps below j l c ++ xs) (close_both j l (children inner j l c) (body_steps below j l c) e q)
+
+pub closed_counts : (j : Outline) (l : ℕ) (c : Context) (inner : ℕ → Context → List Context) (below : ℕ → Context → List Step) → (loop_of j l).ends ≡ true → (loop_of j l).controlled ≡ true
+    → instance_steps inner below j l c ≡ enters l ∷ body_steps below j l c ++ (closer l (opened j l) (children inner j l c) (segments_in (instance_steps inner below j l c)) ∷ [])
+closed_counts j l c inner below e q =
+    let told : ℕ → List Step = λ n. enters l ∷ body_steps below j l c ++ (closer l (opened j l) (children inner j l c) n ∷ []) in
+    closed j l c inner below e q ∙ ap told (sym (closer_counts j l c inner below e q))
+
+-- an instance without a closer
+pub open_ended : (j : Outline) (l : ℕ) (c : Context) (inner : ℕ → Context → List Context) (below : ℕ → Context → List Step) → ((loop_of j l).ends && (loop_of j l).controlled) ≡ false
+    → instance_steps inner below j l c ≡ enters l ∷ body_steps below j l c
+unfolding instance_steps close_steps
+open_ended j l c inner below e = rw e (ap (λ (xs : List Step). enters l ∷ xs) (append-nil (body_steps below j l c)))

@@ -8,6 +8,7 @@ pub mod Stops
 pub mod Check
 pub mod Height
 pub mod Runs
+pub mod Closers
 pub mod EachKind
 pub mod Example
 pub mod Bounds

@@ -6,6 +6,7 @@ ghost use Rattle.walk.specs.Check.{complete_ok};
 ghost use Rattle.walk.specs.Stops.{StopsRight};
 ghost use Rattle.walk.specs.Height.{HeightEnough};
 ghost use Rattle.walk.specs.Runs.{RunsFit};
+ghost use Rattle.walk.specs.Closers.{CloserCounts};
 ghost use Rattle.walk.specs.EachKind.{EachKind};
 ghost use Rattle.walk.specs.Example.{ExampleWalked};
 
@@ -29,7 +30,12 @@ pub fn runs_fit()
     ensures { RunsFit }
 {}
 
-/// One job with each kind of loop: its findings, where its rows hang, and its walk.
+/// A closer counts the child instances and the segments of its instance, itself among them.
+pub fn closer_counts()
+    ensures { CloserCounts }
+{}
+
+/// One job with a loop of each kind but `Absent`: its findings, where its rows hang, and its walk.
 pub fn each_kind()
     ensures { EachKind }
 {}

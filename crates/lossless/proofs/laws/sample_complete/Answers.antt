@@ -1,5 +1,5 @@
-use Rattle.lossless.proofs.Sample.{complete}
+use Rattle.lossless.proofs.Sample.{passes, complete}
 use Rattle.lossless.proofs.laws.sample_complete.Goals as goal
 
 pub returns : goal.returns
-returns c = complete
+returns c = (passes, complete)
