@@ -1,5 +1,5 @@
 // The loops of a spec, each by its number.
-ghost use Rattle.std.specs.Prelude.{◌≡◌, ℕ, ◌<◌, Bool, eqb};
+ghost use Rattle.std.specs.Prelude.{◌≡◌, ℕ, ◌<◌, ◌≤◌, Bool, false, eqb};
 ghost use Rattle.codec.specs.Codec.{le_c, list_c};
 ghost use Rattle.codec.specs.Forms.{num_c, opt_c};
 ghost use Rattle.codec.specs.Skip.{count_at, skip, steps};
@@ -46,7 +46,8 @@ impl<'a, 'p> Loops<'a, 'p> {
 
     // The parent of loop c.
     pub fn parent(self, c: usize) -> Option<usize>
-        ensures { Says (list_c loop_c) self.entry.section.bytes.now self.entry.section.end self.entry.at (λ ls. held (loop_at ls c).parent) result }
+        ensures says { Says (list_c loop_c) self.entry.section.bytes.now self.entry.section.end self.entry.at (λ ls. held (loop_at ls c).parent) result }
+        ensures past { count_at self.entry.section.bytes.now self.entry.at self.entry.section.end ≤ c → result ≡ None }
     {
         let s = self.section;
         if s.count_at(self.at) <= c {
@@ -62,7 +63,8 @@ impl<'a, 'p> Loops<'a, 'p> {
 
     // Whether the parent of loop c is i.
     pub fn parent_is(self, i: usize, c: usize) -> bool
-        ensures { Says (list_c loop_c) self.entry.section.bytes.now self.entry.section.end self.entry.at (λ ls. if_some (eqb i) (loop_at ls c).parent) result }
+        ensures says { Says (list_c loop_c) self.entry.section.bytes.now self.entry.section.end self.entry.at (λ ls. if_some (eqb i) (loop_at ls c).parent) result }
+        ensures past { count_at self.entry.section.bytes.now self.entry.at self.entry.section.end ≤ c → result ≡ false }
     {
         if self.section.count_at(self.at) <= c {
             return false;
@@ -73,7 +75,8 @@ impl<'a, 'p> Loops<'a, 'p> {
 
     // Whether i is a child of loop c.
     pub fn is_child(self, i: usize, c: usize) -> bool
-        ensures { Says (list_c loop_c) self.entry.section.bytes.now self.entry.section.end self.entry.at (λ ls. member_of i (loop_at ls c).children) result }
+        ensures says { Says (list_c loop_c) self.entry.section.bytes.now self.entry.section.end self.entry.at (λ ls. member_of i (loop_at ls c).children) result }
+        ensures past { count_at self.entry.section.bytes.now self.entry.at self.entry.section.end ≤ c → result ≡ false }
     {
         if self.section.count_at(self.at) <= c {
             return false;
