@@ -82,7 +82,8 @@ impl<'a, 'p> Loops<'a, 'p> {
         ensures says { Says (list_c loop_c) self.entry.section.bytes.now self.entry.section.end self.entry.at (λ ls. member_of i (loop_at ls c).children) result }
         ensures past { count_at self.entry.section.bytes.now self.entry.at self.entry.section.end ≤ c → result ≡ false }
     {
-        if self.section.count_at(self.at) <= c {
+        let n = self.section.count_at(self.at);
+        if n <= c {
             return false;
         }
         let children = self.below(c);
