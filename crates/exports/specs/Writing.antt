@@ -1,6 +1,6 @@
 -- What `baktuven_write` gives: the answer's number, the four counts at the front of a list, and what the lent lists then hold, as `write` has them
 -- (docs/RULES.md, "Answers").
-use Rattle.std.specs.Prelude.{ℕ, ◌≡◌, List, map, length, take}
+use Rattle.std.specs.Prelude.{ℕ, ◌≡◌, ◌≤◌, List, map, length, take}
 use Rattle.std.proofs.lemmas.List.Edits.{sets}
 use Rattle.finding.specs.declared.Finding.{Finding}
 use Rattle.format.specs.Sections.{job_of}
@@ -23,3 +23,5 @@ pub record WroteOut (b d d' g g' : List ℕ) (f f' : List Finding) (p p' c c' : 
   pub nothing_lost : refusal b ≡ 0 → ResultKept (job_of b) (result_of (job_of b))
   -- and of what the lists hold where the answer is 0, as many of each as the counts say
   pub nothing_lost_in : r ≡ 0 → NothingLostIn (job_of b) (values_for b) d' g' f' p'
+  -- the same by the list of counts that the caller holds, where it has room for the four
+  pub nothing_lost_held : r ≡ 0 → 4 ≤ length c → NothingLostIn (job_of b) c' d' g' f' p'

@@ -3,7 +3,7 @@
 
 mod loops;
 
-ghost use Rattle.std.specs.Prelude.{◌≡◌, ◌≢◌, Bool, false, List, ◌<◌, ◌≤◌, ℕ, length, drop, eqb, Some};
+ghost use Rattle.std.specs.Prelude.{◌≡◌, ◌≢◌, Bool, false, List, ◌<◌, ◌≤◌, ℕ, length, drop, eqb, leb, Some};
 ghost use Rattle.codec.specs.Codec.{le_c, list_c};
 ghost use Rattle.codec.specs.Forms.{num_c, opt_c};
 ghost use Rattle.codec.specs.Skip.{count_at, skip, tag_at, Is};
@@ -24,19 +24,23 @@ pub use loops::Loops;
 // ---- numbers that are no loop's, of n loops
 
 fn outside_at(s: Section, at: usize, n: usize) -> bool
-    ensures { Says num_c s.entry.bytes.now s.entry.end at (outside n) result }
+    ensures says { Says num_c s.entry.bytes.now s.entry.end at (outside n) result }
+    ensures number { result ≡ leb n (count_at s.entry.bytes.now at s.entry.end) }
 {
     n <= s.count_at(at)
 }
 
 fn opt_outside_at(s: Section, at: usize, n: usize) -> bool
-    ensures { Says (opt_c num_c) s.entry.bytes.now s.entry.end at (if_some (outside n)) result }
+    ensures says { Says (opt_c num_c) s.entry.bytes.now s.entry.end at (if_some (outside n)) result }
+    ensures there { tag_at s.entry.bytes.now at s.entry.end ≡ 1 → result ≡ leb n (count_at s.entry.bytes.now (skip (le_c 1) s.entry.bytes.now at s.entry.end) s.entry.end) }
+    ensures none { tag_at s.entry.bytes.now at s.entry.end ≢ 1 → result ≡ false }
 {
     says::lists::opt_at::<Le<4>, _>(s, at, |p| outside_at(s, p, n))
 }
 
 fn outsides_at(s: Section, at: usize, n: usize) -> bool
-    ensures { Says (list_c num_c) s.entry.bytes.now s.entry.end at (any_of (outside n)) result }
+    ensures says { Says (list_c num_c) s.entry.bytes.now s.entry.end at (any_of (outside n)) result }
+    ensures empty { count_at s.entry.bytes.now at s.entry.end ≡ 0 → result ≡ false }
 {
     says::lists::any_at::<Le<4>, _>(s, at, |p| outside_at(s, p, n))
 }
@@ -62,19 +66,22 @@ fn loop_outside(s: Section, at: usize, children: usize, n: usize) -> bool
 }
 
 fn loops_outside(loops: Loops, n: usize) -> bool
-    ensures { Says (list_c loop_c) loops.entry.section.bytes.now loops.entry.section.end loops.entry.at (any_of (outside_loop n)) result }
+    ensures says { Says (list_c loop_c) loops.entry.section.bytes.now loops.entry.section.end loops.entry.at (any_of (outside_loop n)) result }
+    ensures empty { count_at loops.entry.section.bytes.now loops.entry.at loops.entry.section.end ≡ 0 → result ≡ false }
 {
     loops.some(|_k, p, children| loop_outside(loops.section, p, children, n))
 }
 
 fn table_outside(s: Section, at: usize, n: usize) -> bool
-    ensures { Says table_c s.entry.bytes.now s.entry.end at (outside_table n) result }
+    ensures says { Says table_c s.entry.bytes.now s.entry.end at (outside_table n) result }
+    ensures empty { count_at s.entry.bytes.now at s.entry.end ≡ 0 → result ≡ false }
 {
     outsides_at(s, at, n)
 }
 
 fn tables_outside(s: Section, at: usize, n: usize) -> bool
-    ensures { Says (list_c table_c) s.entry.bytes.now s.entry.end at (any_of (outside_table n)) result }
+    ensures says { Says (list_c table_c) s.entry.bytes.now s.entry.end at (any_of (outside_table n)) result }
+    ensures empty { count_at s.entry.bytes.now at s.entry.end ≡ 0 → result ≡ false }
 {
     says::lists::any_at::<Table, _>(s, at, |p| table_outside(s, p, n))
 }
@@ -93,26 +100,31 @@ pub fn named_at<T: Fn(usize) -> bool>(s: Section, at: usize, test: T) -> bool
 }
 
 fn item_outside(s: Section, at: usize, n: usize) -> bool
-    ensures { Says item_c s.entry.bytes.now s.entry.end at (on_loop (outside n)) result }
+    ensures says { Says item_c s.entry.bytes.now s.entry.end at (on_loop (outside n)) result }
+    ensures there { tag_at s.entry.bytes.now at s.entry.end ≡ 1 → result ≡ leb n (count_at s.entry.bytes.now (skip (le_c 1) s.entry.bytes.now at s.entry.end) s.entry.end) }
+    ensures none { tag_at s.entry.bytes.now at s.entry.end ≢ 1 → result ≡ false }
 {
     named_at(s, at, |p| outside_at(s, p, n))
 }
 
 fn order_outside(s: Section, at: usize, n: usize) -> bool
-    ensures { Says (list_c item_c) s.entry.bytes.now s.entry.end at (outside_order n) result }
+    ensures says { Says (list_c item_c) s.entry.bytes.now s.entry.end at (outside_order n) result }
+    ensures empty { count_at s.entry.bytes.now at s.entry.end ≡ 0 → result ≡ false }
 {
     says::lists::any_at::<Item, _>(s, at, |p| item_outside(s, p, n))
 }
 
 pub fn orders_outside(s: Section, at: usize, n: usize) -> bool
-    ensures { Says (list_c (list_c item_c)) s.entry.bytes.now s.entry.end at (any_of (outside_order n)) result }
+    ensures says { Says (list_c (list_c item_c)) s.entry.bytes.now s.entry.end at (any_of (outside_order n)) result }
+    ensures empty { count_at s.entry.bytes.now at s.entry.end ≡ 0 → result ≡ false }
 {
     says::lists::any_at::<Items<Item>, _>(s, at, |p| order_outside(s, p, n))
 }
 
 pub fn spec_outside(loops: Loops, roots: usize, tables: usize) -> bool
     requires { (roots ≡ spec_roots loops.section.bytes.now loops.section.end loops.at) × (tables ≡ spec_tables loops.section.bytes.now loops.section.end loops.at) }
-    ensures { Says spec_c loops.entry.section.bytes.now loops.entry.section.end loops.entry.at outside_spec result }
+    ensures says { Says spec_c loops.entry.section.bytes.now loops.entry.section.end loops.entry.at outside_spec result }
+    ensures empty { count_at loops.entry.section.bytes.now loops.entry.at loops.entry.section.end ≡ 0 → count_at loops.entry.section.bytes.now roots loops.entry.section.end ≡ 0 → count_at loops.entry.section.bytes.now tables loops.entry.section.end ≡ 0 → result ≡ false }
 {
     let s = loops.section;
     let n = s.count_at(loops.at);
@@ -199,7 +211,8 @@ fn numbers_searched(s: Section, at: usize) -> bool
 
 // Some number stands in the list twice: numbers below 32 repeat within the first 33. The search is left for other lists.
 pub fn repeats_at(s: Section, at: usize) -> bool
-    ensures { Says (list_c num_c) s.entry.bytes.now s.entry.end at repeats result }
+    ensures says { Says (list_c num_c) s.entry.bytes.now s.entry.end at repeats result }
+    ensures few { count_at s.entry.bytes.now at s.entry.end < 2 → result ≡ false }
 {
     if s.count_at(at) < 2 {
         return false;

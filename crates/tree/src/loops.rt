@@ -1,5 +1,5 @@
 // The loops of a spec, each by its number.
-ghost use Rattle.std.specs.Prelude.{◌≡◌, ℕ, ◌<◌, ◌≤◌, Bool, false, eqb};
+ghost use Rattle.std.specs.Prelude.{◌≡◌, ℕ, ◌<◌, ◌≤◌, Bool, false, length, get_or, eqb};
 ghost use Rattle.codec.specs.Codec.{le_c, list_c};
 ghost use Rattle.codec.specs.Forms.{num_c, opt_c};
 ghost use Rattle.codec.specs.Skip.{count_at, skip, steps};
@@ -25,7 +25,9 @@ pub struct Loops<'a, 'p> {
 impl<'a, 'p> Loops<'a, 'p> {
     // Where loop i stands.
     pub fn place_of(self, i: usize) -> usize
-        ensures { i < count_at self.entry.section.bytes.now self.entry.at self.entry.section.end → result ≡ steps loop_c self.entry.section.bytes.now self.entry.section.end i (skip (le_c 4) self.entry.section.bytes.now self.entry.at self.entry.section.end) }
+        ensures stands { i < count_at self.entry.section.bytes.now self.entry.at self.entry.section.end → result ≡ steps loop_c self.entry.section.bytes.now self.entry.section.end i (skip (le_c 4) self.entry.section.bytes.now self.entry.at self.entry.section.end) }
+        ensures noted { i < length self.entry.places.now → result ≡ (get_or self.entry.places.now i (0, 0)).0 }
+        ensures counted { length self.entry.places.now ≤ i → result ≡ steps loop_c self.entry.section.bytes.now self.entry.section.end i (skip (le_c 4) self.entry.section.bytes.now self.entry.at self.entry.section.end) }
     {
         if i < self.places.len() {
             return self.places[i].0;
@@ -35,7 +37,9 @@ impl<'a, 'p> Loops<'a, 'p> {
 
     // Where the children of loop i stand.
     pub fn below(self, i: usize) -> usize
-        ensures { i < count_at self.entry.section.bytes.now self.entry.at self.entry.section.end → result ≡ loop_children self.entry.section.bytes.now self.entry.section.end (steps loop_c self.entry.section.bytes.now self.entry.section.end i (skip (le_c 4) self.entry.section.bytes.now self.entry.at self.entry.section.end)) }
+        ensures stands { i < count_at self.entry.section.bytes.now self.entry.at self.entry.section.end → result ≡ loop_children self.entry.section.bytes.now self.entry.section.end (steps loop_c self.entry.section.bytes.now self.entry.section.end i (skip (le_c 4) self.entry.section.bytes.now self.entry.at self.entry.section.end)) }
+        ensures noted { i < length self.entry.places.now → result ≡ (get_or self.entry.places.now i (0, 0)).1 }
+        ensures counted { length self.entry.places.now ≤ i → result ≡ loop_children self.entry.section.bytes.now self.entry.section.end (steps loop_c self.entry.section.bytes.now self.entry.section.end i (skip (le_c 4) self.entry.section.bytes.now self.entry.at self.entry.section.end)) }
     {
         if i < self.places.len() {
             return self.places[i].1;
@@ -78,7 +82,8 @@ impl<'a, 'p> Loops<'a, 'p> {
         ensures says { Says (list_c loop_c) self.entry.section.bytes.now self.entry.section.end self.entry.at (λ ls. member_of i (loop_at ls c).children) result }
         ensures past { count_at self.entry.section.bytes.now self.entry.at self.entry.section.end ≤ c → result ≡ false }
     {
-        if self.section.count_at(self.at) <= c {
+        let n = self.section.count_at(self.at);
+        if n <= c {
             return false;
         }
         let children = self.below(c);

@@ -9,4 +9,4 @@ pub returns : goal.returns
 unfolding outside_loop
 returns c v i =
     let l = is_loop _ _ _ v i in
-    simp or_pick (both _ _ _ _ _ refl (says_at _ _ _ _ _ _ _ _ c.opt_outside_at.ensures l.parent refl) (only _ _ (says_at _ _ _ _ _ _ _ _ c.outsides_at.ensures l.children c.requires)))
+    simp or_pick (both _ _ _ _ _ refl (says_at _ _ _ _ _ _ _ _ c.opt_outside_at.ensures.says l.parent refl) (only _ _ (says_at _ _ _ _ _ _ _ _ c.outsides_at.ensures.says l.children c.requires)))

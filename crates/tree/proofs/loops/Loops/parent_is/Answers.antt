@@ -11,4 +11,4 @@ unfolding if_some
 returns-then-count_at-c-clause-says c = past_says _ _ _ _ _ (λ (v : Loop). if_some (eqb c.args.i) v.parent) _ c.count_at.ensures.0 c.if-count_at-c.true refl
 
 pub returns-clause-says : goal.returns-clause-says
-returns-clause-says c = loop_says _ _ _ _ _ (λ (v : Loop). if_some (eqb c.args.i) v.parent) _ c.count_at.ensures.0 _ c.if-count_at-c.false c.place_of-p.ensures (λ v i. c.opt_same_at.ensures _ (is_loop _ _ _ v i).parent)
+returns-clause-says c = loop_says _ _ _ _ _ (λ (v : Loop). if_some (eqb c.args.i) v.parent) _ c.count_at.ensures.0 _ c.if-count_at-c.false c.place_of-p.ensures.stands (λ v i. c.opt_same_at.ensures _ (is_loop _ _ _ v i).parent)
