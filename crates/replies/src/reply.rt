@@ -91,7 +91,7 @@ fn written(reply: &mut Vec<u8>, job: &[u8], mut lists: Lists) -> Result<(), Allo
 }
 
 // The reply to a request.
-pub fn of(alloc: Global, request: Request) -> Result<Vec<u8>, AllocError> {
+pub(crate) fn of(alloc: Global, request: Request) -> Result<Vec<u8>, AllocError> {
     let mut reply = Vec::new(alloc);
     match request {
         Request::Check(job) => reply.extend_from_slice(&check_number(&job).to_le_bytes())?,

@@ -6,7 +6,7 @@ use std::io::{self, Read};
 
 // The lists that are lent for a write.
 #[derive(Drop)]
-pub struct Lists {
+pub(crate) struct Lists {
     pub document: Vec<u8>,
     pub segments: Vec<u64>,
     pub findings: Vec<Finding>,
@@ -14,7 +14,7 @@ pub struct Lists {
 }
 
 #[derive(Drop)]
-pub enum Request {
+pub(crate) enum Request {
     Check(Vec<u8>),
     Plan(Vec<u8>),
     Nest(Vec<u8>, Vec<u32>),
@@ -90,7 +90,7 @@ fn lent<R: Read>(alloc: Global, input: &mut R) -> io::Result<Lists> {
 }
 
 // The next request, or none at the end of the input.
-pub fn next<R: Read>(alloc: Global, input: &mut R) -> io::Result<Option<Request>> {
+pub(crate) fn next<R: Read>(alloc: Global, input: &mut R) -> io::Result<Option<Request>> {
     let mut what = [0u8; 1];
     if input.read(&mut what)? == 0 {
         return Ok(None);
