@@ -58,7 +58,7 @@ window_at (suc k) room w xs from zero h q = no_records w 0
 window_at (suc k) room w xs from (suc n) h q = let z : suc n ≤ 0 = omega arith in absurd (not-suc-le-zero z)
 
 -- the window from number `from` on holds the records from there on
-window_records : (b : List ℕ) (from n : ℕ) → n ≤ 64 → from + n ≤ length (records_of b) → findings_in (window_from b from blank) 0 n ≡ take n (drop from (records_of b))
+pub window_records : (b : List ℕ) (from n : ℕ) → n ≤ 64 → from + n ≤ length (records_of b) → findings_in (window_from b from blank) 0 n ≡ take n (drop from (records_of b))
 unfolding window_from records_of
 window_records b from n h q = window_at (refusal b) 64 blank (result_of (job_of b)).findings from n h q
 
@@ -68,7 +68,7 @@ found_at : (k : ℕ) (xs : List N.Finding) (a c d : ℕ) → get_or (unless_refu
 found_at zero xs a c d = sym (length-map xs finding_of)
 found_at (suc k) xs a c d = refl
 
-found_all : (b : List ℕ) → get_or (values_for b) 2 0 ≡ length (records_of b)
+pub found_all : (b : List ℕ) → get_or (values_for b) 2 0 ≡ length (records_of b)
 unfolding values_for records_of
 found_all b = found_at (refusal b) (result_of (job_of b)).findings _ _ _
 
@@ -82,7 +82,7 @@ next_part f xs p m n =
     grind (arith, drop-take, drop-drop, t, e)
 
 -- one window more is stored
-next_window : (f xs : List Finding) (from n : ℕ) → 64 ≤ from → sets (sets f 64 (behind 64 from xs)) from (take n (drop from xs)) ≡ sets f 64 (behind 64 (from + n) xs)
+pub next_window : (f xs : List Finding) (from n : ℕ) → 64 ≤ from → sets (sets f 64 (behind 64 from xs)) from (take n (drop from xs)) ≡ sets f 64 (behind 64 (from + n) xs)
 next_window f xs from n h = let e : 64 + (from - 64) ≡ from = omega arith in rw e at (next_part f xs 64 (from - 64) n)
 
 -- ---- the whole list
@@ -101,7 +101,7 @@ sets_front f xs =
     let m : 0 + length (take (length f) xs) ≡ min (length xs) (length f) = omega (arith, l) in
     rw (← sets_fits f 0 xs (length f) (omega arith), sets-eq (take (length f) xs) f 0 (omega (arith, l)), m, drop_min)
 
-whole : (f xs : List Finding) (n end : ℕ) → n ≡ min (length xs) 64 → end ≡ min (length xs) (length f) → sets (sets f 0 (take n xs)) 64 (behind 64 end xs) ≡ in_places xs f
+pub whole : (f xs : List Finding) (n end : ℕ) → n ≡ min (length xs) 64 → end ≡ min (length xs) (length f) → sets (sets f 0 (take n xs)) 64 (behind 64 end xs) ≡ in_places xs f
 whole f xs n end e e' = rw (all_behind (sets f 0 (take n xs)) xs end (rw length-sets e'), all_stored f xs n e, sets_front f xs)
 
 -- ---- by the refusal

@@ -5,9 +5,10 @@
 pub mod forms;
 mod section;
 
-ghost use Rattle.std.specs.Prelude.{◌≡◌, ◌+◌, ◌≤◌, ◌<◌, get_or, length, set, map, true, IfSome, Option};
+ghost use Rattle.std.specs.Prelude.{ℕ, ◌≡◌, ◌+◌, ◌≤◌, ◌<◌, get_or, length, set, map, true, IfSome, Option};
 ghost use Rattle.codec.specs.Codec.{le, le_c};
-ghost use Rattle.codec.specs.Skip.{skip};
+ghost use Rattle.codec.specs.Skip.{skip, Is};
+ghost use Rattle.codec.specs.Forms.{num_c, opt_c};
 ghost use Rattle.codec.specs.Strings.{less_at, ok_at};
 ghost use Rattle.codec.specs.Rows.{stored, small};
 
@@ -61,6 +62,17 @@ pub fn num(b: &[u8], at: usize) -> usize
     let b2 = byte_at(b, at + 2);
     let b3 = byte_at(b, at + 3);
     b0 + 256 * (b1 + 256 * (b2 + 256 * b3))
+}
+
+// An optional number, wherever it stands: bytes past the last are 0.
+pub fn opt_num(b: &[u8], at: usize) -> Option<usize>
+    requires { at < 4294967296 }
+    ensures { (e : ℕ) (v : Option ℕ) → Is (opt_c num_c) b.now e at v → result ≡ v }
+{
+    if byte_at(b, at) == 0 {
+        return None;
+    }
+    Some(num(b, at + 1))
 }
 
 // The number in eight bytes that are all there.

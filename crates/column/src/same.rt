@@ -1,7 +1,7 @@
 // Whether two cells are equal.
-ghost use Rattle.std.specs.Prelude.{◌≡◌, ◌+◌, ◌*◌, ◌≤◌, ◌<◌, length, take, drop, leb, None, Some};
+ghost use Rattle.std.specs.Prelude.{ℕ, ◌≡◌, ◌+◌, ◌*◌, ◌≤◌, ◌<◌, List, length, take, drop, leb, None, Some};
 ghost use Rattle.column.specs.Cell.{Cell as CellOf, same_bytes, same_answer};
-ghost use Rattle.column.specs.Answers.{Compares};
+ghost use Rattle.column.specs.Answers.{Compares, cell_at};
 
 use crate::Cell;
 
@@ -10,6 +10,16 @@ pub fn same_wide(low: u64, high: u64, scale: u8, x: u64, y: u64, z: u8) -> bool
     ensures { result ≡ same_answer (Some (CellOf.decimal (low + 18446744073709551616 * high) scale)) (Some (CellOf.decimal (x + 18446744073709551616 * y) z)) }
 {
     low == x && high == y && scale == z
+}
+
+// Whether a cell is the number of 128 bits with these halves and this scale; a cell of another kind isn't.
+pub fn same_wide_cell(low: u64, high: u64, scale: u8, b: Cell) -> bool
+    ensures { (l : List ℕ) → result ≡ same_answer (Some (CellOf.decimal (low + 18446744073709551616 * high) scale)) (cell_at l b) }
+{
+    match b {
+        Cell::Wide(x, y, z) => same_wide(low, high, scale, x, y, z),
+        _ => false,
+    }
 }
 
 // Whether two stretches of the job, (s, n) and (t, m), hold the same bytes.

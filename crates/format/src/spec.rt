@@ -75,6 +75,7 @@ impl Form for Component {
 
     ghost codec = { component_c };
 
+    #[inline(always)]
     fn ends_at(s: Section, at: usize) -> usize {
         let max = sizes_end(s, at);
         Items::<Bytes>::ends_at(s, max)
@@ -88,6 +89,7 @@ impl Form for Element {
 
     ghost codec = { element_c };
 
+    #[inline(always)]
     fn ends_at(s: Section, at: usize) -> usize {
         let max = sizes_end(s, at);
         let components = NumMap::<Component>::ends_at(s, max);

@@ -94,6 +94,7 @@ fn loops_over(s: Section, at: usize) -> Option<usize>
 }
 
 // The number and the sizes of a component or an element: where they end, if none passes a limit.
+#[inline(always)]
 fn sized_over(s: Section, at: usize) -> Option<usize>
     ensures { (n : ℕ) (m : Option ℕ) → Is num_c s.entry.bytes.now s.entry.end at n → Is (opt_c num_c) s.entry.bytes.now s.entry.end (sizes_min s.entry.bytes.now s.entry.end at) m → result ≡ pick (over_sized n m) None (Some (sizes_behind s.entry.bytes.now s.entry.end at)) }
 {

@@ -142,6 +142,7 @@ fn item_misplaced(s: Section, at: usize, loops: Loops, k: usize) -> bool
     tree::named_at(s, at, |p| misplaced_at(s, p, loops, k))
 }
 
+#[inline(always)]
 fn items_misplaced(s: Section, at: usize, loops: Loops, k: usize) -> bool
     ensures { (ls : List Loop) → Is (list_c loop_c) loops.entry.section.bytes.now loops.entry.section.end loops.entry.at ls → Says (list_c item_c) s.entry.bytes.now s.entry.end at (misplaced_in ls k) result }
 {
@@ -222,6 +223,7 @@ fn order_repeats(s: Section, at: usize) -> bool
     order_searched(s, at)
 }
 
+#[inline(always)]
 fn misordered_at(s: Section, at: usize, loops: Loops, k: usize) -> bool
     ensures { (ls : List Loop) → Is (list_c loop_c) loops.entry.section.bytes.now loops.entry.section.end loops.entry.at ls → Says (list_c item_c) s.entry.bytes.now s.entry.end at (misordered ls k) result }
 {

@@ -96,7 +96,7 @@ pub walked_stops : (j : Job) → (walked_out j).stops ≡ stop_list (tour (outli
 unfolding stop_list
 walked_stops j = steps_stops j (tour (outline_of j)) (start j)
 
-walked_sources : (j : Job) → traced_sources (walked_out j).segments ≡ sources_of (due_segments j)
+pub walked_sources : (j : Job) → traced_sources (walked_out j).segments ≡ sources_of (due_segments j)
 unfolding due_segments
 walked_sources j = steps_sources j (tour (outline_of j)) (start j)
 

@@ -1,17 +1,18 @@
 -- Tests over the places of a list, and how many pass, as tests over the list.
 use Prim.Native.Nat.{ℕ, zero, suc, ◌+◌}
-use mathlib.Core.Path.{◌≡◌, refl, ap, ◌∙◌}
-use mathlib.Core.Bool.{Bool, true, false, ◌&&◌}
+use mathlib.Core.Path.{◌≡◌, refl, sym, ap, ◌∙◌}
+use mathlib.Core.Bool.{Bool, true, false, ◌&&◌, ◌||◌}
 use mathlib.Core.List.{List, [], ◌∷◌, map}
 use native.Mathlib.Omega.{arith}
 use lib.ListN.{length, get_or}
 use lib.Dec.{eqb, ltb}
-use Rattle.nest.specs.Lists.{once, sum, times}
+use Rattle.std.proofs.Common.{lt-ltb}
+use Rattle.nest.specs.Lists.{once, some_of, sum, times}
 use Rattle.nest.specs.Outline as O
 use Rattle.nest.specs.OfJob.{item_in}
 use Rattle.format.specs.Layout.{Item, segment_item, loop_item}
 use Rattle.walk.specs.Check.{each_of, each_below, how_many}
-use Rattle.paths.specs.Tests.{same, same_item, segment_below}
+use Rattle.paths.specs.Tests.{same, same_item, segment_below, loop_named, segment_named, gives_number}
 
 -- ---- a test of the places of a list
 
@@ -41,6 +42,15 @@ module _ {A : Type 0} (p : A → Bool) (d : A) where
   many_places f q [] = refl
   many_places f q (x ∷ xs) = omega (arith, many_shift (length xs) (λ i. p (get_or (x ∷ xs) i d)), many_places f q xs, q x)
 
+-- a number that stands in a list stands there more than no times
+some_once : (b s : Bool) (n : ℕ) → s ≡ ltb 0 n → (b || s) ≡ ltb 0 (once b + n)
+some_once true s n h = sym (lt-ltb 0 (1 + n) (omega arith))
+some_once false s n h = let z : 0 + n ≡ n = omega arith in rw z h
+
+pub some_times : (k : ℕ) (xs : List ℕ) → some_of (λ x. eqb x k) xs ≡ ltb 0 (times k xs)
+some_times k [] = refl
+some_times k (x ∷ xs) = some_once (eqb x k) (some_of (λ y. eqb y k) xs) (times k xs) (some_times k xs)
+
 pub each_every : (p : ℕ → Bool) (xs : List ℕ) → each_of xs p ≡ every p xs
 each_every p [] = refl
 each_every p (x ∷ xs) = ap (λ b. p x && b) (each_every p xs)
@@ -52,6 +62,14 @@ same_once (segment_item i) (segment_item k) = refl
 same_once (segment_item i) (loop_item l) = refl
 same_once (loop_item l) (segment_item k) = refl
 same_once (loop_item l) (loop_item k) = refl
+
+pub loop_once : (k : ℕ) (x : Item) → once (gives_number (loop_named x) k) ≡ same_item (loop_item k) x
+loop_once k (segment_item i) = refl
+loop_once k (loop_item l) = refl
+
+pub segment_once : (k : ℕ) (x : Item) → once (gives_number (segment_named x) k) ≡ same_item (segment_item k) x
+segment_once k (segment_item i) = refl
+segment_once k (loop_item l) = refl
 
 pub loop_times : (k : ℕ) (xs : List Item) → times k (O.item_loops (map item_in xs)) ≡ sum (same_item (loop_item k)) xs
 loop_times k [] = refl

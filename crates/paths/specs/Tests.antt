@@ -1,8 +1,8 @@
 -- Not to be believed: words of inner contracts, on which no contract of what users call rests.
 -- The tests of the plan check (`plan_tests` of walk), put together by condition as the code makes them: 1 "Row loops", 2 "Entries and orders",
 -- 3 "Above a row loop", 4 "Repeat loops" (docs/RULES.md, "A complete plan").
-use Rattle.std.specs.Prelude.{ℕ, Bool, true, false, not, ◌&&◌, ◌||◌, length, eqb, ltb}
-use Rattle.nest.specs.Lists.{once, on, times, is}
+use Rattle.std.specs.Prelude.{ℕ, ◌≡◌, ◌<◌, Bool, true, false, not, ◌&&◌, ◌||◌, List, length, get_or, eqb, ltb, Option, None, Some}
+use Rattle.nest.specs.Lists.{once, on, sum, times, is}
 use Rattle.nest.specs.Outline.{Outline, row_table, item_loops, item_segments, loop_of, table_of, kind_of, order_of, segment_of, table_parent, plain, repeated}
 use Rattle.format.specs.Layout.{Item, segment_item, loop_item}
 use Rattle.walk.specs.Check.{each_below, each_of, how_many, rows_of, named, repeat_table, planned, if_there, fits}
@@ -23,12 +23,37 @@ same (segment_item i) (loop_item l) = false
 same (loop_item l) (segment_item k) = false
 same (loop_item l) (loop_item k) = eqb k l
 
+-- the loop that an item names, and the planned segment
+abbrev pub loop_named : Item → Option ℕ
+loop_named (segment_item i) = None
+loop_named (loop_item l) = Some l
+
+abbrev pub segment_named : Item → Option ℕ
+segment_named (segment_item i) = Some i
+segment_named (loop_item l) = None
+
 -- an item names no segment from n on
 abbrev pub segment_below : ℕ → Item → Bool
 segment_below n (segment_item i) = ltb i n
 segment_below n (loop_item l) = true
 
+-- how often each loop below 32 stands among the items of an order, and each planned segment below 32
+abbrev pub LoopsSeen : List Item → List ℕ → Type 0
+LoopsSeen items seen = (k : ℕ) → k < 32 → get_or seen k 0 ≡ sum (same_item (loop_item k)) items
+
+abbrev pub SegmentsSeen : List Item → List ℕ → Type 0
+SegmentsSeen items seen = (k : ℕ) → k < 32 → get_or seen k 0 ≡ sum (same_item (segment_item k)) items
+
 -- ---- how many
+
+-- a search for numbers, told by what it may give, gives as p does at the numbers below n
+abbrev pub GivesAs : (ℕ → Option ℕ → Type 0) → (ℕ → Option ℕ) → ℕ → Type 0
+GivesAs post p n = (i : ℕ) (r : Option ℕ) → i < n → post i r → r ≡ p i
+
+-- number k is given
+abbrev pub gives_number : Option ℕ → ℕ → Bool
+gives_number None k = false
+gives_number (Some n) k = eqb n k
 
 -- the row loops of a table
 unfoldable pub row_loops : Outline → ℕ → ℕ

@@ -5,10 +5,11 @@ ghost use Rattle.plan.specs.Answers.{item_of};
 ghost use Rattle.nest.specs.Lists.{sum, times};
 ghost use Rattle.nest.specs.Outline.{loop_of, segment_of, item_segments, order_of as order_in};
 ghost use Rattle.walk.specs.Check.{each_below, planned};
-ghost use Rattle.paths.specs.Tests.{same, same_item, segment_below, order_right, only_planned};
+ghost use Rattle.format.specs.Layout.{loop_item};
+ghost use Rattle.paths.specs.Tests.{loop_named, segment_named, LoopsSeen, SegmentsSeen, same, same_item, segment_below, order_right, only_planned};
 ghost use Rattle.nest.specs.Job.{outline_by, job_by};
 
-use crate::below::{each, how_many};
+use crate::below::{each, each_from_last, how_many, how_often};
 use crate::counts::loops;
 use nest::Job;
 use plan::answers::Item;
@@ -38,19 +39,58 @@ fn child_times(job: Job, l: LoopId, k: u32) -> u32
     how_many(n, |i| spec::loops::child(job.at, l, i).0 == k)
 }
 
-// Whether the order of loop l names loop k as often as it is a child.
-fn order_right(job: Job, l: LoopId, k: u32) -> bool
+// The loop that an item names.
+fn item_loop(v: Item) -> Option<u32>
+    ensures { result ≡ loop_named (item_of v) }
+{
+    match v {
+        Item::Loop(k) => Some(k.0),
+        Item::Segment(_) => None,
+    }
+}
+
+// The planned segment that an item names.
+fn item_segment(v: Item) -> Option<u32>
+    ensures { result ≡ segment_named (item_of v) }
+{
+    match v {
+        Item::Segment(k) => Some(k),
+        Item::Loop(_) => None,
+    }
+}
+
+// How often each of the loops below 32 stands in the order of loop l, in one pass through it.
+fn loops_seen(job: Job, l: LoopId) -> [u32; 32]
     requires { l.0 < 32 }
+    ensures { LoopsSeen (order_of (job_by job.entry) l.0) result }
+{
+    let n = plan::layout::order_count(job.at, l);
+    how_often(n, |i| item_loop(plan::layout::item(job.at, l, i)))
+}
+
+// How often each of the planned segments below 32 stands in the order of loop l, in one pass through it.
+pub fn segments_seen(job: Job, l: LoopId) -> [u32; 32]
+    requires { l.0 < 32 }
+    ensures { SegmentsSeen (order_of (job_by job.entry) l.0) result }
+{
+    let n = plan::layout::order_count(job.at, l);
+    how_often(n, |i| item_segment(plan::layout::item(job.at, l, i)))
+}
+
+// Whether the order of loop l, which names loop k so often, does so as often as it is a child.
+fn order_right(job: Job, l: LoopId, k: u32, named: u32) -> bool
+    requires { named ≡ sum (same_item (loop_item k)) (order_of (job_by job) l.0) }
     ensures { result ≡ order_right (outline_by job.entry) l.0 k }
 {
-    item_times(job, l, Item::Loop(LoopId(k))) == child_times(job, l, k)
+    named == child_times(job, l, k)
 }
 
 pub fn order_loops(job: Job, l: LoopId) -> bool
     requires { l.0 < 32 }
     ensures { result ≡ each_below (length (outline_by job.entry).loops) (order_right (outline_by job.entry) l.0) }
 {
-    each(loops(job), |k| order_right(job, l, k))
+    let seen = loops_seen(job, l);
+    each_from_last(loops(job), |k| order_right(job, l, k, seen[k as usize]))
 }
 
 // Whether planned segment i stands once in the order of loop l.
@@ -60,6 +100,17 @@ pub fn once_ordered(job: Job, l: LoopId, i: u32) -> bool
 {
     let n = item_times(job, l, Item::Segment(i));
     n == 1
+}
+
+// The same, where it is known how often each planned segment below 32 stands in the order.
+pub fn once_seen(job: Job, l: LoopId, i: u32, seen: [u32; 32]) -> bool
+    requires { (l.0 < 32) × SegmentsSeen (order_of (job_by job) l.0) seen }
+    ensures { result ≡ eqb (times i (item_segments (order_in (outline_by job.entry) l.0))) 1 }
+{
+    if i < 32 {
+        return seen[i as usize] == 1;
+    }
+    once_ordered(job, l, i)
 }
 
 // Whether an item names no segment from n on.

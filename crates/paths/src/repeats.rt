@@ -11,6 +11,7 @@ ghost use Rattle.nest.specs.Job.{outline_by};
 use crate::below::{each, how_many};
 use crate::counts::{has_rows, is_repeat, is_rows, kind, loops, repeated};
 use nest::Job;
+use nest::seek::some;
 use plan::answers::Source;
 use spec::ids::{LoopId, TableId};
 use walk::is_plain;
@@ -82,8 +83,7 @@ fn lists(job: Job, l: LoopId, t: TableId) -> bool
     ensures { result ≡ ltb 0 (times l.0 (table_of (outline_by job.entry) t.0).loops) }
 {
     let n = spec::tables::table_loop_count(job.at, t);
-    let seen = how_many(n, |i| spec::tables::table_loop(job.at, t, i) == l);
-    0 < seen
+    some(n, |i| spec::tables::table_loop(job.at, t, i) == l)
 }
 
 #[tactic(auto, unfolding(crate::specs::Tests::anchors_in))]

@@ -2,11 +2,11 @@
 use Rattle.std.proofs.Common.{◌≡◌, ℕ, zero, suc, ◌+◌, ◌-◌, ◌*◌, ◌/◌, ◌%◌, ◌<◌, ◌≤◌, Bool, true, false, T, leb, ℤ, pos, negsuc, ◌+ℤ◌, ◌-ℤ◌, ◌*ℤ◌, sym, refl, ap, ◌∙◌, subst, ap₂, ⊎_elim, arith, leb→le, le-ltb, lt-ltb}
 use lib.IntN.{suc_ℤ, suc_ℤ-+ℤ, pred-suc, -ℤ-+ℤ_cancel, +ℤ_assoc}
 use Rattle.texts.proofs.Floor.{floor_div, floor_rem}
-use Rattle.texts.specs.Calendar.{Day, day_of, and, leap, month_length, Valid, tomorrow, yesterday, civil_of}
+use Rattle.texts.specs.Calendar.{Day, day_of, and, leap, february, month_length, Valid, tomorrow, yesterday, civil_of}
 use Rattle.texts.specs.Dated.{from_march}
 use Rattle.texts.proofs.Tested.{below, below_at, both}
 use Rattle.std.proofs.lemmas.Bool.{cases_lt}
-use Rattle.texts.proofs.Years.{year_of, common, start, year_small}
+use Rattle.texts.proofs.Years.{year_of, common, start, year_small, year_start, year_long, year_end}
 use Rattle.texts.proofs.Months.{md_of, month_of, day_in, date_of}
 use Rattle.texts.proofs.Eras.{Inside, Over, divided, era_date, era_valid, era_next, era_over}
 
@@ -145,6 +145,24 @@ start_plain y h = omega arith
 into_is : (e : ℕ) → e < 146097 → e - start (year_of e) ≡ into_year e
 unfolding into_year
 into_is e h = ap (λ (s : ℕ). e - s) (start_plain (year_of e) (year_small e h))
+
+pub started : (e : ℕ) → e < 146097 → 365 * year_of e + year_of e / 4 - year_of e / 100 ≤ e
+started e h = omega (arith, start_plain (year_of e) (year_small e h), year_start e h)
+
+february_short : (l : Bool) → february l ≤ 29
+february_short true = omega arith
+february_short false = omega arith
+
+pub into_small : (e : ℕ) → e < 146097 → into_year e ≤ 365
+into_small e h =
+    omega (arith, into_is e h, year_long (year_of e) (year_small e h), year_end e h, february_short (leap (pos (suc (year_of e)))))
+
+pub month_small : (e : ℕ) → e < 146097 → month_of (into_year e) - 9 < 256
+unfolding month_of
+month_small e h = omega (arith, into_small e h)
+
+pub year_more : (e : ℕ) → e < 146097 → year_of e + 1 < 4294967296
+year_more e h = omega (arith, year_small e h)
 
 -- the date of a day of the first era, in March to December and in January and February
 module _ (e : ℕ) (h : e < 146097) where

@@ -1,5 +1,5 @@
 -- Laws of whole numbers, whose digits are put in their places from the last on.
-use Rattle.std.proofs.Common.{◌≡◌, ℕ, suc, ◌+◌, ◌-◌, ◌*◌, ◌/◌, ◌%◌, ◌^◌, ◌<◌, ◌≤◌, List, [], ◌∷◌, ◌++◌, length, set, sym, refl, ap, ◌∙◌, ap₂, append-nil, add-zero, arith, below_more}
+use Rattle.std.proofs.Common.{◌≡◌, ℕ, suc, ◌+◌, ◌-◌, ◌*◌, ◌/◌, ◌%◌, ◌^◌, ◌<◌, ◌≤◌, List, [], ◌∷◌, ◌++◌, length, set, sym, refl, ap, ◌∙◌, ap₂, append-nil, add-zero, div-one, arith, below_more}
 use lib.Seq.{sets, set_comm}
 use Rattle.texts.specs.declared.Text.{Text}
 use Rattle.texts.specs.Held.{held, added}
@@ -20,6 +20,14 @@ pub size_none : (n : ℕ) → n ≡ 0 → 1 ≡ size n
 size_none n e = sym (size_is n 1 (omega arith) (omega arith) (λ j one m. one))
 
 -- zeros of a fraction go one by one
+pub shortens_none : (n scale : ℕ) → Shortens n scale (record { rest = n; scale = scale })
+shortens_none n scale =
+    let z : scale - scale ≡ 0 = omega arith in
+    record {
+      rest = sym (ap (λ (k : ℕ). n / 10 ^ k) z ∙ div-one n);
+      zeros = λ i h. absurd (omega arith);
+    }
+
 pub shortens_more : (n scale rest left : ℕ) → Shortens n scale (record { rest = rest; scale = left }) → 0 < left → left ≤ scale → rest % 10 ≡ 0
     → Shortens n scale (record { rest = rest / 10; scale = left - 1 })
 shortens_more n scale rest left s h l z =

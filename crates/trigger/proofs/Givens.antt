@@ -191,7 +191,7 @@ module _ (r : Rust.Option ℕ) (v : Option ℕ) (e : r ≡ v) where
 
 -- ---- the spec
 
-nothing_holds : (b : List ℕ) → Holds b (record { start = 0; len = 0 }) []
+pub nothing_holds : (b : List ℕ) → Holds b (record { start = 0; len = 0 }) []
 unfolding stretch_of
 nothing_holds b = record { bytes = refl; within = omega arith }
 

@@ -8,4 +8,4 @@ use Rattle.walk.specs.Check.{each_below}
 use Rattle.paths.proofs.each.segments_ordered.Goals as goal
 
 pub returns : goal.returns
-returns c = c.each.ensures (segment_ordered (outline_of (job_of c.args.job.at.bytes.now)) c.args.l.0) (λ k r h q. search rules) ∙ ap (λ m. each_below m (segment_ordered (outline_of (job_of c.args.job.at.bytes.now)) c.args.l.0)) (planned_in_lem _ _ _ c.planned_count.ensures)
+returns c = c.each_from_last.ensures (segment_ordered (outline_of (job_of c.args.job.at.bytes.now)) c.args.l.0) (λ k r h q. search rules) ∙ ap (λ m. each_below m (segment_ordered (outline_of (job_of c.args.job.at.bytes.now)) c.args.l.0)) (planned_in_lem _ _ _ c.planned_count.ensures)
