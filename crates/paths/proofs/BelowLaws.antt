@@ -32,29 +32,29 @@ module _ (p : ℕ → Bool) where
       go (no l) = h i (omega arith) b
 
 -- how often numbers below 32 were given so far
-pub record Seen (post : ℕ → Option ℕ → Type 0) (n i : ℕ) (xs : List ℕ) : Type 0 where
+pub record CountedSoFar (post : ℕ → Option ℕ → Type 0) (n i : ℕ) (xs : List ℕ) : Type 0 where
   pub size : length xs ≡ 32
   pub few : (k : ℕ) → k < 32 → get_or xs k 0 ≤ i
   pub counts : (p : ℕ → Option ℕ) → GivesAs post p n → (k : ℕ) → k < 32 → get_or xs k 0 ≡ how_many i (λ j. gives_number (p j) k)
 
 module _ (post : ℕ → Option ℕ → Type 0) (n : ℕ) where
-  pub seen_none : Seen post n 0 (replicate 32 0)
-  seen_none = record {
+  pub counted_none : CountedSoFar post n 0 (replicate 32 0)
+  counted_none = record {
     size = refl;
     few = λ k h. omega (arith, get_or-replicate {A = ℕ} 32 k 0 0 h);
     counts = λ p g k h. get_or-replicate {A = ℕ} 32 k 0 0 h;
   }
 
   -- what gives none of them leaves the counts
-  pub seen_other : (i : ℕ) (xs : List ℕ) (r : Option ℕ) → Seen post n i xs → i < n → post i r → ((k : ℕ) → k < 32 → gives_number r k ≡ false) → Seen post n (i + 1) xs
-  seen_other i xs r s l q f = record {
+  pub counted_other : (i : ℕ) (xs : List ℕ) (r : Option ℕ) → CountedSoFar post n i xs → i < n → post i r → ((k : ℕ) → k < 32 → gives_number r k ≡ false) → CountedSoFar post n (i + 1) xs
+  counted_other i xs r s l q f = record {
     size = s.size;
     few = λ k h. omega (arith, s.few k h);
     counts = λ p g k h. let e : i + 1 ≡ suc i = omega arith in rw e (s.counts p g k h ∙ sym (omega (arith, ap once (ap (λ o. gives_number o k) (sym (g i r l q)) ∙ f k h))));
   }
 
-  pub seen_more : (i v : ℕ) (xs : List ℕ) → Seen post n i xs → i < n → v < 32 → post i (Some v) → Seen post n (i + 1) (set xs v (get_or xs v 0 + 1))
-  seen_more i v xs s l b q = record {
+  pub counted_more : (i v : ℕ) (xs : List ℕ) → CountedSoFar post n i xs → i < n → v < 32 → post i (Some v) → CountedSoFar post n (i + 1) (set xs v (get_or xs v 0 + 1))
+  counted_more i v xs s l b q = record {
     size = length-set xs v _ ∙ s.size;
     few = λ k h. few k h (ℕ_discrete k v);
     counts = λ p g k h. let e : i + 1 ≡ suc i = omega arith in rw e (counts p g k h (ℕ_discrete k v));

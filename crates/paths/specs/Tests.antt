@@ -37,12 +37,9 @@ abbrev pub segment_below : ℕ → Item → Bool
 segment_below n (segment_item i) = ltb i n
 segment_below n (loop_item l) = true
 
--- how often each loop below 32 stands among the items of an order, and each planned segment below 32
-abbrev pub LoopsSeen : List Item → List ℕ → Type 0
-LoopsSeen items seen = (k : ℕ) → k < 32 → get_or seen k 0 ≡ sum (same_item (loop_item k)) items
-
-abbrev pub SegmentsSeen : List Item → List ℕ → Type 0
-SegmentsSeen items seen = (k : ℕ) → k < 32 → get_or seen k 0 ≡ sum (same_item (segment_item k)) items
+-- how often each of the first 32 items of a kind, loops or planned segments, stands in an order
+abbrev pub HowOften : (ℕ → Item) → List Item → List ℕ → Type 0
+HowOften kind order times = (k : ℕ) → k < 32 → get_or times k 0 ≡ sum (same_item (kind k)) order
 
 -- ---- how many
 

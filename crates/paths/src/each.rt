@@ -1,8 +1,9 @@
 // The tests of each table, of each loop and of each planned segment, condition by condition.
 ghost use Rattle.std.specs.Prelude.{◌≡◌, ◌<◌};
 ghost use Rattle.walk.specs.Check.{each_below, planned};
-ghost use Rattle.paths.specs.Tests.{each_table, each_loop, one_row_loop, names_plain, parent_plain, segment_ordered, loop_ordered, row_fits, repeat_planned, loop_anchored, SegmentsSeen};
+ghost use Rattle.paths.specs.Tests.{each_table, each_loop, one_row_loop, names_plain, parent_plain, segment_ordered, loop_ordered, row_fits, repeat_planned, loop_anchored, HowOften};
 ghost use Rattle.nest.specs.Job.{outline_by, job_by};
+ghost use Rattle.format.specs.Layout.{segment_item};
 ghost use Rattle.format.specs.Orders.{order_of};
 
 use crate::below::each_from_last;
@@ -45,7 +46,7 @@ pub fn parents_plain(job: Job) -> bool
 // Of planned segment i of loop l, where it is known how often each below 32 stands in the order.
 #[tactic(auto, unfolding(crate::specs::Tests::segment_ordered))]
 fn segment_ordered(job: Job, l: LoopId, i: u32, seen: [u32; 32]) -> bool
-    requires { (l.0 < 32) × SegmentsSeen (order_of (job_by job) l.0) seen }
+    requires { (l.0 < 32) × HowOften segment_item (order_of (job_by job) l.0) seen }
     ensures { result ≡ segment_ordered (outline_by job.entry) l.0 i }
 {
     once_seen(job, l, i, seen) && occurs(job, l, i)

@@ -5,8 +5,8 @@ ghost use Rattle.plan.specs.Answers.{item_of};
 ghost use Rattle.nest.specs.Lists.{sum, times};
 ghost use Rattle.nest.specs.Outline.{loop_of, segment_of, item_segments, order_of as order_in};
 ghost use Rattle.walk.specs.Check.{each_below, planned};
-ghost use Rattle.format.specs.Layout.{loop_item};
-ghost use Rattle.paths.specs.Tests.{loop_named, segment_named, LoopsSeen, SegmentsSeen, same, same_item, segment_below, order_right, only_planned};
+ghost use Rattle.format.specs.Layout.{segment_item, loop_item};
+ghost use Rattle.paths.specs.Tests.{loop_named, segment_named, HowOften, same, same_item, segment_below, order_right, only_planned};
 ghost use Rattle.nest.specs.Job.{outline_by, job_by};
 
 use crate::below::{each, each_from_last, how_many, how_often};
@@ -62,7 +62,7 @@ fn item_segment(v: Item) -> Option<u32>
 // How often each of the loops below 32 stands in the order of loop l, in one pass through it.
 fn loops_seen(job: Job, l: LoopId) -> [u32; 32]
     requires { l.0 < 32 }
-    ensures { LoopsSeen (order_of (job_by job.entry) l.0) result }
+    ensures { HowOften loop_item (order_of (job_by job.entry) l.0) result }
 {
     let n = plan::layout::order_count(job.at, l);
     how_often(n, |i| item_loop(plan::layout::item(job.at, l, i)))
@@ -71,7 +71,7 @@ fn loops_seen(job: Job, l: LoopId) -> [u32; 32]
 // How often each of the planned segments below 32 stands in the order of loop l, in one pass through it.
 pub fn segments_seen(job: Job, l: LoopId) -> [u32; 32]
     requires { l.0 < 32 }
-    ensures { SegmentsSeen (order_of (job_by job.entry) l.0) result }
+    ensures { HowOften segment_item (order_of (job_by job.entry) l.0) result }
 {
     let n = plan::layout::order_count(job.at, l);
     how_often(n, |i| item_segment(plan::layout::item(job.at, l, i)))
@@ -104,7 +104,7 @@ pub fn once_ordered(job: Job, l: LoopId, i: u32) -> bool
 
 // The same, where it is known how often each planned segment below 32 stands in the order.
 pub fn once_seen(job: Job, l: LoopId, i: u32, seen: [u32; 32]) -> bool
-    requires { (l.0 < 32) × SegmentsSeen (order_of (job_by job) l.0) seen }
+    requires { (l.0 < 32) × HowOften segment_item (order_of (job_by job) l.0) seen }
     ensures { result ≡ eqb (times i (item_segments (order_in (outline_by job.entry) l.0))) 1 }
 {
     if i < 32 {
